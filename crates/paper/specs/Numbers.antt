@@ -1,0 +1,135 @@
+-- Calls and their numbers: each number's test, and their order. The lowest number that applies is the answer.
+use Prim.Native.Nat.{ℕ, _%_, _/_}
+use mathlib.Core.List.{List}
+use mathlib.Core.Bool.{Bool, true, false, not}
+use lib.ListN.{length}
+use lib.Dec.{eqb, leb}
+use Rattle.types.specs.declared.Memory.{Memory}
+use Rattle.types.specs.declared.Memory.the-variants.{Array, Rows}
+use Rattle.types.specs.declared.EraseUnit.{EraseUnit}
+use Rattle.types.specs.declared.Register.{Register}
+use Rattle.types.specs.declared.Register.the-variants.{Status, Function}
+use Rattle.types.specs.declared.Operation.{Operation}
+use Rattle.types.specs.declared.Phase.{Phase}
+use Rattle.types.specs.declared.Source.{Source}
+use Rattle.types.specs.declared.Source.the-variants.{Nothing, ArrayBytes, RowBytes, StatusByte, FunctionByte, IdentityBytes, MakerDevice, DeviceByte}
+use Rattle.types.specs.declared.Effect.{Effect}
+use Rattle.types.specs.declared.Effect.the-variants.{Looks, Enables, Disables, Programs, Erases, Writes, Suspends, Resumes, Sleeps, Wakes, Arms, Resets}
+use Rattle.types.specs.declared.Columns.{Columns}
+use Rattle.types.specs.declared.Record.{Record}
+use Rattle.words.specs.Logic.{_and_, _or_, unless, _orElse_}
+use Rattle.paper.specs.Sizes.{sizeOk, arrayBytes, rowsBytes, transactionLimit, tickLimit}
+use Rattle.paper.specs.Address.{rowOk}
+use Rattle.paper.specs.Protection.{barred}
+use Rattle.paper.specs.Program.{programOf}
+use Rattle.paper.specs.Erase.{memoryOf, eraseOf}
+use Rattle.paper.specs.Records.{isBusy, isSuspended}
+use Rattle.paper.specs.Operations.{targetFree}
+use Rattle.paper.specs.Soundness.{sound}
+use Rattle.paper.specs.Table.{lengthOk}
+use Rattle.paper.specs.Suspend.{suspendable, resumable}
+
+-- 1 and 2, of a record, an array of a bytes and rows of r bytes: size not 1, 4, 8, 16, or array length not the record's size; rows not 1,024 bytes
+unfoldable pub misfit : Record → ℕ → ℕ → ℕ
+misfit p a r = unless (sizeOk (p .blocks) and eqb a (arrayBytes (p .blocks))) 1 orElse unless (eqb r rowsBytes) 2
+
+-- power-up can give only 1 and 5: size not 1, 4, 8, 16; status bits 1..0 or function bits 3..0 not zero
+unfoldable pub powerUpNumber : ℕ → ℕ → ℕ → ℕ
+powerUpNumber n status function =
+    unless (sizeOk n) 1
+    orElse unless (eqb (status % 4) 0 and eqb (function % 16) 0) 5
+
+-- a transaction's 1 to 5, for an input of n bytes and an output of o bytes: 3, transaction of 0 or more than 4,096 bytes; 4, output length differs from input length; 5, record not sound
+unfoldable pub transactionRefusal : Record → ℕ → ℕ → ℕ → ℕ → ℕ
+transactionRefusal p a r n o =
+    misfit p a r
+    orElse unless (leb 1 n and leb n transactionLimit) 3
+    orElse unless (eqb o n) 4
+    orElse unless (sound p) 5
+
+-- ticks can give only 1, 2, 5 and 6: more than 4,096 ticks asked
+unfoldable pub tickNumber : Record → ℕ → ℕ → ℕ → ℕ
+tickNumber p a r ticks =
+    misfit p a r
+    orElse unless (sound p) 5
+    orElse unless (leb ticks tickLimit) 6
+
+-- 25: nothing running that can be suspended, nothing to resume, or 99h not armed
+abbrev pub stateOk : Effect → Phase → Bool → Bool
+stateOk Looks f armed = true
+stateOk Enables f armed = true
+stateOk Disables f armed = true
+stateOk (Programs m) f armed = true
+stateOk (Erases u) f armed = true
+stateOk (Writes r) f armed = true
+stateOk Suspends f armed = suspendable f
+stateOk Resumes f armed = resumable f
+stateOk Sleeps f armed = true
+stateOk Wakes f armed = true
+stateOk Arms f armed = true
+stateOk Resets f armed = armed
+
+-- the commands that send a row address: 68h, 64h and 62h
+abbrev pub namesRows : Memory → Bool
+namesRows Array = false
+namesRows Rows = true
+
+abbrev pub readsRow : Source → Bool
+readsRow Nothing = false
+readsRow ArrayBytes = false
+readsRow RowBytes = true
+readsRow StatusByte = false
+readsRow FunctionByte = false
+readsRow IdentityBytes = false
+readsRow MakerDevice = false
+readsRow DeviceByte = false
+
+abbrev pub writesRow : Effect → Bool
+writesRow Looks = false
+writesRow Enables = false
+writesRow Disables = false
+writesRow (Programs m) = namesRows m
+writesRow (Erases u) = namesRows (memoryOf u)
+writesRow (Writes r) = false
+writesRow Suspends = false
+writesRow Resumes = false
+writesRow Sleeps = false
+writesRow Wakes = false
+writesRow Arms = false
+writesRow Resets = false
+
+-- 27: row address not valid
+abbrev pub rowAddressOk : Columns → List ℕ → Bool
+rowAddressOk k i = not (readsRow (k .source) or writesRow (k .effect)) or rowOk i
+
+-- the pin bars status writes alone
+abbrev pub pinOk : Register → ℕ → Bool → Bool
+pinOk Status status wp = not (barred status wp)
+pinOk Function status wp = true
+
+-- 28: protected, locked, or status write barred by the pin
+abbrev pub freeOk : Effect → Record → List ℕ → Bool → Bool
+freeOk Looks p i wp = true
+freeOk Enables p i wp = true
+freeOk Disables p i wp = true
+freeOk (Programs m) p i wp = targetFree (programOf m (p .blocks) i) (p .blocks) (p .status) (p .function)
+freeOk (Erases u) p i wp = targetFree (eraseOf u (p .blocks) i) (p .blocks) (p .status) (p .function)
+freeOk (Writes r) p i wp = pinOk r (p .status) wp
+freeOk Suspends p i wp = true
+freeOk Resumes p i wp = true
+freeOk Sleeps p i wp = true
+freeOk Wakes p i wp = true
+freeOk Arms p i wp = true
+freeOk Resets p i wp = true
+
+-- 21 to 28, of a command with these columns and the input i: 0 where it is executed
+unfoldable pub commandNumber : Columns → Record → List ℕ → Bool → ℕ
+commandNumber k p i wp =
+    unless (not (p .asleep) or k .asleep) 21
+    orElse unless (not (isBusy (p .phase)) or k .busy) 22
+    orElse unless (not (isSuspended (p .phase)) or k .suspended) 23
+    orElse unless (lengthOk (k .length) (length i)) 24
+    orElse unless (stateOk (k .effect) (p .phase) (p .armed)) 25
+    orElse unless (not (k .wel) or p .wel) 26
+    orElse unless (rowAddressOk k i) 27
+    orElse unless (freeOk (k .effect) p i wp) 28

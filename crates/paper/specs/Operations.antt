@@ -1,0 +1,116 @@
+-- An operation: its target, its ticks, and what its next tick reaches. Soundness, commands, ticks and history cite these.
+use Prim.Native.Nat.{ℕ, _+_, _*_, _/_}
+use mathlib.Core.List.{List}
+use mathlib.Core.Bool.{Bool, true, false, not}
+use lib.ListN.{getD}
+use lib.Dec.{eqb, leb}
+use Rattle.types.specs.declared.Memory.{Memory}
+use Rattle.types.specs.declared.Memory.the-variants.{Array, Rows}
+use Rattle.types.specs.declared.EraseUnit.{EraseUnit}
+use Rattle.types.specs.declared.EraseUnit.the-variants.{Sector, Block32, Block64, Chip, Row}
+use Rattle.types.specs.declared.Operation.{Operation}
+use Rattle.types.specs.declared.Operation.the-variants.{Program, Erase, Write}
+use Rattle.words.specs.Logic.{_and_}
+use Rattle.paper.specs.Sizes.{memoryBytes, blockBytes, pageBytes}
+use Rattle.paper.specs.Protection.{codeOf, protected, locked}
+use Rattle.paper.specs.Program.{pageBase, pagePlace, narrowed}
+use Rattle.paper.specs.Erase.{memoryOf, unitPages, unitBytes, unitBase, pageErased}
+
+-- its ticks in all: a program takes one tick per kept byte, an erase one per page, a register write one
+abbrev pub ticksInAll : Operation → ℕ → ℕ
+ticksInAll (Program m b s k d) n = k
+ticksInAll (Erase u b d) n = unitPages u n
+ticksInAll (Write r v) n = 1
+
+-- its ticks done
+abbrev pub ticksDone : Operation → ℕ
+ticksDone (Program m b s k d) = d
+ticksDone (Erase u b d) = d
+ticksDone (Write r v) = 0
+
+-- the operation with one tick more done
+abbrev pub advanced : Operation → Operation
+advanced (Program m b s k d) = Program m b s k (d + 1)
+advanced (Erase u b d) = Erase u b (d + 1)
+advanced (Write r v) = Write r v
+
+-- its target begins where a page or a unit begins
+abbrev pub aligned : Operation → Bool
+aligned (Program m b s k d) = eqb (pageBase b) b
+aligned (Erase u b d) = eqb (unitBase u b) b
+aligned (Write r v) = true
+
+-- its target is inside the part
+abbrev pub inside : Operation → ℕ → Bool
+inside (Program m b s k d) n = leb (b + pageBytes) (memoryBytes m n)
+inside (Erase u b d) n = leb (b + unitBytes u n) (memoryBytes (memoryOf u) n)
+inside (Write r v) n = true
+
+-- a place of a memory is unprotected or unlocked under the status and function registers
+abbrev pub free : Memory → ℕ → ℕ → ℕ → ℕ → Bool
+free Array b n status function = not (protected (codeOf status) n (b / blockBytes))
+free Rows b n status function = not (locked function (b / pageBytes))
+
+-- so is all of a unit, where its base is. CER needs all four BP bits 0
+abbrev pub unitFree : EraseUnit → ℕ → ℕ → ℕ → ℕ → Bool
+unitFree Sector b n status function = free Array b n status function
+unitFree Block32 b n status function = free Array b n status function
+unitFree Block64 b n status function = free Array b n status function
+unitFree Chip b n status function = eqb (codeOf status) 0
+unitFree Row b n status function = free Rows b n status function
+
+-- the operation's target is unprotected or unlocked under the registers
+abbrev pub targetFree : Operation → ℕ → ℕ → ℕ → Bool
+targetFree (Program m b s k d) n status function = free m b n status function
+targetFree (Erase u b d) n status function = unitFree u b n status function
+targetFree (Write r v) n status function = true
+
+-- a unit whose erase can be suspended
+abbrev pub unitSuspends : EraseUnit → Bool
+unitSuspends Sector = true
+unitSuspends Block32 = true
+unitSuspends Block64 = true
+unitSuspends Chip = false
+unitSuspends Row = false
+
+-- PP is a program of the array, and can be suspended
+abbrev pub memorySuspends : Memory → Bool
+memorySuspends Array = true
+memorySuspends Rows = false
+
+-- only PP, SER, BER32 or BER64 is suspended
+abbrev pub canSuspend : Operation → Bool
+canSuspend (Program m b s k d) = memorySuspends m
+canSuspend (Erase u b d) = unitSuspends u
+canSuspend (Write r v) = false
+
+-- how many bytes of page data it keeps
+abbrev pub keptBy : Operation → ℕ
+keptBy (Program m b s k d) = k
+keptBy (Erase u b d) = 0
+keptBy (Write r v) = 0
+
+-- what a tick reaches: nothing, a page of a memory that is set to FFh, or a place that is narrowed by a byte
+pub data Touch : Type 0 where
+  none : Touch
+  blank : Memory → ℕ → Touch
+  narrow : Memory → ℕ → ℕ → Touch
+
+-- what an operation's next tick reaches, with the page data g. A program tick writes one kept byte, in order of arrival; an erase tick sets the next page, lowest first
+abbrev pub nextTouch : Operation → List ℕ → Touch
+nextTouch (Program m b s k d) g = narrow m (b + pagePlace s d) (getD g d 0)
+nextTouch (Erase u b d) g = blank (memoryOf u) (b + d * pageBytes)
+nextTouch (Write r v) g = none
+
+-- what stands in one memory: xs where the touch is of that memory, else ys
+abbrev pub ifSame : Memory → Memory → List ℕ → List ℕ → List ℕ
+ifSame Array Array xs ys = xs
+ifSame Array Rows xs ys = ys
+ifSame Rows Array xs ys = ys
+ifSame Rows Rows xs ys = xs
+
+-- a memory's bytes after a touch
+abbrev pub touched : Memory → Touch → List ℕ → List ℕ
+touched m none xs = xs
+touched m (blank w b) xs = ifSame m w (pageErased xs b) xs
+touched m (narrow w a d) xs = ifSame m w (narrowed xs a d) xs

@@ -1,0 +1,40 @@
+-- The part on the bench: its sizes.
+use Prim.Native.Nat.{ℕ, _*_}
+use mathlib.Core.Bool.{Bool}
+use lib.Dec.{eqb}
+use Rattle.types.specs.declared.Memory.{Memory}
+use Rattle.types.specs.declared.Memory.the-variants.{Array, Rows}
+use Rattle.words.specs.Logic.{_or_}
+
+-- 4, 8 or 16 blocks, and one short size of 1 block
+unfoldable pub sizeOk : ℕ → Bool
+sizeOk n = eqb n 1 or eqb n 4 or eqb n 8 or eqb n 16
+
+-- a block has 65,536 bytes
+abbrev pub blockBytes : ℕ
+blockBytes = 65536
+
+-- an array of n blocks, in bytes
+abbrev pub arrayBytes : ℕ → ℕ
+arrayBytes n = n * blockBytes
+
+-- the rows are a separate 1,024 bytes, four rows of 256
+abbrev pub rowsBytes : ℕ
+rowsBytes = 1024
+
+-- the bytes of a memory of a part of n blocks
+abbrev pub memoryBytes : Memory → ℕ → ℕ
+memoryBytes Array n = arrayBytes n
+memoryBytes Rows n = rowsBytes
+
+-- a page, or a row, has 256 bytes
+abbrev pub pageBytes : ℕ
+pageBytes = 256
+
+-- a transaction has 1 to 4,096 bytes
+abbrev pub transactionLimit : ℕ
+transactionLimit = 4096
+
+-- a tick call asks at most 4,096 ticks
+abbrev pub tickLimit : ℕ
+tickLimit = 4096

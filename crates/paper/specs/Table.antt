@@ -1,0 +1,90 @@
+-- The command table.
+use Prim.Native.Nat.{ℕ}
+use mathlib.Core.List.{List, [], _∷_}
+use mathlib.Core.Bool.{Bool, true, false}
+use lib.Dec.{eqb, leb}
+use Rattle.types.specs.declared.Memory.the-variants.{Array, Rows}
+use Rattle.types.specs.declared.EraseUnit.the-variants.{Sector, Block32, Block64, Chip, Row}
+use Rattle.types.specs.declared.Register.the-variants.{Status, Function}
+use Rattle.types.specs.declared.Command.{Command}
+use Rattle.types.specs.declared.Command.the-variants.{Read, FastRead, ReadStatus, ReadFunction, ReadIdentity, ReadMakerDevice, Wake, ReadRow, WriteEnable, WriteDisable, WriteStatus, WriteFunction, PageProgram, SectorErase, BlockErase32, BlockErase64, ChipErase, Suspend, Resume, Sleep, ArmReset, Reset, RowErase, RowProgram}
+use Rattle.types.specs.declared.Decoded.{Decoded}
+use Rattle.types.specs.declared.Decoded.the-variants.{Known, Unknown}
+use Rattle.types.specs.declared.Length.{Length}
+use Rattle.types.specs.declared.Length.the-variants.{Exactly, AtLeast}
+use Rattle.types.specs.declared.Source.{Source}
+use Rattle.types.specs.declared.Source.the-variants.{Nothing, ArrayBytes, RowBytes, StatusByte, FunctionByte, IdentityBytes, MakerDevice, DeviceByte}
+use Rattle.types.specs.declared.Effect.{Effect}
+use Rattle.types.specs.declared.Effect.the-variants.{Looks, Enables, Disables, Programs, Erases, Writes, Suspends, Resumes, Sleeps, Wakes, Arms, Resets}
+use Rattle.types.specs.declared.Columns.{Columns}
+
+infixl 80 _is_
+-- a code and its command
+pub record Entry : Type 0 where
+  pub code : ℕ
+  pub command : Command
+
+abbrev pub _is_ : ℕ → Command → Entry
+n is k = record { code = n; command = k }
+
+-- the codes, in the table's order
+abbrev pub codes : List Entry
+codes =
+    0x03 is Read ∷ 0x0B is FastRead ∷ 0x05 is ReadStatus ∷ 0x48 is ReadFunction
+    ∷ 0x9F is ReadIdentity ∷ 0x90 is ReadMakerDevice ∷ 0xAB is Wake ∷ 0x68 is ReadRow
+    ∷ 0x06 is WriteEnable ∷ 0x04 is WriteDisable ∷ 0x01 is WriteStatus ∷ 0x42 is WriteFunction
+    ∷ 0x02 is PageProgram ∷ 0xD7 is SectorErase ∷ 0x20 is SectorErase ∷ 0x52 is BlockErase32
+    ∷ 0xD8 is BlockErase64 ∷ 0xC7 is ChipErase ∷ 0x60 is ChipErase ∷ 0x75 is Suspend
+    ∷ 0xB0 is Suspend ∷ 0x7A is Resume ∷ 0x30 is Resume ∷ 0xB9 is Sleep
+    ∷ 0x66 is ArmReset ∷ 0x99 is Reset ∷ 0x64 is RowErase ∷ 0x62 is RowProgram ∷ []
+
+abbrev pub pickDecoded : Bool → Decoded → Decoded → Decoded
+pickDecoded true a b = a
+pickDecoded false a b = b
+
+-- the command of the first entry that has the code
+abbrev pub lookUp : List Entry → ℕ → Decoded
+lookUp [] n = Unknown
+lookUp (e ∷ es) n = pickDecoded (eqb n (e .code)) (Known (e .command)) (lookUp es n)
+
+-- the command that a first byte is, or that it is in no row of the table
+unfoldable pub decoded : ℕ → Decoded
+decoded n = lookUp codes n
+
+abbrev pub row : Length → Bool → Bool → Bool → Bool → Source → ℕ → Effect → Columns
+row l w a b s d f e =
+    record { length = l; wel = w; asleep = a; busy = b; suspended = s; source = d; from = f; effect = e }
+
+-- the table's other columns: the length; whether WEL is needed; whether the command is taken while the part is asleep (21), busy (22) or suspended (23);
+-- what it drives and from which place; what it does with the record
+abbrev pub columns : Command → Columns
+--                                   length       WEL   asleep busy  suspended drives, from        does
+columns Read = row (AtLeast 4) false false false true ArrayBytes 4 Looks
+columns FastRead = row (AtLeast 5) false false false true ArrayBytes 5 Looks
+columns ReadStatus = row (AtLeast 1) false false true true StatusByte 1 Looks
+columns ReadFunction = row (AtLeast 1) false false true true FunctionByte 1 Looks
+columns ReadIdentity = row (AtLeast 1) false false false true IdentityBytes 1 Looks
+columns ReadMakerDevice = row (AtLeast 4) false false false true MakerDevice 4 Looks
+columns Wake = row (AtLeast 1) false true false true DeviceByte 4 Wakes
+columns ReadRow = row (AtLeast 5) false false false true RowBytes 5 Looks
+columns WriteEnable = row (Exactly 1) false false false false Nothing 0 Enables
+columns WriteDisable = row (Exactly 1) false false false false Nothing 0 Disables
+columns WriteStatus = row (Exactly 2) true false false false Nothing 0 (Writes Status)
+columns WriteFunction = row (Exactly 2) true false false false Nothing 0 (Writes Function)
+columns PageProgram = row (AtLeast 5) true false false false Nothing 0 (Programs Array)
+columns SectorErase = row (Exactly 4) true false false false Nothing 0 (Erases Sector)
+columns BlockErase32 = row (Exactly 4) true false false false Nothing 0 (Erases Block32)
+columns BlockErase64 = row (Exactly 4) true false false false Nothing 0 (Erases Block64)
+columns ChipErase = row (Exactly 1) true false false false Nothing 0 (Erases Chip)
+columns Suspend = row (Exactly 1) false false true false Nothing 0 Suspends
+columns Resume = row (Exactly 1) false false false true Nothing 0 Resumes
+columns Sleep = row (Exactly 1) false false false false Nothing 0 Sleeps
+columns ArmReset = row (Exactly 1) false false true true Nothing 0 Arms
+columns Reset = row (Exactly 1) false false true true Nothing 0 Resets
+columns RowErase = row (Exactly 4) true false false false Nothing 0 (Erases Row)
+columns RowProgram = row (AtLeast 5) true false false false Nothing 0 (Programs Rows)
+
+-- a length that the table asks for
+abbrev pub lengthOk : Length → ℕ → Bool
+lengthOk (Exactly l) n = eqb n l
+lengthOk (AtLeast l) n = leb l n

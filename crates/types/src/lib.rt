@@ -1,0 +1,175 @@
+// The values of the model, named as in the specification: the record of a part with its phase and
+// operation, the rows of the command table, and what the calls answer.
+
+// The two memories of a part: the array of blocks, and the four information rows.
+pub enum Memory {
+    Array,
+    Rows,
+}
+
+// What an erase takes: SER, BER32, BER64, CER or the row erase.
+pub enum EraseUnit {
+    Sector,
+    Block32,
+    Block64,
+    Chip,
+    Row,
+}
+
+// The registers that a command writes.
+pub enum Register {
+    Status,
+    Function,
+}
+
+// What a part is busy with or suspended from. A base is the place in its memory of the unit's or
+// the page's first byte; done counts the ticks done.
+pub enum Operation {
+    // PP or the row program: count bytes of page data, the first of which goes to the page's place start.
+    Program {
+        memory: Memory,
+        base: usize,
+        start: u8,
+        count: usize,
+        done: usize,
+    },
+    Erase {
+        unit: EraseUnit,
+        base: usize,
+        done: usize,
+    },
+    // A status or function write, with the byte that it holds. It takes one tick.
+    Write {
+        register: Register,
+        value: u8,
+    },
+}
+
+// A part is idle, busy with one operation, or suspended from one.
+pub enum Phase {
+    Idle,
+    Busy(Operation),
+    Suspended(Operation),
+}
+
+// The identity bytes M (maker), T (type), C (capacity) and D (device).
+pub struct Identity {
+    pub maker: u8,
+    pub kind: u8,
+    pub capacity: u8,
+    pub device: u8,
+}
+
+// The record of a part.
+pub struct Record {
+    pub blocks: u16,
+    pub identity: Identity,
+    pub status: u8,
+    pub function: u8,
+    pub wel: bool,
+    pub armed: bool,
+    pub asleep: bool,
+    pub phase: Phase,
+    pub page: [u8; 256],
+}
+
+// The commands, in the order of the command table.
+pub enum Command {
+    Read,
+    FastRead,
+    ReadStatus,
+    ReadFunction,
+    ReadIdentity,
+    ReadMakerDevice,
+    Wake,
+    ReadRow,
+    WriteEnable,
+    WriteDisable,
+    WriteStatus,
+    WriteFunction,
+    PageProgram,
+    SectorErase,
+    BlockErase32,
+    BlockErase64,
+    ChipErase,
+    Suspend,
+    Resume,
+    Sleep,
+    ArmReset,
+    Reset,
+    RowErase,
+    RowProgram,
+}
+
+// What decoding a first byte gives: a command, or that the byte is in no row of the table.
+pub enum Decoded {
+    Known(Command),
+    Unknown,
+}
+
+// A command's length, the code counted.
+pub enum Length {
+    Exactly(usize),
+    AtLeast(usize),
+}
+
+// What a command drives.
+pub enum Source {
+    Nothing,
+    ArrayBytes,
+    RowBytes,
+    StatusByte,
+    FunctionByte,
+    IdentityBytes,
+    MakerDevice,
+    DeviceByte,
+}
+
+// What an executed command does with the record.
+pub enum Effect {
+    Looks,
+    Enables,
+    Disables,
+    Programs(Memory),
+    Erases(EraseUnit),
+    Writes(Register),
+    Suspends,
+    Resumes,
+    Sleeps,
+    Wakes,
+    Arms,
+    Resets,
+}
+
+// A row of the command table: the length, whether WEL is needed, whether the command is taken while
+// the part is asleep, busy or suspended, what it drives and from which place, and what it does.
+pub struct Columns {
+    pub length: Length,
+    pub wel: bool,
+    pub asleep: bool,
+    pub busy: bool,
+    pub suspended: bool,
+    pub source: Source,
+    pub from: usize,
+    pub effect: Effect,
+}
+
+// What power-up answers.
+pub struct PoweredUp {
+    pub next: Record,
+    pub number: u8,
+}
+
+// What a transaction answers: the record after it, its number, and the first driven place.
+pub struct Answer {
+    pub next: Record,
+    pub number: u8,
+    pub driven: usize,
+}
+
+// What a tick call answers: the record after it, its number, and how many ticks did work.
+pub struct Ticked {
+    pub next: Record,
+    pub number: u8,
+    pub done: usize,
+}

@@ -1,0 +1,25 @@
+-- Lists of bytes, by what stands at each place.
+use Prim.Native.Nat.{ℕ, zero, suc, _+_, _-_, _%_}
+use mathlib.Core.List.{List, [], _∷_, _++_}
+use mathlib.Core.Bool.{Bool, true, cond}
+use lib.ListN.{length, getD, take}
+use lib.Dec.{eqb}
+use Rattle.words.specs.Logic.{_and_}
+
+-- f 0, f 1, .., f (n - 1)
+abbrev pub upTo : ℕ → (ℕ → ℕ) → List ℕ
+upTo zero f = []
+upTo (suc n) f = upTo n f ++ (f n ∷ [])
+
+-- byte k of a list that is read from the place at on, past its end from its start again
+abbrev pub round : List ℕ → ℕ → ℕ → ℕ
+round s at k = getD s ((at + k) % length s) 0
+
+-- o with the list s, read round and round from the place at on, from o's place from to its end. A list of no bytes leaves o as it is
+unfoldable pub driven : List ℕ → ℕ → List ℕ → ℕ → List ℕ
+driven s at o from = cond (eqb (length s) 0) o (take from o ++ upTo (length o - from) (round s at))
+
+-- all of the bytes are 0
+abbrev pub allZero : List ℕ → Bool
+allZero [] = true
+allZero (x ∷ xs) = eqb x 0 and allZero xs
