@@ -4,6 +4,7 @@ use mathlib.Core.List.{List, [], _∷_}
 use mathlib.Core.Bool.{Bool}
 use lib.ListN.{getD, take, drop}
 use lib.Dec.{eqb, ltb}
+use Rattle.types.specs.declared.Record.{Record}
 use Rattle.types.specs.declared.Memory.{Memory}
 use Rattle.types.specs.declared.Memory.the-variants.{Array, Rows}
 use Rattle.words.specs.Logic.{_and_}
@@ -18,10 +19,11 @@ readOn a (b ∷ bs) = readOn (a * 256 + b) bs
 unfoldable pub highFirst : List ℕ → ℕ
 highFirst bs = readOn 0 bs
 
--- a transaction sends three address bytes after its code
+-- A is three address bytes
 abbrev pub addressCount : ℕ
 addressCount = 3
 
+-- so many bytes after the code
 abbrev pub addressBytes : ℕ → List ℕ → List ℕ
 addressBytes count i = take count (drop 1 i)
 
@@ -29,28 +31,30 @@ addressBytes count i = take count (drop 1 i)
 abbrev pub addressSent : List ℕ → ℕ
 addressSent i = highFirst (addressBytes addressCount i)
 
--- A: the address taken modulo the array size
-unfoldable pub addressIn : ℕ → List ℕ → ℕ
-addressIn n i = addressSent i % arrayBytes n
+-- A: the address taken modulo the array size of a part
+unfoldable pub addressIn : Record → List ℕ → ℕ
+addressIn p i = addressSent i % arrayBytes (p .blocks)
 
--- row addresses, as sent, are 00h, then 00h, 10h, 20h or 30h, then a byte address
+-- row addresses, as sent, are 00h, then 00h, 10h, 20h or 30h, then a byte address: below 4000h, and the second byte's low half 0
 unfoldable pub rowOk : List ℕ → Bool
 rowOk i = ltb (addressSent i / 4096) 4 and eqb (addressSent i / 256 % 16) 0
 
--- the row that a valid row address names, its byte address, and the byte's place in the rows
-abbrev pub rowOf : List ℕ → ℕ
-rowOf i = addressSent i / 4096
+-- where the row begins that a valid row address names
+abbrev pub rowBase : List ℕ → ℕ
+rowBase i = addressSent i / 4096 * pageBytes
 
+-- its byte address
 abbrev pub rowByte : List ℕ → ℕ
 rowByte i = addressSent i % 256
 
+-- the byte's place in the rows
 unfoldable pub rowPlace : List ℕ → ℕ
-rowPlace i = rowOf i * pageBytes + rowByte i
+rowPlace i = rowBase i + rowByte i
 
 -- the place in a memory that a transaction names
-abbrev pub placeIn : Memory → ℕ → List ℕ → ℕ
-placeIn Array n i = addressIn n i
-placeIn Rows n i = rowPlace i
+abbrev pub placeIn : Memory → Record → List ℕ → ℕ
+placeIn Array p i = addressIn p i
+placeIn Rows p i = rowPlace i
 
 -- the third address byte, of which 90h asks bit 0
 abbrev pub thirdAddressByte : List ℕ → ℕ

@@ -1,7 +1,7 @@
 -- What power-up, a transaction and a tick call answer, and what they leave in each lent byte, refusals too.
 use Prim.Native.Nat.{ℕ}
 use mathlib.Core.List.{List}
-use mathlib.Core.Bool.{Bool, false}
+use mathlib.Core.Bool.{Bool}
 use lib.ListN.{length, getD}
 use Rattle.types.specs.declared.Memory.{Memory}
 use Rattle.types.specs.declared.Identity.{Identity}
@@ -13,11 +13,11 @@ use Rattle.types.specs.declared.PoweredUp.{PoweredUp}
 use Rattle.types.specs.declared.Answer.{Answer}
 use Rattle.types.specs.declared.Ticked.{Ticked}
 use Rattle.words.specs.Logic.{whenZero}
-use Rattle.paper.specs.Records.{fresh, marked}
+use Rattle.paper.specs.Records.{fresh}
 use Rattle.paper.specs.Table.{decoded, columns}
 use Rattle.paper.specs.Reads.{undriven, outputOf, firstDriven}
-use Rattle.paper.specs.Commands.{after}
-use Rattle.paper.specs.Numbers.{powerUpNumber, transactionRefusal, tickNumber, commandNumber}
+use Rattle.paper.specs.Commands.{afterExecuted, afterIgnored}
+use Rattle.paper.specs.Numbers.{powerUpNumber, transactionRefusal, tickNumber, ignoredNumber}
 use Rattle.paper.specs.Ticks.{recordAfter, memoryAfter, workingTicks}
 
 -- the identity of zeros
@@ -31,26 +31,26 @@ poweredUp n id status function =
     (record { next = fresh n id status function; number = 0 })
     (record { next = fresh 1 noIdentity 0 0; number = powerUpNumber n status function })
 
--- refusals 1 to 6 return the given record, report 0 as first driven place and 0 ticks
+-- refusals 1 to 5 return the given record and report 0 as first driven place
 abbrev pub refused : Record → ℕ → Answer
-refused p number = record { next = p; number = number; driven = 0 }
+refused p number = record { next = p; number = number; first = 0 }
 
--- answers 20 to 28 are the part ignoring a transaction of n bytes: record the same but for the armed mark, which is cleared; nothing driven
-abbrev pub ignored : Record → ℕ → ℕ → Answer
-ignored p number n = record { next = marked p false; number = number; driven = n }
+-- answers 20 to 28 are the part ignoring a transaction of n bytes; nothing is driven
+abbrev pub ignored : Decoded → Record → ℕ → ℕ → Answer
+ignored d p number n = record { next = afterIgnored d number p; number = number; first = n }
 
 -- 0: executed
 abbrev pub executed : Columns → Record → List ℕ → Answer
 executed k p i =
-    record { next = after (k .effect) p i; number = 0; driven = firstDriven (k .source) (k .from) (length i) }
+    record { next = afterExecuted (k .effect) p i; number = 0; first = firstDriven k (length i) }
 
--- the answer to a command; 20 where the first byte is in no row of the command table, even asleep or busy
+-- the answer to a first byte that was decoded
 abbrev pub answerTo : Decoded → Record → Bool → List ℕ → Answer
 answerTo (Known k) p wp i =
-    whenZero (commandNumber (columns k) p i wp)
+    whenZero (ignoredNumber (Known k) p i wp)
     (executed (columns k) p i)
-    (ignored p (commandNumber (columns k) p i wp) (length i))
-answerTo Unknown p wp i = ignored p 20 (length i)
+    (ignored (Known k) p (ignoredNumber (Known k) p i wp) (length i))
+answerTo Unknown p wp i = ignored Unknown p (ignoredNumber Unknown p i wp) (length i)
 
 -- a transaction's answer, for an array of a, rows of r and an output of o bytes. It does not depend on stored bytes
 unfoldable pub transacted : Record → ℕ → ℕ → Bool → List ℕ → ℕ → Answer
@@ -62,7 +62,7 @@ transacted p a r wp i o =
 -- the output bytes of a part that takes or ignores a command: ignored, all FFh
 abbrev pub outputTo : Decoded → Record → List ℕ → List ℕ → Bool → List ℕ → List ℕ
 outputTo (Known k) p xs rs wp i =
-    whenZero (commandNumber (columns k) p i wp) (outputOf (columns k) p xs rs i) (undriven (length i))
+    whenZero (ignoredNumber (Known k) p i wp) (outputOf (columns k) p xs rs i) (undriven (length i))
 outputTo Unknown p xs rs wp i = undriven (length i)
 
 -- the output buffer after a transaction: refusals write nothing
@@ -72,7 +72,7 @@ output p xs rs wp i o =
     (outputTo (decoded (getD i 0 0)) p xs rs wp i)
     o
 
--- a tick call's answer, for an array of a and rows of r bytes; it reports how many ticks did work
+-- a tick call's answer, for an array of a and rows of r bytes; it reports how many ticks did work. Refusals return the given record and report 0 ticks
 unfoldable pub ticked : Record → ℕ → ℕ → ℕ → Ticked
 ticked p a r ticks =
     whenZero (tickNumber p a r ticks)

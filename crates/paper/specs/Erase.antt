@@ -1,5 +1,5 @@
 -- Erase, over the unit's size.
-use Prim.Native.Nat.{ℕ, _+_, _*_, _/_}
+use Prim.Native.Nat.{ℕ, _+_, _*_}
 use mathlib.Core.List.{List, _++_}
 use mathlib.Core.Bool.{cond}
 use lib.ListN.{length, take, drop, replicate}
@@ -8,9 +8,10 @@ use Rattle.types.specs.declared.Memory.{Memory}
 use Rattle.types.specs.declared.Memory.the-variants.{Array, Rows}
 use Rattle.types.specs.declared.EraseUnit.{EraseUnit}
 use Rattle.types.specs.declared.EraseUnit.the-variants.{Sector, Block32, Block64, Chip, Row}
+use Rattle.types.specs.declared.Record.{Record}
 use Rattle.types.specs.declared.Operation.{Operation}
 use Rattle.types.specs.declared.Operation.the-variants.{Erase}
-use Rattle.paper.specs.Sizes.{pageBytes}
+use Rattle.paper.specs.Sizes.{pageBytes, downTo}
 use Rattle.paper.specs.Address.{placeIn}
 
 -- the memory that a unit is a part of
@@ -33,23 +34,19 @@ unitPages Row n = 1
 abbrev pub unitBytes : EraseUnit → ℕ → ℕ
 unitBytes u n = unitPages u n * pageBytes
 
--- the last multiple of a size that is not above a place
-abbrev pub downTo : ℕ → ℕ → ℕ
-downTo size a = a / size * size
-
 -- where the unit that holds a place begins
-abbrev pub unitBase : EraseUnit → ℕ → ℕ
-unitBase Sector a = downTo 4096 a
-unitBase Block32 a = downTo 32768 a
-unitBase Block64 a = downTo 65536 a
-unitBase Chip a = 0
-unitBase Row a = downTo 256 a
+abbrev pub unitBase : EraseUnit → ℕ → ℕ → ℕ
+unitBase u n a = downTo (unitBytes u n) a
 
 -- the erase that a transaction begins: the unit that holds A. A row erase disregards the byte address
-unfoldable pub eraseOf : EraseUnit → ℕ → List ℕ → Operation
-eraseOf u n i = Erase u (unitBase u (placeIn (memoryOf u) n i)) 0
+unfoldable pub eraseOf : EraseUnit → Record → List ℕ → Operation
+eraseOf u p i = Erase u (unitBase u (p .blocks) (placeIn (memoryOf u) p i)) 0
+
+-- an erased byte is FFh
+abbrev pub erasedByte : ℕ
+erasedByte = 255
 
 -- the page of 256 bytes from a place on set to FFh. A page that does not fit leaves the bytes as they are
 unfoldable pub pageErased : List ℕ → ℕ → List ℕ
 pageErased xs b =
-    cond (leb (b + 256) (length xs)) (take b xs ++ (replicate 256 255 ++ drop (b + 256) xs)) xs
+    cond (leb (b + pageBytes) (length xs)) (take b xs ++ (replicate pageBytes erasedByte ++ drop (b + pageBytes) xs)) xs

@@ -1,20 +1,22 @@
 -- Demand 3's history, worked out from the power-up values, the inputs and the pin levels alone: no definition here takes the array or the rows.
 use Prim.Native.Nat.{ℕ, zero, suc, _+_}
 use mathlib.Core.List.{List, [], _∷_, _++_}
-use mathlib.Core.Bool.{Bool, cond}
+use mathlib.Core.Bool.{Bool, true, not, cond}
+use lib.ListN.{length}
 use lib.Dec.{eqb, ltb, leb}
-use lib.Bits.{bitAnd}
 use Rattle.types.specs.declared.Memory.{Memory}
-use Rattle.types.specs.declared.Memory.the-variants.{Array, Rows}
+use Rattle.types.specs.declared.Identity.{Identity}
 use Rattle.types.specs.declared.Record.{Record}
 use Rattle.words.specs.Logic.{_and_, whenZero}
-use Rattle.paper.specs.Sizes.{arrayBytes, rowsBytes, pageBytes}
-use Rattle.paper.specs.Operations.{Touch, none, blank, narrow}
+use Rattle.paper.specs.Sizes.{arrayBytes, rowsBytes, pageBytes, sameMemory}
+use Rattle.paper.specs.Program.{narrowedByte}
+use Rattle.paper.specs.Erase.{erasedByte}
+use Rattle.paper.specs.Operations.{free, Touch, none, blank, narrow}
 use Rattle.paper.specs.Ticks.{recordAfter, touchOf}
-use Rattle.paper.specs.Numbers.{tickNumber}
-use Rattle.paper.specs.Calls.{transacted, ticked}
+use Rattle.paper.specs.Numbers.{transactionRefusal, tickNumber}
+use Rattle.paper.specs.Calls.{poweredUp, transacted, ticked}
 
--- a call: a transaction with the pin's level, its input and the length of its output buffer; or so many ticks
+-- a call: a transaction with the pin's level (true where WP# is high), its input and the length of its output buffer; or so many ticks
 pub data Call : Type 0 where
   transaction : Bool → List ℕ → ℕ → Call
   ticks : ℕ → Call
@@ -44,19 +46,32 @@ abbrev pub history : List Call → Record → List Touch
 history [] p = []
 history (c ∷ cs) p = callTouches c p ++ history cs (recordAfterCall c p)
 
--- the byte x at a place of a memory after a touch: set to FFh by an erase tick that reached it, narrowed by a program tick that did
-abbrev pub ifOf : Memory → Memory → Bool → ℕ → ℕ → ℕ
-ifOf Array Array reached y x = cond reached y x
-ifOf Array Rows reached y x = x
-ifOf Rows Array reached y x = x
-ifOf Rows Rows reached y x = cond reached y x
+-- the history of a part from its power-up on
+abbrev pub historyOf : ℕ → Identity → ℕ → ℕ → List Call → List Touch
+historyOf n id status function cs = history cs (poweredUp n id status function .next)
 
+-- the byte x at a place of a memory after a touch: set to FFh by an erase tick that reached it, narrowed by a program tick that did
 abbrev pub byteAfter : Memory → ℕ → Touch → ℕ → ℕ
 byteAfter m at none x = x
-byteAfter m at (blank w b) x = ifOf m w (leb b at and ltb at (b + pageBytes)) 255 x
-byteAfter m at (narrow w a d) x = ifOf m w (eqb at a) (bitAnd x d) x
+byteAfter m at (blank w b) x = cond (sameMemory m w and leb b at and ltb at (b + pageBytes)) erasedByte x
+byteAfter m at (narrow w a d) x = cond (sameMemory m w and eqb at a) (narrowedByte x d) x
 
 -- the byte after a history, from its starting value
 abbrev pub byteAfterAll : Memory → ℕ → List Touch → ℕ → ℕ
 byteAfterAll m at [] x = x
 byteAfterAll m at (t ∷ ts) x = byteAfterAll m at ts (byteAfter m at t x)
+
+-- a byte whose block is protected, or whose row is locked, under the record's registers
+abbrev pub shielded : Memory → ℕ → Record → Bool
+shielded m at p = not (free m at (p .blocks) (p .status) (p .function))
+
+-- and was so throughout: at first, and after every call
+abbrev pub shieldedThroughout : Memory → ℕ → List Call → Record → Bool
+shieldedThroughout m at [] p = shielded m at p
+shieldedThroughout m at (c ∷ cs) p = shielded m at p and shieldedThroughout m at cs (recordAfterCall c p)
+
+-- a call that is no executed or ignored transaction: ticks, or a transaction that is refused
+abbrev pub standsAside : Call → Record → Bool
+standsAside (transaction wp i o) p =
+    not (eqb (transactionRefusal p (arrayBytes (p .blocks)) rowsBytes (length i) o) 0)
+standsAside (ticks n) p = true

@@ -1,16 +1,17 @@
 -- Calls and their numbers: each number's test, and their order. The lowest number that applies is the answer.
-use Prim.Native.Nat.{ℕ, _%_, _/_}
+use Prim.Native.Nat.{ℕ}
 use mathlib.Core.List.{List}
 use mathlib.Core.Bool.{Bool, true, false, not}
 use lib.ListN.{length}
 use lib.Dec.{eqb, leb}
 use Rattle.types.specs.declared.Memory.{Memory}
 use Rattle.types.specs.declared.Memory.the-variants.{Array, Rows}
-use Rattle.types.specs.declared.EraseUnit.{EraseUnit}
 use Rattle.types.specs.declared.Register.{Register}
 use Rattle.types.specs.declared.Register.the-variants.{Status, Function}
-use Rattle.types.specs.declared.Operation.{Operation}
 use Rattle.types.specs.declared.Phase.{Phase}
+use Rattle.types.specs.declared.Phase.the-variants.{Idle}
+use Rattle.types.specs.declared.Decoded.{Decoded}
+use Rattle.types.specs.declared.Decoded.the-variants.{Known, Unknown}
 use Rattle.types.specs.declared.Source.{Source}
 use Rattle.types.specs.declared.Source.the-variants.{Nothing, ArrayBytes, RowBytes, StatusByte, FunctionByte, IdentityBytes, MakerDevice, DeviceByte}
 use Rattle.types.specs.declared.Effect.{Effect}
@@ -25,34 +26,46 @@ use Rattle.paper.specs.Program.{programOf}
 use Rattle.paper.specs.Erase.{memoryOf, eraseOf}
 use Rattle.paper.specs.Records.{isBusy, isSuspended}
 use Rattle.paper.specs.Operations.{targetFree}
-use Rattle.paper.specs.Soundness.{sound}
-use Rattle.paper.specs.Table.{lengthOk}
+use Rattle.paper.specs.Soundness.{bitsOk, sound}
+use Rattle.paper.specs.Table.{columns, lengthOk}
 use Rattle.paper.specs.Suspend.{suspendable, resumable}
 
--- 1 and 2, of a record, an array of a bytes and rows of r bytes: size not 1, 4, 8, 16, or array length not the record's size; rows not 1,024 bytes
-unfoldable pub misfit : Record → ℕ → ℕ → ℕ
-misfit p a r = unless (sizeOk (p .blocks) and eqb a (arrayBytes (p .blocks))) 1 orElse unless (eqb r rowsBytes) 2
+-- 1: size not 1, 4, 8, 16, or array length, a bytes, not the record's size
+unfoldable pub sizeNumber : Record → ℕ → ℕ
+sizeNumber p a = unless (sizeOk (p .blocks) and eqb a (arrayBytes (p .blocks))) 1
 
--- power-up can give only 1 and 5: size not 1, 4, 8, 16; status bits 1..0 or function bits 3..0 not zero
+-- 2: rows not 1,024 bytes
+unfoldable pub rowsNumber : ℕ → ℕ
+rowsNumber r = unless (eqb r rowsBytes) 2
+
+-- 3: transaction of 0 or more than 4,096 bytes
+unfoldable pub lengthNumber : ℕ → ℕ
+lengthNumber n = unless (leb 1 n and leb n transactionLimit) 3
+
+-- 4: output length differs from input length
+unfoldable pub outputNumber : ℕ → ℕ → ℕ
+outputNumber n o = unless (eqb o n) 4
+
+-- 5: record not sound
+unfoldable pub soundNumber : Record → ℕ
+soundNumber p = unless (sound p) 5
+
+-- 6: more than 4,096 ticks asked
+unfoldable pub ticksNumber : ℕ → ℕ
+ticksNumber n = unless (leb n tickLimit) 6
+
+-- power-up can give only 1 and 5; 5 there: status bits 1..0 or function bits 3..0 not zero
 unfoldable pub powerUpNumber : ℕ → ℕ → ℕ → ℕ
-powerUpNumber n status function =
-    unless (sizeOk n) 1
-    orElse unless (eqb (status % 4) 0 and eqb (function % 16) 0) 5
+powerUpNumber n status function = unless (sizeOk n) 1 orElse unless (bitsOk Idle false status function) 5
 
--- a transaction's 1 to 5, for an input of n bytes and an output of o bytes: 3, transaction of 0 or more than 4,096 bytes; 4, output length differs from input length; 5, record not sound
+-- a transaction's 1 to 5, for an array of a, rows of r, an input of n and an output of o bytes
 unfoldable pub transactionRefusal : Record → ℕ → ℕ → ℕ → ℕ → ℕ
 transactionRefusal p a r n o =
-    misfit p a r
-    orElse unless (leb 1 n and leb n transactionLimit) 3
-    orElse unless (eqb o n) 4
-    orElse unless (sound p) 5
+    sizeNumber p a orElse rowsNumber r orElse lengthNumber n orElse outputNumber n o orElse soundNumber p
 
--- ticks can give only 1, 2, 5 and 6: more than 4,096 ticks asked
+-- ticks can give only 1, 2, 5 and 6
 unfoldable pub tickNumber : Record → ℕ → ℕ → ℕ → ℕ
-tickNumber p a r ticks =
-    misfit p a r
-    orElse unless (sound p) 5
-    orElse unless (leb ticks tickLimit) 6
+tickNumber p a r n = sizeNumber p a orElse rowsNumber r orElse soundNumber p orElse ticksNumber n
 
 -- 25: nothing running that can be suspended, nothing to resume, or 99h not armed
 abbrev pub stateOk : Effect → Phase → Bool → Bool
@@ -112,8 +125,8 @@ abbrev pub freeOk : Effect → Record → List ℕ → Bool → Bool
 freeOk Looks p i wp = true
 freeOk Enables p i wp = true
 freeOk Disables p i wp = true
-freeOk (Programs m) p i wp = targetFree (programOf m (p .blocks) i) (p .blocks) (p .status) (p .function)
-freeOk (Erases u) p i wp = targetFree (eraseOf u (p .blocks) i) (p .blocks) (p .status) (p .function)
+freeOk (Programs m) p i wp = targetFree (programOf m p i) (p .blocks) (p .status) (p .function)
+freeOk (Erases u) p i wp = targetFree (eraseOf u p i) (p .blocks) (p .status) (p .function)
 freeOk (Writes r) p i wp = pinOk r (p .status) wp
 freeOk Suspends p i wp = true
 freeOk Resumes p i wp = true
@@ -122,14 +135,19 @@ freeOk Wakes p i wp = true
 freeOk Arms p i wp = true
 freeOk Resets p i wp = true
 
--- 21 to 28, of a command with these columns and the input i: 0 where it is executed
+-- 21 to 28, of a command with these columns and the input i, with WP# high where wp is true: 0 where it is executed
 unfoldable pub commandNumber : Columns → Record → List ℕ → Bool → ℕ
 commandNumber k p i wp =
-    unless (not (p .asleep) or k .asleep) 21
-    orElse unless (not (isBusy (p .phase)) or k .busy) 22
-    orElse unless (not (isSuspended (p .phase)) or k .suspended) 23
+    unless (k .asleep or not (p .asleep)) 21
+    orElse unless (k .busy or not (isBusy (p .phase))) 22
+    orElse unless (k .suspended or not (isSuspended (p .phase))) 23
     orElse unless (lengthOk (k .length) (length i)) 24
     orElse unless (stateOk (k .effect) (p .phase) (p .armed)) 25
     orElse unless (not (k .wel) or p .wel) 26
     orElse unless (rowAddressOk k i) 27
     orElse unless (freeOk (k .effect) p i wp) 28
+
+-- 20 to 28: 20 where the first byte is in no row of the command table, even asleep or busy
+abbrev pub ignoredNumber : Decoded → Record → List ℕ → Bool → ℕ
+ignoredNumber (Known k) p i wp = commandNumber (columns k) p i wp
+ignoredNumber Unknown p i wp = 20

@@ -1,7 +1,7 @@
 -- An operation: its target, its ticks, and what its next tick reaches. Soundness, commands, ticks and history cite these.
 use Prim.Native.Nat.{ℕ, _+_, _*_, _/_}
 use mathlib.Core.List.{List}
-use mathlib.Core.Bool.{Bool, true, false, not}
+use mathlib.Core.Bool.{Bool, true, false, not, cond}
 use lib.ListN.{getD}
 use lib.Dec.{eqb, leb}
 use Rattle.types.specs.declared.Memory.{Memory}
@@ -10,9 +10,8 @@ use Rattle.types.specs.declared.EraseUnit.{EraseUnit}
 use Rattle.types.specs.declared.EraseUnit.the-variants.{Sector, Block32, Block64, Chip, Row}
 use Rattle.types.specs.declared.Operation.{Operation}
 use Rattle.types.specs.declared.Operation.the-variants.{Program, Erase, Write}
-use Rattle.words.specs.Logic.{_and_}
-use Rattle.paper.specs.Sizes.{memoryBytes, blockBytes, pageBytes}
-use Rattle.paper.specs.Protection.{codeOf, protected, locked}
+use Rattle.paper.specs.Sizes.{memoryBytes, sameMemory, pageBytes}
+use Rattle.paper.specs.Protection.{codeOf, protectedAt, locked}
 use Rattle.paper.specs.Program.{pageBase, pagePlace, narrowed}
 use Rattle.paper.specs.Erase.{memoryOf, unitPages, unitBytes, unitBase, pageErased}
 
@@ -35,10 +34,10 @@ advanced (Erase u b d) = Erase u b (d + 1)
 advanced (Write r v) = Write r v
 
 -- its target begins where a page or a unit begins
-abbrev pub aligned : Operation → Bool
-aligned (Program m b s k d) = eqb (pageBase b) b
-aligned (Erase u b d) = eqb (unitBase u b) b
-aligned (Write r v) = true
+abbrev pub aligned : Operation → ℕ → Bool
+aligned (Program m b s k d) n = eqb (pageBase b) b
+aligned (Erase u b d) n = eqb (unitBase u n b) b
+aligned (Write r v) n = true
 
 -- its target is inside the part
 abbrev pub inside : Operation → ℕ → Bool
@@ -48,10 +47,10 @@ inside (Write r v) n = true
 
 -- a place of a memory is unprotected or unlocked under the status and function registers
 abbrev pub free : Memory → ℕ → ℕ → ℕ → ℕ → Bool
-free Array b n status function = not (protected (codeOf status) n (b / blockBytes))
+free Array b n status function = not (protectedAt (codeOf status) n b)
 free Rows b n status function = not (locked function (b / pageBytes))
 
--- so is all of a unit, where its base is. CER needs all four BP bits 0
+-- a unit is: any but CER lies in one block or row, so its base decides; CER needs all four BP bits 0
 abbrev pub unitFree : EraseUnit → ℕ → ℕ → ℕ → ℕ → Bool
 unitFree Sector b n status function = free Array b n status function
 unitFree Block32 b n status function = free Array b n status function
@@ -102,15 +101,8 @@ nextTouch (Program m b s k d) g = narrow m (b + pagePlace s d) (getD g d 0)
 nextTouch (Erase u b d) g = blank (memoryOf u) (b + d * pageBytes)
 nextTouch (Write r v) g = none
 
--- what stands in one memory: xs where the touch is of that memory, else ys
-abbrev pub ifSame : Memory → Memory → List ℕ → List ℕ → List ℕ
-ifSame Array Array xs ys = xs
-ifSame Array Rows xs ys = ys
-ifSame Rows Array xs ys = ys
-ifSame Rows Rows xs ys = xs
-
 -- a memory's bytes after a touch
 abbrev pub touched : Memory → Touch → List ℕ → List ℕ
 touched m none xs = xs
-touched m (blank w b) xs = ifSame m w (pageErased xs b) xs
-touched m (narrow w a d) xs = ifSame m w (narrowed xs a d) xs
+touched m (blank w b) xs = cond (sameMemory m w) (pageErased xs b) xs
+touched m (narrow w a d) xs = cond (sameMemory m w) (narrowed xs a d) xs

@@ -1,17 +1,18 @@
 -- Program: which bytes are kept, where they go, and in which order.
-use Prim.Native.Nat.{ℕ, _+_, _-_, _*_, _/_, _%_, min}
+use Prim.Native.Nat.{ℕ, _+_, _-_, _%_, min}
 use mathlib.Core.List.{List, _++_}
 use lib.ListN.{length, getD, drop, set, replicate}
 use lib.Bits.{bitAnd}
 use Rattle.types.specs.declared.Memory.{Memory}
+use Rattle.types.specs.declared.Record.{Record}
 use Rattle.types.specs.declared.Operation.{Operation}
 use Rattle.types.specs.declared.Operation.the-variants.{Program}
-use Rattle.paper.specs.Sizes.{pageBytes}
-use Rattle.paper.specs.Address.{placeIn}
+use Rattle.paper.specs.Sizes.{pageBytes, downTo}
+use Rattle.paper.specs.Address.{addressCount, placeIn}
 
 -- the page (row) of a place begins at
 abbrev pub pageBase : ℕ → ℕ
-pageBase a = a / pageBytes * pageBytes
+pageBase a = downTo pageBytes a
 
 -- past the last byte the address returns to that page's start: the place in the page of byte k of bytes that start at the place s
 unfoldable pub pagePlace : ℕ → ℕ → ℕ
@@ -19,7 +20,7 @@ pagePlace s k = (s + k) % pageBytes
 
 -- the data follows the code and the three address bytes
 abbrev pub dataSent : List ℕ → List ℕ
-dataSent i = drop 4 i
+dataSent i = drop (1 + addressCount) i
 
 -- of more than 256 bytes the last 256 count
 abbrev pub keptCount : List ℕ → ℕ
@@ -33,15 +34,19 @@ passedCount d = length d - keptCount d
 unfoldable pub pageData : List ℕ → List ℕ
 pageData d = drop (passedCount d) d ++ replicate (pageBytes - keptCount d) 0
 
--- page data of no program: 256 zeros
+-- page data of no program: all zero
 unfoldable pub noData : List ℕ
-noData = replicate 256 0
+noData = replicate pageBytes 0
 
--- the program that a transaction begins in a memory of a part of n blocks
-unfoldable pub programOf : Memory → ℕ → List ℕ → Operation
-programOf m n i =
-    Program m (pageBase (placeIn m n i)) (pagePlace (placeIn m n i) (passedCount (dataSent i))) (keptCount (dataSent i)) 0
+-- the program that a transaction begins in a memory of a part: of the page (row) of A, from the place in it of the first byte that counts
+unfoldable pub programOf : Memory → Record → List ℕ → Operation
+programOf m p i =
+    Program m (pageBase (placeIn m p i)) (pagePlace (placeIn m p i) (passedCount (dataSent i))) (keptCount (dataSent i)) 0
 
--- a byte d written over what stands at the place a: new = old AND data
+-- new = old AND data
+abbrev pub narrowedByte : ℕ → ℕ → ℕ
+narrowedByte old d = bitAnd old d
+
+-- the byte at the place a narrowed by d
 unfoldable pub narrowed : List ℕ → ℕ → ℕ → List ℕ
-narrowed xs a d = set xs a (bitAnd (getD xs a 0) d)
+narrowed xs a d = set xs a (narrowedByte (getD xs a 0) d)

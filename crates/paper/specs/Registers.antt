@@ -17,7 +17,7 @@ held Function b = b / 16 * 16
 unfoldable pub writeOf : Register → List ℕ → Operation
 writeOf r i = Write r (held r (getD i 1 0))
 
--- 01h stores bits 7..2
+-- 01h stores bits 7..2 (the byte that it holds has the others 0)
 abbrev pub statusWritten : Register → ℕ → ℕ → ℕ
 statusWritten Status v status = v
 statusWritten Function v status = status

@@ -1,6 +1,6 @@
 -- The part on the bench: its sizes.
-use Prim.Native.Nat.{ℕ, _*_}
-use mathlib.Core.Bool.{Bool}
+use Prim.Native.Nat.{ℕ, _*_, _/_}
+use mathlib.Core.Bool.{Bool, true, false}
 use lib.Dec.{eqb}
 use Rattle.types.specs.declared.Memory.{Memory}
 use Rattle.types.specs.declared.Memory.the-variants.{Array, Rows}
@@ -22,6 +22,13 @@ arrayBytes n = n * blockBytes
 abbrev pub rowsBytes : ℕ
 rowsBytes = 1024
 
+-- two memories are the same
+abbrev pub sameMemory : Memory → Memory → Bool
+sameMemory Array Array = true
+sameMemory Array Rows = false
+sameMemory Rows Array = false
+sameMemory Rows Rows = true
+
 -- the bytes of a memory of a part of n blocks
 abbrev pub memoryBytes : Memory → ℕ → ℕ
 memoryBytes Array n = arrayBytes n
@@ -30,6 +37,10 @@ memoryBytes Rows n = rowsBytes
 -- a page, or a row, has 256 bytes
 abbrev pub pageBytes : ℕ
 pageBytes = 256
+
+-- the last multiple of a size that is not above a place: where the page, or the unit, of that size begins that holds the place
+abbrev pub downTo : ℕ → ℕ → ℕ
+downTo size a = a / size * size
 
 -- a transaction has 1 to 4,096 bytes
 abbrev pub transactionLimit : ℕ

@@ -1,7 +1,7 @@
 -- A record is sound when.
-use Prim.Native.Nat.{ℕ, _+_, _*_, _%_}
+use Prim.Native.Nat.{ℕ, _%_}
 use mathlib.Core.List.{List}
-use mathlib.Core.Bool.{Bool, true, false, not}
+use mathlib.Core.Bool.{Bool, true, not}
 use lib.ListN.{drop}
 use lib.Dec.{eqb, ltb, leb}
 use Rattle.types.specs.declared.Operation.{Operation}
@@ -27,21 +27,21 @@ latchOk (Busy o) wel = wel
 latchOk (Suspended o) wel = not wel
 
 -- kept data counts 1 to 256, its start in the page below 256; a write holds its byte with the bits zero that it does not store
-abbrev pub keptOk : Operation → Bool
-keptOk (Program m b s k d) = leb 1 k and leb k pageBytes and ltb s pageBytes
-keptOk (Erase u b d) = true
-keptOk (Write r v) = eqb (held r v) v
+abbrev pub contentOk : Operation → Bool
+contentOk (Program m b s k d) = leb 1 k and leb k pageBytes and ltb s pageBytes
+contentOk (Erase u b d) = true
+contentOk (Write r v) = eqb (held r v) v
 
 -- the operation's target is aligned, inside the part and unprotected or unlocked under the record's registers; CER only with a BP code of 0; ticks done are fewer than its ticks in all
 unfoldable pub operationOk : Operation → ℕ → ℕ → ℕ → Bool
 operationOk o n status function =
-    aligned o
+    aligned o n
     and inside o n
     and targetFree o n status function
     and ltb (ticksDone o) (ticksInAll o n)
-    and keptOk o
+    and contentOk o
 
--- only PP, SER, BER32 or BER64 is suspended
+-- so the operation that a part is busy with or suspended from; only PP, SER, BER32 or BER64 is suspended
 abbrev pub phaseOk : Phase → ℕ → ℕ → ℕ → Bool
 phaseOk Idle n status function = true
 phaseOk (Busy o) n status function = operationOk o n status function
@@ -61,6 +61,7 @@ keptIn (Suspended o) = keptBy o
 unfoldable pub pageOk : Phase → List ℕ → Bool
 pageOk f d = allZero (drop (keptIn f) d)
 
+-- the whole
 unfoldable pub sound : Record → Bool
 sound p =
     sizeOk (p .blocks)

@@ -3,7 +3,7 @@ use mathlib.Core.Bool.{Bool, true, false}
 use Rattle.types.specs.declared.Phase.{Phase}
 use Rattle.types.specs.declared.Phase.the-variants.{Idle, Busy, Suspended}
 use Rattle.types.specs.declared.Record.{Record}
-use Rattle.paper.specs.Records.{settled}
+use Rattle.paper.specs.Records.{isSuspended, settled}
 use Rattle.paper.specs.Operations.{canSuspend}
 
 -- something runs that can be suspended
@@ -14,9 +14,7 @@ suspendable (Suspended o) = false
 
 -- there is something to resume
 abbrev pub resumable : Phase → Bool
-resumable Idle = false
-resumable (Busy o) = false
-resumable (Suspended o) = true
+resumable f = isSuspended f
 
 -- WIP and WEL become 0, PSUS or ESUS 1
 abbrev pub suspendedIn : Record → Phase → Record

@@ -1,7 +1,7 @@
 -- The command table.
 use Prim.Native.Nat.{ℕ}
 use mathlib.Core.List.{List, [], _∷_}
-use mathlib.Core.Bool.{Bool, true, false}
+use mathlib.Core.Bool.{Bool, true, false, cond}
 use lib.Dec.{eqb, leb}
 use Rattle.types.specs.declared.Memory.the-variants.{Array, Rows}
 use Rattle.types.specs.declared.EraseUnit.the-variants.{Sector, Block32, Block64, Chip, Row}
@@ -38,53 +38,64 @@ codes =
     ∷ 0xB0 is Suspend ∷ 0x7A is Resume ∷ 0x30 is Resume ∷ 0xB9 is Sleep
     ∷ 0x66 is ArmReset ∷ 0x99 is Reset ∷ 0x64 is RowErase ∷ 0x62 is RowProgram ∷ []
 
-abbrev pub pickDecoded : Bool → Decoded → Decoded → Decoded
-pickDecoded true a b = a
-pickDecoded false a b = b
-
 -- the command of the first entry that has the code
 abbrev pub lookUp : List Entry → ℕ → Decoded
 lookUp [] n = Unknown
-lookUp (e ∷ es) n = pickDecoded (eqb n (e .code)) (Known (e .command)) (lookUp es n)
+lookUp (e ∷ es) n = cond (eqb n (e .code)) (Known (e .command)) (lookUp es n)
 
 -- the command that a first byte is, or that it is in no row of the table
 unfoldable pub decoded : ℕ → Decoded
 decoded n = lookUp codes n
 
-abbrev pub row : Length → Bool → Bool → Bool → Bool → Source → ℕ → Effect → Columns
-row l w a b s d f e =
+-- a line of the table
+abbrev pub line : Length → Bool → Bool → Bool → Bool → Source → ℕ → Effect → Columns
+line l w a b s d f e =
     record { length = l; wel = w; asleep = a; busy = b; suspended = s; source = d; from = f; effect = e }
 
--- the table's other columns: the length; whether WEL is needed; whether the command is taken while the part is asleep (21), busy (22) or suspended (23);
+-- the table's other columns: the length; whether WEL is needed; whether the command is taken while the part is asleep, busy or suspended, which 21, 22 and 23 ask;
 -- what it drives and from which place; what it does with the record
 abbrev pub columns : Command → Columns
---                                   length       WEL   asleep busy  suspended drives, from        does
-columns Read = row (AtLeast 4) false false false true ArrayBytes 4 Looks
-columns FastRead = row (AtLeast 5) false false false true ArrayBytes 5 Looks
-columns ReadStatus = row (AtLeast 1) false false true true StatusByte 1 Looks
-columns ReadFunction = row (AtLeast 1) false false true true FunctionByte 1 Looks
-columns ReadIdentity = row (AtLeast 1) false false false true IdentityBytes 1 Looks
-columns ReadMakerDevice = row (AtLeast 4) false false false true MakerDevice 4 Looks
-columns Wake = row (AtLeast 1) false true false true DeviceByte 4 Wakes
-columns ReadRow = row (AtLeast 5) false false false true RowBytes 5 Looks
-columns WriteEnable = row (Exactly 1) false false false false Nothing 0 Enables
-columns WriteDisable = row (Exactly 1) false false false false Nothing 0 Disables
-columns WriteStatus = row (Exactly 2) true false false false Nothing 0 (Writes Status)
-columns WriteFunction = row (Exactly 2) true false false false Nothing 0 (Writes Function)
-columns PageProgram = row (AtLeast 5) true false false false Nothing 0 (Programs Array)
-columns SectorErase = row (Exactly 4) true false false false Nothing 0 (Erases Sector)
-columns BlockErase32 = row (Exactly 4) true false false false Nothing 0 (Erases Block32)
-columns BlockErase64 = row (Exactly 4) true false false false Nothing 0 (Erases Block64)
-columns ChipErase = row (Exactly 1) true false false false Nothing 0 (Erases Chip)
-columns Suspend = row (Exactly 1) false false true false Nothing 0 Suspends
-columns Resume = row (Exactly 1) false false false true Nothing 0 Resumes
-columns Sleep = row (Exactly 1) false false false false Nothing 0 Sleeps
-columns ArmReset = row (Exactly 1) false false true true Nothing 0 Arms
-columns Reset = row (Exactly 1) false false true true Nothing 0 Resets
-columns RowErase = row (Exactly 4) true false false false Nothing 0 (Erases Row)
-columns RowProgram = row (AtLeast 5) true false false false Nothing 0 (Programs Rows)
+columns Read = line (AtLeast 4) false false false true ArrayBytes 4 Looks
+columns FastRead = line (AtLeast 5) false false false true ArrayBytes 5 Looks
+columns ReadStatus = line (AtLeast 1) false false true true StatusByte 1 Looks
+columns ReadFunction = line (AtLeast 1) false false true true FunctionByte 1 Looks
+columns ReadIdentity = line (AtLeast 1) false false false true IdentityBytes 1 Looks
+columns ReadMakerDevice = line (AtLeast 4) false false false true MakerDevice 4 Looks
+columns Wake = line (AtLeast 1) false true false true DeviceByte 4 Wakes
+columns ReadRow = line (AtLeast 5) false false false true RowBytes 5 Looks
+columns WriteEnable = line (Exactly 1) false false false false Nothing 0 Enables
+columns WriteDisable = line (Exactly 1) false false false false Nothing 0 Disables
+columns WriteStatus = line (Exactly 2) true false false false Nothing 0 (Writes Status)
+columns WriteFunction = line (Exactly 2) true false false false Nothing 0 (Writes Function)
+columns PageProgram = line (AtLeast 5) true false false false Nothing 0 (Programs Array)
+columns SectorErase = line (Exactly 4) true false false false Nothing 0 (Erases Sector)
+columns BlockErase32 = line (Exactly 4) true false false false Nothing 0 (Erases Block32)
+columns BlockErase64 = line (Exactly 4) true false false false Nothing 0 (Erases Block64)
+columns ChipErase = line (Exactly 1) true false false false Nothing 0 (Erases Chip)
+columns Suspend = line (Exactly 1) false false true false Nothing 0 Suspends
+columns Resume = line (Exactly 1) false false false true Nothing 0 Resumes
+columns Sleep = line (Exactly 1) false false false false Nothing 0 Sleeps
+columns ArmReset = line (Exactly 1) false false true true Nothing 0 Arms
+columns Reset = line (Exactly 1) false false true true Nothing 0 Resets
+columns RowErase = line (Exactly 4) true false false false Nothing 0 (Erases Row)
+columns RowProgram = line (AtLeast 5) true false false false Nothing 0 (Programs Rows)
 
 -- a length that the table asks for
 abbrev pub lengthOk : Length → ℕ → Bool
 lengthOk (Exactly l) n = eqb n l
 lengthOk (AtLeast l) n = leb l n
+
+-- a command that drives something
+abbrev pub drives : Source → Bool
+drives Nothing = false
+drives ArrayBytes = true
+drives RowBytes = true
+drives StatusByte = true
+drives FunctionByte = true
+drives IdentityBytes = true
+drives MakerDevice = true
+drives DeviceByte = true
+
+-- the reads are 03h, 0Bh, 05h, 48h, 9Fh, 90h, ABh and 68h
+abbrev pub isRead : Columns → Bool
+isRead k = drives (k .source)

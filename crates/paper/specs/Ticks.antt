@@ -1,7 +1,7 @@
 -- Ticks: what one tick does to the record and to each memory, and which ticks do work. The record after a tick does not depend on stored bytes.
 use Prim.Native.Nat.{ℕ, zero, suc, _+_}
 use mathlib.Core.List.{List}
-use mathlib.Core.Bool.{Bool, false, cond}
+use mathlib.Core.Bool.{false, cond}
 use lib.Dec.{ltb}
 use Rattle.types.specs.declared.Memory.{Memory}
 use Rattle.types.specs.declared.Operation.{Operation}
@@ -11,7 +11,7 @@ use Rattle.types.specs.declared.Record.{Record}
 use Rattle.words.specs.Logic.{bit}
 use Rattle.paper.specs.Program.{noData}
 use Rattle.paper.specs.Registers.{statusAfter, functionAfter}
-use Rattle.paper.specs.Records.{isBusy, made, inPhase}
+use Rattle.paper.specs.Records.{isBusy, made, goingOn}
 use Rattle.paper.specs.Operations.{ticksInAll, ticksDone, advanced, Touch, none, nextTouch, touched}
 
 -- the last tick makes the part idle and WEL 0. A tick never touches the armed mark
@@ -23,7 +23,7 @@ finished p o =
 unfoldable pub worked : Record → Operation → Record
 worked p o =
     cond (ltb (ticksDone o + 1) (ticksInAll o (p .blocks)))
-    (inPhase p (Busy (advanced o)))
+    (goingOn p (advanced o))
     (finished p o)
 
 -- the record after a tick. Ticks on an idle, sleeping or suspended part change nothing
@@ -32,15 +32,17 @@ tickedIn p Idle = p
 tickedIn p (Busy o) = worked p o
 tickedIn p (Suspended o) = p
 
+-- the record after one tick
 abbrev pub tickOnce : Record → Record
 tickOnce p = tickedIn p (p .phase)
 
--- what a tick reaches
+-- what a tick in a phase reaches, with the page data g
 abbrev pub touchIn : Phase → List ℕ → Touch
 touchIn Idle g = none
 touchIn (Busy o) g = nextTouch o g
 touchIn (Suspended o) g = none
 
+-- what a part's next tick reaches
 abbrev pub touchOf : Record → Touch
 touchOf p = touchIn (p .phase) (p .page)
 

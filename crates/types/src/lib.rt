@@ -7,6 +7,12 @@ pub enum Memory {
     Rows,
 }
 
+// So many blocks of the array, from the first of them on.
+pub struct Blocks {
+    pub first: usize,
+    pub count: usize,
+}
+
 // What an erase takes: SER, BER32, BER64, CER or the row erase.
 pub enum EraseUnit {
     Sector,
@@ -164,7 +170,7 @@ pub struct PoweredUp {
 pub struct Answer {
     pub next: Record,
     pub number: u8,
-    pub driven: usize,
+    pub first: usize,
 }
 
 // What a tick call answers: the record after it, its number, and how many ticks did work.

@@ -1,1 +1,40 @@
-// Words that the definitions are put together with: tests, numbers and lists. It has no function.
+// Tests and numbers, put together as the definitions put them together: a decision is then
+// straight-line code, in the order of the specification's table of numbers.
+ghost use mathlib.Core.Path.{_≡_};
+ghost use Prim.Native.Nat.{min};
+ghost use Rattle.words.specs.Logic.{_and_, _or_, unless, _orElse_};
+
+// Both of two tests.
+pub fn both(a: bool, b: bool) -> bool
+    ensures { λ r. ⌜ r ≡ (a and b) ⌝ }
+{
+    a && b
+}
+
+// One of two tests.
+pub fn either(a: bool, b: bool) -> bool
+    ensures { λ r. ⌜ r ≡ (a or b) ⌝ }
+{
+    a || b
+}
+
+// The number where the test fails, else 0.
+pub fn number_unless(ok: bool, number: u8) -> u8
+    ensures { λ r. ⌜ r ≡ unless ok number ⌝ }
+{
+    if ok { 0 } else { number }
+}
+
+// The first number that is not 0.
+pub fn or_else(first: u8, second: u8) -> u8
+    ensures { λ r. ⌜ r ≡ (first orElse second) ⌝ }
+{
+    if first == 0 { second } else { first }
+}
+
+// The lesser of two numbers.
+pub fn lesser(a: usize, b: usize) -> usize
+    ensures { λ r. ⌜ r ≡ min a b ⌝ }
+{
+    if a < b { a } else { b }
+}

@@ -1,0 +1,6 @@
+-- Two results that a contract of this crate allows are equal.
+use Rattle.words.proofs.Allowed.{OneResult, agree}
+use Rattle.address.proofs.address_sent.Reads as address-sent
+
+pub address-sent-one : OneResult address-sent.Learnt
+address-sent-one κ a x y s t p q = agree p q

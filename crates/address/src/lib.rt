@@ -1,0 +1,38 @@
+// Addresses as sent: bytes, high byte first.
+ghost use mathlib.Core.Path.{_≡_};
+ghost use Prim.Native.Nat.{_≤_, min};
+ghost use lib.ListN.{length};
+ghost use Rattle.paper.specs.Address.{highFirst, addressBytes};
+
+fn wide(byte: u8) -> usize
+    ensures { λ r. ⌜ r ≡ byte ⌝ }
+{
+    byte as usize
+}
+
+// The number that at most eight bytes are, high byte first.
+fn high_first(bytes: &[u8]) -> usize
+    requires { ⌜ length (now bytes) ≤ 8 ⌝ }
+    ensures { λ r. ⌜ r ≡ highFirst (now (bytes .entry)) ⌝ }
+{
+    let mut number: usize = 0;
+    let mut i = 0;
+    while i < bytes.len() {
+        number = number * 256 + wide(bytes[i]);
+        i += 1;
+    }
+    number
+}
+
+// The number that the count bytes after a transaction's first byte are, high byte first. Of more
+// than eight the first eight are read; where fewer were sent, those are.
+pub fn address_sent(input: &[u8], count: usize) -> usize
+    ensures { λ r. ⌜ r ≡ highFirst (addressBytes (min count 8) (now (input .entry))) ⌝ }
+{
+    let n = input.len();
+    if n == 0 {
+        return 0;
+    }
+    let end = 1 + words::lesser(words::lesser(count, 8), n - 1);
+    high_first(&input[1..end])
+}

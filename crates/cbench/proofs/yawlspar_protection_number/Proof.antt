@@ -1,0 +1,41 @@
+-- `cbench::yawlspar_protection_number` meets its contract: it joins the two tests in the paper's order.
+use native.Mathlib.Omega.{arith}
+use borrow.Author.Needs.{needs}
+use Rattle.paper.specs.CBench.{protectionNumber}
+use Rattle.sizes.proofs.size_ok.Reads as size-ok-reads
+use Rattle.words.proofs.number_unless.Reads as number-unless-reads
+use Rattle.words.proofs.or_else.Reads as or-else-reads
+use Rattle.cbench.proofs.yawlspar_protection_number.Statement.{statement}
+use Rattle.cbench.proofs.yawlspar_protection_number.Tie as tie
+use Rattle.cbench.proofs.yawlspar_protection_number.Reads as reads
+use Rattle.cbench.proofs.yawlspar_protection_number.Lts as lts
+
+size-ok-requires : tie.Need-size-ok-requires
+size-ok-requires c κs = search needs
+
+number-unless-requires : tie.Need-number-unless-requires
+number-unless-requires c κs = search needs
+
+number-unless-requires-2 : tie.Need-number-unless-requires-2
+number-unless-requires-2 c κs = search needs
+
+or-else-requires : tie.Need-or-else-requires
+or-else-requires c κs = search needs
+
+cast-result : tie.Need-cast-result
+cast-result c = search needs
+
+returns : tie.Need-returns
+unfolding protectionNumber
+returns c = cc
+
+pub yawlspar-protection-number-spec : {M : Type 1} → statement M
+yawlspar-protection-number-spec =
+    tie.close
+    (tie.spec
+    size-ok-requires
+    number-unless-requires
+    number-unless-requires-2
+    or-else-requires
+    cast-result
+    returns)

@@ -1,0 +1,37 @@
+-- The number that bytes are, high byte first: one byte more, and how large it is, over the number of bytes.
+use Prim.Native.Nat.{ℕ, zero, suc, _+_, _*_, _^_, _<_, _≤_}
+use mathlib.Core.Path.{_≡_, refl}
+use mathlib.Core.List.{List, [], _∷_, _++_}
+use native.Mathlib.Omega.{arith}
+use lib.ListN.{length, getD, take}
+use lib.Seq.{take-suc}
+use lib.Pow.{pow-add, pow-mono}
+use Rattle.paper.specs.Address.{readOn, highFirst}
+
+read-on-snoc : (a : ℕ) (bs : List ℕ) (b : ℕ) → readOn a (bs ++ (b ∷ [])) ≡ readOn a bs * 256 + b
+read-on-snoc a [] b = refl
+read-on-snoc a (x ∷ xs) b = read-on-snoc (a * 256 + x) xs b
+
+module _ (bs : List ℕ) where
+  pub high-first-none : highFirst (take 0 bs) ≡ 0
+  unfolding highFirst
+  high-first-none = refl
+
+  -- one byte more
+  pub high-first-more : (i : ℕ) → i < length bs → highFirst (take (suc i) bs) ≡ highFirst (take i bs) * 256 + getD bs i 0
+  unfolding highFirst
+  high-first-more i h = rw (take-suc bs i 0 h) (read-on-snoc 0 (take i bs) (getD bs i 0))
+
+  -- so many bytes are below so many times eight bits
+  pub high-first-fits : ((i : ℕ) → getD bs i 0 < 256) → (i : ℕ) → i ≤ length bs → highFirst (take i bs) < 2 ^ (8 * i)
+  high-first-fits byte zero h = rw high-first-none (omega arith)
+  high-first-fits byte (suc i) h =
+      let e : 8 * suc i ≡ 8 * i + 8 = omega arith in
+      let q : 2 ^ (8 * suc i) ≡ 2 ^ (8 * i) * 256 = rw (e, pow-add) in
+      omega (arith, q, high-first-more i h, high-first-fits byte i (omega arith), byte i)
+
+  -- at most seven bytes leave room for one more in 64 bits
+  pub high-first-room : ((i : ℕ) → getD bs i 0 < 256) → (i : ℕ) → i ≤ length bs → i ≤ 7 → highFirst (take i bs) < 2 ^ 56
+  high-first-room byte i h k =
+      let m : 2 ^ (8 * i) ≤ 2 ^ 56 = pow-mono {i = 8 * i} {j = 56} (omega arith) in
+      omega (arith, high-first-fits byte i h)

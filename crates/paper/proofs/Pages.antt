@@ -1,0 +1,39 @@
+-- Pages: what a touch leaves where it fits and where it does not, and how large units are.
+use Prim.Native.Nat.{ℕ, _+_, _*_, _≤_, _<_}
+use mathlib.Core.Path.{_≡_}
+use mathlib.Core.List.{List, _++_}
+use native.Mathlib.Omega.{arith}
+use borrow.Author.Tests.{le-leb, lt-leb}
+use lib.ListN.{length, take, drop, replicate, length-drop, length-take}
+use lib.Seq.{drop-drop, set-out}
+use Rattle.types.specs.declared.EraseUnit.{EraseUnit}
+use Rattle.types.specs.declared.EraseUnit.the-variants.{Sector, Block32, Block64, Chip, Row}
+use Rattle.paper.specs.Sizes.{pageBytes}
+use Rattle.paper.specs.Program.{narrowed}
+use Rattle.paper.specs.Erase.{unitPages, erasedByte, pageErased}
+
+-- a page that does not fit leaves the bytes as they are
+pub erased-out : (xs : List ℕ) (b : ℕ) → length xs < b + pageBytes → pageErased xs b ≡ xs
+unfolding pageErased
+erased-out xs b h = rw (lt-leb _ _ h)
+
+-- a page that was lent on and came back as 256 bytes of FFh
+pub erased-back : (xs : List ℕ) (b : ℕ) → b + pageBytes ≤ length xs → (n : ℕ) → n ≡ pageBytes → (ys : List ℕ) → ys ≡ replicate (length (take n (drop b xs))) erasedByte
+    → take b xs ++ (ys ++ drop n (drop b xs)) ≡ pageErased xs b
+unfolding pageErased
+erased-back xs b h n e ys q =
+    let l : length (take pageBytes (drop b xs)) ≡ pageBytes = simp (length-take, length-drop) (omega arith) in
+    rw (le-leb _ _ h, q, e, l, drop-drop)
+
+-- a place that is not there leaves the bytes as they are
+pub narrowed-out : (xs : List ℕ) (a d : ℕ) → length xs ≤ a → narrowed xs a d ≡ xs
+unfolding narrowed
+narrowed-out xs a d h = set-out xs a _ h
+
+-- a unit of a part of fewer than 65,536 blocks has at most so many pages
+pub unit-pages-le : (u : EraseUnit) (n : ℕ) → n < 65536 → unitPages u n ≤ 65536 * 256
+unit-pages-le Sector n h = omega arith
+unit-pages-le Block32 n h = omega arith
+unit-pages-le Block64 n h = omega arith
+unit-pages-le Chip n h = omega arith
+unit-pages-le Row n h = omega arith

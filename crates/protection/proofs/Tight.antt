@@ -1,0 +1,18 @@
+-- Two results that a contract of this crate allows are equal.
+use Rattle.words.proofs.Allowed.{OneResult, agree}
+use Rattle.protection.proofs.protected_blocks.Reads as protected-blocks
+use Rattle.protection.proofs.is_protected.Reads as is-protected
+use Rattle.protection.proofs.is_locked.Reads as is-locked
+use Rattle.protection.proofs.is_barred.Reads as is-barred
+
+pub protected-blocks-one : OneResult protected-blocks.Learnt
+protected-blocks-one κ a x y s t p q = agree p q
+
+pub is-protected-one : OneResult is-protected.Learnt
+is-protected-one κ a x y s t p q = agree p q
+
+pub is-locked-one : OneResult is-locked.Learnt
+is-locked-one κ a x y s t p q = agree p q
+
+pub is-barred-one : OneResult is-barred.Learnt
+is-barred-one κ a x y s t p q = agree p q

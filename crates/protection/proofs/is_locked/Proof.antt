@@ -1,0 +1,32 @@
+-- `protection::is_locked` meets its contract: each of the four rows has its bit, and a byte has no bit for another.
+use native.Mathlib.Omega.{arith}
+use borrow.Author.Needs.{needs}
+use Rattle.paper.specs.Protection.{locked}
+use Rattle.protection.proofs.Laws.{no-bit}
+use Rattle.protection.proofs.is_locked.Statement.{statement}
+use Rattle.protection.proofs.is_locked.Tie as tie
+use Rattle.protection.proofs.is_locked.Reads as reads
+use Rattle.protection.proofs.is_locked.Lts as lts
+
+returns : tie.Need-returns
+unfolding locked
+returns c = rw (c .match .keys1)
+
+returns-2 : tie.Need-returns-2
+unfolding locked
+returns-2 c = rw (c .match .keys2)
+
+returns-3 : tie.Need-returns-3
+unfolding locked
+returns-3 c = rw (c .match .keys3)
+
+returns-4 : tie.Need-returns-4
+unfolding locked
+returns-4 c = rw (c .match .keys4)
+
+returns-5 : tie.Need-returns-5
+unfolding locked
+returns-5 c = rw (no-bit (c .before .args .function) (c .before .args .row) (omega arith) (omega (arith, c .match .rest)))
+
+pub is-locked-spec : {M : Type 1} → statement M
+is-locked-spec = tie.close (tie.spec returns returns-2 returns-3 returns-4 returns-5)

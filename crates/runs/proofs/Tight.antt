@@ -1,0 +1,11 @@
+-- Two results that a contract of this crate allows are equal.
+use denote.Ref.{now}
+use Rattle.words.proofs.Allowed.{OneExit, agree}
+use Rattle.runs.proofs.blank.Reads as blank
+use Rattle.runs.proofs.drive.Reads as drive
+
+pub blank-one : OneExit blank.Learnt (λ κ s. now (s .0))
+blank-one κ a x y s t p q = agree p q
+
+pub drive-one : OneExit drive.Learnt (λ κ s. now (s .1 .1 .0))
+drive-one κ a x y s t p q = agree p q

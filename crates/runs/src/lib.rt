@@ -1,0 +1,40 @@
+// Bytes that are written in runs: FFh all over, and a source read round and round.
+ghost use mathlib.Core.Path.{_≡_};
+ghost use lib.ListN.{length, replicate};
+ghost use Rattle.words.specs.Lists.{driven};
+
+// All of the bytes set to FFh.
+pub fn blank(bytes: &mut [u8])
+    ensures { λ _. ⌜ now (bytes .exit) ≡ replicate (length (now (bytes .entry))) 255 ⌝ }
+{
+    let mut i = 0;
+    while i < bytes.len() {
+        bytes[i] = 255;
+        i += 1;
+    }
+}
+
+// The source, read from its place at on and past its end from its start again, into the output from
+// the place from to its end. A source of no bytes leaves the output as it is.
+pub fn drive(source: &[u8], at: usize, output: &mut [u8], from: usize)
+    ensures { λ _. ⌜ now (output .exit) ≡ driven (now (source .entry)) at (now (output .entry)) from ⌝ }
+{
+    let n = source.len();
+    let end = output.len();
+    if n == 0 {
+        return;
+    }
+    if end <= from {
+        return;
+    }
+    let room = end - from;
+    let mut here = at % n;
+    let mut done = 0;
+    while done < room {
+        let run = words::lesser(n - here, room - done);
+        let there = from + done;
+        bytes::copy(&source[here..here + run], &mut output[there..there + run]);
+        here = 0;
+        done += run;
+    }
+}

@@ -1,0 +1,25 @@
+-- `sizes::size_ok` meets its contract: it joins the four tests as the definition does.
+use native.Mathlib.Omega.{arith}
+use borrow.Author.Needs.{needs}
+use Rattle.paper.specs.Sizes.{sizeOk}
+use Rattle.words.proofs.either.Reads as either-reads
+use Rattle.sizes.proofs.size_ok.Statement.{statement}
+use Rattle.sizes.proofs.size_ok.Tie as tie
+use Rattle.sizes.proofs.size_ok.Reads as reads
+use Rattle.sizes.proofs.size_ok.Lts as lts
+
+either-requires : tie.Need-either-requires
+either-requires c κs = search needs
+
+either-requires-2 : tie.Need-either-requires-2
+either-requires-2 c κs = search needs
+
+either-requires-3 : tie.Need-either-requires-3
+either-requires-3 c κs = search needs
+
+returns : tie.Need-returns
+unfolding sizeOk
+returns c = cc
+
+pub size-ok-spec : {M : Type 1} → statement M
+size-ok-spec = tie.close (tie.spec either-requires either-requires-2 either-requires-3 returns)

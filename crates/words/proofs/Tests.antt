@@ -1,0 +1,50 @@
+-- What tests and numbers that were put together say of their parts.
+use mathlib.Core.Path.{_≡_, refl}
+use mathlib.Core.Bool.{Bool, true, false, false≢true}
+use mathlib.Core.Logic.{_⊎_, inl, inr}
+use Prim.Native.Nat.{ℕ, zero, suc}
+use native.Mathlib.Omega.{arith}
+use Rattle.words.specs.Logic.{_and_, _or_, unless, _orElse_}
+
+pub and-l : (a b : Bool) → (a and b) ≡ true → a ≡ true
+unfolding _and_
+and-l true b e = refl
+and-l false b e = e
+
+pub and-r : (a b : Bool) → (a and b) ≡ true → b ≡ true
+unfolding _and_
+and-r true b e = e
+and-r false b e = absurd (false≢true e)
+
+pub and-in : {a b : Bool} → a ≡ true → b ≡ true → (a and b) ≡ true
+unfolding _and_
+and-in {a} {b} p q = rw (p, q)
+
+pub or-cases : (a b : Bool) → (a or b) ≡ true → (a ≡ true) ⊎ (b ≡ true)
+unfolding _or_
+or-cases true b e = inl refl
+or-cases false b e = inr e
+
+pub orElse-on : (m n : ℕ) → m ≡ 0 → (m orElse n) ≡ n
+unfolding _orElse_
+orElse-on m n e = rw e
+
+pub orElse-first : (m n : ℕ) → (m ≡ 0 → ⊥) → (m orElse n) ≡ m
+unfolding _orElse_
+orElse-first zero n h = absurd (h refl)
+orElse-first (suc m) n h = refl
+
+suc-not-zero : {n : ℕ} → suc n ≡ 0 → ⊥
+suc-not-zero e = omega arith
+
+-- no number: the test passed
+pub unless-zero : (b : Bool) (n : ℕ) → unless b (suc n) ≡ 0 → b ≡ true
+unfolding unless
+unless-zero true n e = refl
+unless-zero false n e = absurd (suc-not-zero e)
+
+-- no number: neither of two
+pub orElse-zero : (m n : ℕ) → (m orElse n) ≡ 0 → (m ≡ 0) × (n ≡ 0)
+unfolding _orElse_
+orElse-zero zero n e = (refl, e)
+orElse-zero (suc m) n e = absurd (suc-not-zero e)
