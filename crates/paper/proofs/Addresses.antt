@@ -1,12 +1,15 @@
--- The number that bytes are, high byte first: one byte more, and how large it is, over the number of bytes.
-use Prim.Native.Nat.{ℕ, zero, suc, _+_, _*_, _^_, _<_, _≤_}
+-- The number that bytes are, high byte first: one byte more, and how large it is, over the number of bytes. Taken modulo an array size it keeps its place in a page.
+use Prim.Native.Nat.{ℕ, zero, suc, _+_, _*_, _%_, _^_, _<_, _≤_}
 use mathlib.Core.Path.{_≡_, refl}
 use mathlib.Core.List.{List, [], _∷_, _++_}
 use native.Mathlib.Omega.{arith}
+use native.Mathlib.Nat.{mod-mod-of-dvd, dvd-mul-left, dvd-mul-left-of-dvd}
 use lib.ListN.{length, getD, take}
 use lib.Seq.{take-suc}
 use lib.Pow.{pow-add, pow-mono}
-use Rattle.paper.specs.Address.{readOn, highFirst}
+use Rattle.types.specs.declared.Record.{Record}
+use Rattle.paper.specs.Sizes.{blockBytes, pageBytes}
+use Rattle.paper.specs.Address.{readOn, highFirst, addressSent, addressIn}
 
 read-on-snoc : (a : ℕ) (bs : List ℕ) (b : ℕ) → readOn a (bs ++ (b ∷ [])) ≡ readOn a bs * 256 + b
 read-on-snoc a [] b = refl
@@ -35,3 +38,8 @@ module _ (bs : List ℕ) where
   high-first-room byte i h k =
       let m : 2 ^ (8 * i) ≤ 2 ^ 56 = pow-mono {i = 8 * i} {j = 56} (omega arith) in
       omega (arith, high-first-fits byte i h)
+
+-- A lies in its page where the address sent does
+pub in-page : (p : Record) (i : List ℕ) → addressIn p i % pageBytes ≡ addressSent i % pageBytes
+unfolding addressIn
+in-page p i = mod-mod-of-dvd pageBytes (addressSent i) (dvd-mul-left-of-dvd pageBytes {b = blockBytes} (dvd-mul-left pageBytes pageBytes) (p .blocks))

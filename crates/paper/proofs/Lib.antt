@@ -4,3 +4,11 @@ pub mod Pages
 pub mod Sizes
 pub mod CBench
 pub mod Table
+pub mod Records
+pub mod MadeSound
+pub mod Soundness
+pub mod Runs
+pub mod EraseRun
+pub mod Kept
+pub mod Numbers
+pub mod KeptBytes

@@ -1,10 +1,12 @@
 -- Pages: what a touch leaves where it fits and where it does not, and how large units are.
 use Prim.Native.Nat.{ℕ, _+_, _*_, _≤_, _<_}
-use mathlib.Core.Path.{_≡_}
+use mathlib.Core.Path.{_≡_, refl}
+use mathlib.Core.Bool.{Bool, true, false}
 use mathlib.Core.List.{List, _++_}
 use native.Mathlib.Omega.{arith}
-use borrow.Author.Tests.{le-leb, lt-leb}
-use lib.ListN.{length, take, drop, replicate, length-drop, length-take}
+use borrow.Author.Tests.{leb-true, le-leb, lt-leb}
+use lib.Dec.{leb}
+use lib.ListN.{length, take, drop, replicate, length-drop, length-take, length-append, length-replicate, length-set}
 use lib.Seq.{drop-drop, set-out}
 use Rattle.types.specs.declared.EraseUnit.{EraseUnit}
 use Rattle.types.specs.declared.EraseUnit.the-variants.{Sector, Block32, Block64, Chip, Row}
@@ -24,6 +26,21 @@ unfolding pageErased
 erased-back xs b h n e ys q =
     let l : length (take pageBytes (drop b xs)) ≡ pageBytes = simp (length-take, length-drop) (omega arith) in
     rw (le-leb _ _ h, q, e, l, drop-drop)
+
+erased-length-as : (xs : List ℕ) (b : ℕ) (t : Bool) → leb (b + pageBytes) (length xs) ≡ t → length (pageErased xs b) ≡ length xs
+unfolding pageErased
+erased-length-as xs b true e =
+    let h : b + pageBytes ≤ length xs = leb-true _ _ e in
+    rw e (simp (length-append, length-take, length-drop, length-replicate) (omega arith))
+erased-length-as xs b false e = rw e
+
+-- a touch keeps a memory's length
+pub erased-length : (xs : List ℕ) (b : ℕ) → length (pageErased xs b) ≡ length xs
+erased-length xs b = erased-length-as xs b _ refl
+
+pub narrowed-length : (xs : List ℕ) (a d : ℕ) → length (narrowed xs a d) ≡ length xs
+unfolding narrowed
+narrowed-length xs a d = length-set xs a _
 
 -- a place that is not there leaves the bytes as they are
 pub narrowed-out : (xs : List ℕ) (a d : ℕ) → length xs ≤ a → narrowed xs a d ≡ xs

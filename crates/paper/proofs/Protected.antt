@@ -1,5 +1,5 @@
 -- Protected blocks lie inside the part.
-use Prim.Native.Nat.{ℕ, _+_, _-_, _≤_, min}
+use Prim.Native.Nat.{ℕ, _+_, _-_, _≤_}
 use mathlib.Core.Bool.{Bool, true, false, cond}
 use native.Mathlib.Omega.{arith}
 use Rattle.paper.specs.Protection.{protectedCount, protectsTop, protectedBlocks}

@@ -4,9 +4,7 @@ use mathlib.Core.Path.{_≡_}
 use mathlib.Core.Bool.{true}
 use mathlib.Core.Logic.{⊎-elim}
 use native.Mathlib.Omega.{arith}
-use lib.Dec.{eqb}
 use borrow.Author.Tests.{eqb-true}
-use Rattle.words.specs.Logic.{_or_}
 use Rattle.words.proofs.Tests.{or-cases}
 use Rattle.paper.specs.Sizes.{sizeOk}
 

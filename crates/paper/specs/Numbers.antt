@@ -30,9 +30,9 @@ use Rattle.paper.specs.Soundness.{bitsOk, sound}
 use Rattle.paper.specs.Table.{columns, lengthOk}
 use Rattle.paper.specs.Suspend.{suspendable, resumable}
 
--- 1: size not 1, 4, 8, 16, or array length, a bytes, not the record's size
-unfoldable pub sizeNumber : Record → ℕ → ℕ
-sizeNumber p a = unless (sizeOk (p .blocks) and eqb a (arrayBytes (p .blocks))) 1
+-- 1: size, n blocks, not 1, 4, 8, 16, or array length, a bytes, not the record's size
+unfoldable pub sizeNumber : ℕ → ℕ → ℕ
+sizeNumber n a = unless (sizeOk n and eqb a (arrayBytes n)) 1
 
 -- 2: rows not 1,024 bytes
 unfoldable pub rowsNumber : ℕ → ℕ
@@ -61,11 +61,12 @@ powerUpNumber n status function = unless (sizeOk n) 1 orElse unless (bitsOk Idle
 -- a transaction's 1 to 5, for an array of a, rows of r, an input of n and an output of o bytes
 unfoldable pub transactionRefusal : Record → ℕ → ℕ → ℕ → ℕ → ℕ
 transactionRefusal p a r n o =
-    sizeNumber p a orElse rowsNumber r orElse lengthNumber n orElse outputNumber n o orElse soundNumber p
+    sizeNumber (p .blocks) a orElse rowsNumber r orElse lengthNumber n orElse outputNumber n o orElse soundNumber p
 
 -- ticks can give only 1, 2, 5 and 6
 unfoldable pub tickNumber : Record → ℕ → ℕ → ℕ → ℕ
-tickNumber p a r n = sizeNumber p a orElse rowsNumber r orElse soundNumber p orElse ticksNumber n
+tickNumber p a r n =
+    sizeNumber (p .blocks) a orElse rowsNumber r orElse soundNumber p orElse ticksNumber n
 
 -- 25: nothing running that can be suspended, nothing to resume, or 99h not armed
 abbrev pub stateOk : Effect → Phase → Bool → Bool

@@ -27,11 +27,11 @@ ticksDone (Program m b s k d) = d
 ticksDone (Erase u b d) = d
 ticksDone (Write r v) = 0
 
--- the operation with one tick more done
-abbrev pub advanced : Operation → Operation
-advanced (Program m b s k d) = Program m b s k (d + 1)
-advanced (Erase u b d) = Erase u b (d + 1)
-advanced (Write r v) = Write r v
+-- the operation with t ticks more done
+abbrev pub advancedBy : ℕ → Operation → Operation
+advancedBy t (Program m b s k d) = Program m b s k (d + t)
+advancedBy t (Erase u b d) = Erase u b (d + t)
+advancedBy t (Write r v) = Write r v
 
 -- its target begins where a page or a unit begins
 abbrev pub aligned : Operation → ℕ → Bool

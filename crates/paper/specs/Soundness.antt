@@ -18,7 +18,7 @@ use Rattle.paper.specs.Operations.{ticksInAll, ticksDone, aligned, insid
 
 -- asleep only if idle
 abbrev pub sleepOk : Phase → Bool → Bool
-sleepOk f asleep = not asleep or isIdle f
+sleepOk f asleep = isIdle f or not asleep
 
 -- WEL is 1 while busy and 0 while suspended
 abbrev pub latchOk : Phase → Bool → Bool

@@ -12,7 +12,7 @@ use Rattle.words.specs.Logic.{bit}
 use Rattle.paper.specs.Program.{noData}
 use Rattle.paper.specs.Registers.{statusAfter, functionAfter}
 use Rattle.paper.specs.Records.{isBusy, made, goingOn}
-use Rattle.paper.specs.Operations.{ticksInAll, ticksDone, advanced, Touch, none, nextTouch, touched}
+use Rattle.paper.specs.Operations.{ticksInAll, ticksDone, advancedBy, Touch, none, nextTouch, touched}
 
 -- the last tick makes the part idle and WEL 0. A tick never touches the armed mark
 abbrev pub finished : Record → Operation → Record
@@ -23,7 +23,7 @@ finished p o =
 unfoldable pub worked : Record → Operation → Record
 worked p o =
     cond (ltb (ticksDone o + 1) (ticksInAll o (p .blocks)))
-    (goingOn p (advanced o))
+    (goingOn p (advancedBy 1 o))
     (finished p o)
 
 -- the record after a tick. Ticks on an idle, sleeping or suspended part change nothing
@@ -64,3 +64,8 @@ memoryAfter m (suc n) p xs = touched m (touchOf (recordAfter n p)) (memoryAfter 
 abbrev pub workingTicks : ℕ → Record → ℕ
 workingTicks zero p = 0
 workingTicks (suc n) p = workingTicks n p + works (recordAfter n p)
+
+-- what k ticks of an operation, with the page data g, make of a memory
+abbrev pub ran : Memory → ℕ → Operation → List ℕ → List ℕ → List ℕ
+ran m zero o g xs = xs
+ran m (suc k) o g xs = touched m (nextTouch (advancedBy k o) g) (ran m k o g xs)

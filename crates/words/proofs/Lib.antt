@@ -1,4 +1,5 @@
 pub mod Tests
 pub mod Lists
+pub mod Zeros
 pub mod Allowed
 pub mod Tight

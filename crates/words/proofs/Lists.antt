@@ -6,7 +6,7 @@ use native.Mathlib.Omega.{arith}
 use native.Mathlib.Nat.{add-zero, add-suc, mod-eq-of-lt, mod-self, mod-add-mod}
 use borrow.Author.Tests.{eq-eqb, ne-eqb}
 use lib.ListN.{length, take, drop, getD, length-append, length-drop, take-append-drop}
-use lib.Seq.{take-suc, take-at, drop-at, drop-drop, getD-drop, length-take-le, take-all, take-length, drop-length}
+use lib.Seq.{take-suc, take-at, drop-at, drop-drop, getD-drop, length-take-le, take-all, drop-length}
 use Rattle.words.specs.Lists.{upTo, round, driven}
 
 -- to take more than there is takes all

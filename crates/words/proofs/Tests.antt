@@ -1,10 +1,13 @@
 -- What tests and numbers that were put together say of their parts.
-use mathlib.Core.Path.{_≡_, refl}
+use mathlib.Core.Path.{_≡_, refl, sym, _∙_}
 use mathlib.Core.Bool.{Bool, true, false, false≢true}
 use mathlib.Core.Logic.{_⊎_, inl, inr}
-use Prim.Native.Nat.{ℕ, zero, suc}
+use Prim.Native.Nat.{ℕ, zero, suc, _≤_, _<_}
 use native.Mathlib.Omega.{arith}
-use Rattle.words.specs.Logic.{_and_, _or_, unless, _orElse_}
+use native.Mathlib.Nat.{lt-of-not-le}
+use lib.Dec.{leb}
+use borrow.Author.Tests.{leb-true, leb-false, le-leb, lt-leb}
+use Rattle.words.specs.Logic.{_and_, _or_, bit, unless, _orElse_}
 
 pub and-l : (a b : Bool) → (a and b) ≡ true → a ≡ true
 unfolding _and_
@@ -48,3 +51,17 @@ pub orElse-zero : (m n : ℕ) → (m orElse n) ≡ 0 → (m ≡ 0) × (n ≡ 0)
 unfolding _orElse_
 orElse-zero zero n e = (refl, e)
 orElse-zero (suc m) n e = absurd (suc-not-zero e)
+
+-- two tests of one fact
+same-leb-as : (a b c d : ℕ) (t : Bool) → leb a b ≡ t → (a ≤ b → c ≤ d) → (c ≤ d → a ≤ b) → leb a b ≡ leb c d
+same-leb-as a b c d true e f g = e ∙ sym (le-leb c d (f (leb-true a b e)))
+same-leb-as a b c d false e f g =
+    let n : d < c = lt-of-not-le (λ (h : c ≤ d). let l : b < a = leb-false a b e in let k : a ≤ b = g h in omega arith) in
+    e ∙ sym (lt-leb c d n)
+
+pub same-leb : (a b c d : ℕ) → (a ≤ b → c ≤ d) → (c ≤ d → a ≤ b) → leb a b ≡ leb c d
+same-leb a b c d f g = same-leb-as a b c d (leb a b) refl f g
+
+pub bit-le : (b : Bool) → bit b ≤ 1
+bit-le true = omega arith
+bit-le false = omega arith

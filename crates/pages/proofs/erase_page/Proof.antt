@@ -1,16 +1,12 @@
 -- `pages::erase_page` meets its contract: the page is lent on from its base, and comes back as FFh.
-use Prim.Native.Nat.{_+_, _-_, _<_, _≤_}
-use mathlib.Core.Path.{_≡_, sym}
+use Prim.Native.Nat.{_+_, _-_}
+use mathlib.Core.Path.{sym}
 use native.Mathlib.Omega.{arith}
-use lib.ListN.{length}
 use denote.Ref.{now}
 use borrow.Author.Needs.{needs}
 use Rattle.paper.proofs.Pages.{erased-out, erased-back}
-use Rattle.runs.proofs.blank.Reads as blank-reads
 use Rattle.pages.proofs.erase_page.Statement.{statement}
 use Rattle.pages.proofs.erase_page.Tie as tie
-use Rattle.pages.proofs.erase_page.Reads as reads
-use Rattle.pages.proofs.erase_page.Lts as lts
 
 returns : tie.Need-returns
 returns c =

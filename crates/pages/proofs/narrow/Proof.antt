@@ -1,13 +1,10 @@
 -- `pages::narrow` meets its contract: the byte is narrowed where it is there.
 use mathlib.Core.Path.{refl, sym}
-use native.Mathlib.Omega.{arith}
 use borrow.Author.Needs.{needs}
 use Rattle.paper.proofs.Pages.{narrowed-out}
 use Rattle.paper.specs.Program.{narrowed}
 use Rattle.pages.proofs.narrow.Statement.{statement}
 use Rattle.pages.proofs.narrow.Tie as tie
-use Rattle.pages.proofs.narrow.Reads as reads
-use Rattle.pages.proofs.narrow.Lts as lts
 
 slice-read-memory : tie.Need-slice-read-memory
 slice-read-memory c = search needs

@@ -2,11 +2,8 @@
 use native.Mathlib.Omega.{arith}
 use borrow.Author.Needs.{needs}
 use Rattle.paper.specs.Program.{pagePlace}
-use Rattle.std.proofs.num.wrapping_add_u8.Reads as wrapping-add-u8-reads
 use Rattle.pages.proofs.page_place.Statement.{statement}
 use Rattle.pages.proofs.page_place.Tie as tie
-use Rattle.pages.proofs.page_place.Reads as reads
-use Rattle.pages.proofs.page_place.Lts as lts
 
 cast-wrapping-add-u8 : tie.Need-cast-wrapping-add-u8
 cast-wrapping-add-u8 c = search needs

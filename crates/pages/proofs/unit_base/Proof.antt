@@ -1,6 +1,6 @@
 -- `pages::unit_base` meets its contract, over the unit's size.
-use Prim.Native.Nat.{_*_, _/_, _≤_}
-use mathlib.Core.Path.{_≡_, sym}
+use Prim.Native.Nat.{_*_}
+use mathlib.Core.Path.{_≡_}
 use native.Mathlib.Nat.{mul-zero, div-mul-le-self}
 use native.Mathlib.Omega.{arith}
 use borrow.Author.Needs.{needs}
@@ -8,9 +8,6 @@ use Rattle.paper.proofs.Pages.{unit-pages-le}
 use Rattle.paper.specs.Erase.{unitBytes}
 use Rattle.pages.proofs.unit_base.Statement.{statement}
 use Rattle.pages.proofs.unit_base.Tie as tie
-use Rattle.pages.proofs.unit_base.Reads as reads
-use Rattle.pages.proofs.unit_base.Lts as lts
-use Rattle.pages.proofs.unit_pages.Reads as unit-pages-reads
 
 unit-pages-requires : tie.Need-unit-pages-requires
 unit-pages-requires c κs = search needs

@@ -1,10 +1,7 @@
 -- `pages::unit_pages` meets its contract: each arm is a clause of the definition.
-use native.Mathlib.Omega.{arith}
 use borrow.Author.Needs.{needs}
 use Rattle.pages.proofs.unit_pages.Statement.{statement}
 use Rattle.pages.proofs.unit_pages.Tie as tie
-use Rattle.pages.proofs.unit_pages.Reads as reads
-use Rattle.pages.proofs.unit_pages.Lts as lts
 
 enum-told : tie.Need-enum-told
 enum-told c = search needs

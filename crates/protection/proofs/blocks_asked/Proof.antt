@@ -1,15 +1,13 @@
 -- `protection::blocks_asked` meets its contract: the tests are the definition's, and a shifted one is a power of two.
 use Prim.Native.Nat.{_-_}
 use native.Mathlib.Omega.{arith}
-use borrow.Author.Tests.{eq-eqb, ne-eqb, le-leb, lt-leb}
+use borrow.Author.Tests.{ne-eqb, le-leb, lt-leb}
 use borrow.Author.Needs.{needs}
 use Rattle.paper.specs.Protection.{blocksAsked}
 use Rattle.words.specs.Logic.{_or_}
 use Rattle.protection.proofs.Laws.{one-shl}
 use Rattle.protection.proofs.blocks_asked.Statement.{statement}
 use Rattle.protection.proofs.blocks_asked.Tie as tie
-use Rattle.protection.proofs.blocks_asked.Reads as reads
-use Rattle.protection.proofs.blocks_asked.Lts as lts
 
 returns : tie.Need-returns
 unfolding blocksAsked _or_

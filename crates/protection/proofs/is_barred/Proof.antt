@@ -1,12 +1,8 @@
 -- `protection::is_barred` meets its contract: it joins the three tests as the definition does.
-use native.Mathlib.Omega.{arith}
 use borrow.Author.Needs.{needs}
 use Rattle.paper.specs.Protection.{barred}
-use Rattle.words.proofs.both.Reads as both-reads
 use Rattle.protection.proofs.is_barred.Statement.{statement}
 use Rattle.protection.proofs.is_barred.Tie as tie
-use Rattle.protection.proofs.is_barred.Reads as reads
-use Rattle.protection.proofs.is_barred.Lts as lts
 
 both-requires : tie.Need-both-requires
 both-requires c κs = search needs

@@ -1,12 +1,9 @@
 -- `protection::is_locked` meets its contract: each of the four rows has its bit, and a byte has no bit for another.
 use native.Mathlib.Omega.{arith}
-use borrow.Author.Needs.{needs}
 use Rattle.paper.specs.Protection.{locked}
 use Rattle.protection.proofs.Laws.{no-bit}
 use Rattle.protection.proofs.is_locked.Statement.{statement}
 use Rattle.protection.proofs.is_locked.Tie as tie
-use Rattle.protection.proofs.is_locked.Reads as reads
-use Rattle.protection.proofs.is_locked.Lts as lts
 
 returns : tie.Need-returns
 unfolding locked

@@ -3,14 +3,9 @@ use Prim.Native.Nat.{_+_, _≤_}
 use native.Mathlib.Omega.{arith}
 use borrow.Author.Needs.{needs}
 use Rattle.paper.proofs.Protected.{protected-inside}
-use Rattle.paper.specs.Protection.{protectedBlocks}
-use Rattle.paper.specs.Protection.{protected}
-use Rattle.words.proofs.both.Reads as both-reads
+use Rattle.paper.specs.Protection.{protectedBlocks, protected}
 use Rattle.protection.proofs.is_protected.Statement.{statement}
 use Rattle.protection.proofs.is_protected.Tie as tie
-use Rattle.protection.proofs.is_protected.Reads as reads
-use Rattle.protection.proofs.is_protected.Lts as lts
-use Rattle.protection.proofs.protected_blocks.Reads as protected-blocks-reads
 
 protected-blocks-requires : tie.Need-protected-blocks-requires
 protected-blocks-requires c κs = search needs

@@ -1,14 +1,8 @@
 -- `protection::protected_blocks` meets its contract: the count is the definition's, and the code decides which end it is.
-use native.Mathlib.Omega.{arith}
 use borrow.Author.Needs.{needs}
 use Rattle.paper.specs.Protection.{protectedBlocks}
-use Rattle.words.proofs.both.Reads as both-reads
-use Rattle.words.proofs.lesser.Reads as lesser-reads
 use Rattle.protection.proofs.protected_blocks.Statement.{statement}
 use Rattle.protection.proofs.protected_blocks.Tie as tie
-use Rattle.protection.proofs.protected_blocks.Reads as reads
-use Rattle.protection.proofs.protected_blocks.Lts as lts
-use Rattle.protection.proofs.blocks_asked.Reads as blocks-asked-reads
 
 blocks-asked-requires : tie.Need-blocks-asked-requires
 blocks-asked-requires c κs = search needs

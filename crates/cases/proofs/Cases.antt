@@ -1,0 +1,202 @@
+-- The proof of each case, and of the list of them.
+use Prim.Native.Nat.{ℕ, _+_, _*_, _/_, _%_, _<_, _≤_, min}
+use mathlib.Core.Path.{_≡_, refl, ap, _∙_}
+use mathlib.Core.Bool.{true, false}
+use mathlib.Core.List.{List, [], _∷_}
+use native.Mathlib.Omega.{arith}
+use native.Mathlib.Nat.{mod-eq-of-lt}
+use lib.ListN.{length, getD, set}
+use lib.Seq.{getD-set-other}
+use lib.Bits.{bitAnd}
+use borrow.Author.Tests.{lt-ltb, le-ltb, le-leb}
+use Rattle.types.specs.declared.Memory.the-variants.{Array}
+use Rattle.types.specs.declared.Operation.the-variants.{Program}
+use Rattle.types.specs.declared.Command.the-variants.{ReadStatus, WriteEnable, ChipErase, ArmReset, Reset, RowProgram}
+use Rattle.types.specs.declared.Decoded.the-variants.{Known}
+use Rattle.types.specs.declared.Effect.the-variants.{Programs}
+use Rattle.types.specs.declared.Identity.{Identity}
+use Rattle.types.specs.declared.Record.{Record}
+use Rattle.types.specs.declared.Answer.{Answer}
+use Rattle.types.specs.declared.Ticked.{Ticked}
+use Rattle.words.specs.Logic.{_and_, _or_, unless, _orElse_}
+use Rattle.paper.specs.Sizes.{sizeOk, blockBytes}
+use Rattle.paper.specs.Soundness.{sound, bitsOk}
+use Rattle.paper.specs.Numbers.{commandNumber, powerUpNumber}
+use Rattle.paper.specs.Table.{decoded, columns}
+use Rattle.paper.specs.Calls.{executed, ignored, poweredUp}
+use Rattle.paper.specs.Address.{highFirst, addressIn, rowOk, rowPlace}
+use Rattle.paper.specs.Program.{pageBase, pagePlace, passedCount, pageData, programOf, narrowed}
+use Rattle.paper.specs.Erase.{eraseOf}
+use Rattle.paper.specs.Commands.{begun, afterExecuted}
+use Rattle.paper.specs.Ticks.{worked, recordAfter, memoryAfter, workingTicks}
+use Rattle.paper.specs.Records.{marked, fresh}
+use Rattle.paper.specs.Protection.{codeOf, blocksAsked, protectedBlocks, protected, locked}
+use Rattle.paper.proofs.Sizes.{size-range}
+use Rattle.paper.proofs.Addresses.{in-page}
+use Rattle.paper.proofs.Soundness.{sound-parts}
+use Rattle.paper.proofs.Kept.{idle-sound}
+use Rattle.cases.proofs.Paper.{send, Ready, Free, Case1, Case2, Case3, Case4, Case5, Case6, Case7, Case8, Case9, Case10, Case11, Parts, Cases}
+use Rattle.cases.proofs.Answers.{executes, ignores, arm-number, read-status-number, reset-number}
+use Rattle.cases.proofs.EraseCut.{begins, runs, runs-on, halts, halted-arms, halted-resets}
+use Rattle.cases.proofs.Parts.{enabled, enabled-ready}
+use Rattle.cases.proofs.ProgramSent.{program-run, program-ticks, program-array, program-tick}
+
+abbrev number : Answer → ℕ
+number t = t .number
+
+powered : (id : Identity) (c k : ℕ) → poweredUp 16 id (c * 4) (k * 16) ≡ record { next = fresh 16 id (c * 4) (k * 16); number = 0 }
+unfolding poweredUp powerUpNumber sizeOk bitsOk _and_ _or_ unless _orElse_
+powered id c k =
+    let s : c * 4 % 4 ≡ 0 = omega arith in
+    let f : k * 16 % 16 ≡ 0 = omega arith in
+    rw (s, f)
+
+fresh-ready : (id : Identity) (st fn : ℕ) → Ready (fresh 16 id st fn)
+unfolding sizeOk _or_
+fresh-ready id st fn = record { is-sound = idle-sound 16 id st fn false false refl; idle = refl; awake = refl }
+
+parts : Parts
+parts id c k h =
+    let p = fresh 16 id (c * 4) (k * 16) in
+    let r : Ready p = fresh-ready id (c * 4) (k * 16) in
+    rw (powered id c k, enabled p r) (refl, r, enabled-ready p r, refl, refl, omega arith, omega arith)
+
+case-1 : Case1
+unfolding protected protectedBlocks blocksAsked _and_ _or_
+case-1 = (refl, refl)
+
+case-2 : Case2
+unfolding protected protectedBlocks blocksAsked _and_ _or_
+case-2 = (refl, refl)
+
+case-3 : Case3
+unfolding protected protectedBlocks blocksAsked _and_ _or_
+case-3 a h = rw (le-leb 0 (a / blockBytes) (omega arith), lt-ltb (a / blockBytes) 4 (omega arith))
+
+none-protected : (n k : ℕ) → protected 15 n k ≡ false
+unfolding protected protectedBlocks blocksAsked _and_ _or_
+none-protected n k =
+    let z : min n 0 ≡ 0 = omega arith in
+    rw (z, le-leb 0 k (omega arith), le-ltb k 0 (omega arith))
+
+chip-barred : (p : Record) → Ready p → codeOf (p .status) ≡ 15 → p .wel ≡ true → commandNumber (columns ChipErase) p (0xC7 ∷ []) true ≡ 28
+unfolding commandNumber _or_ unless _orElse_ eraseOf
+chip-barred p r c w = rw (r .awake, r .idle, w, c)
+
+case-4 : Case4
+unfolding decoded
+case-4 p r c w h m l d (n, most) = (
+  ap number (program-run p r w h m l d n most (rw c (none-protected (p .blocks) _))),
+  ap number (ignores p (r .is-sound) true ChipErase (0xC7 ∷ []) (omega arith) (omega arith) refl 27 (chip-barred p r c w)),
+)
+
+over-FF : (xs : List ℕ) (a d : ℕ) → getD xs a 0 ≡ 0xFF → narrowed xs a d ≡ set xs a (bitAnd 0xFF d)
+unfolding narrowed
+over-FF xs a d e = rw e
+
+-- PP at 0000FEh of 01 02 03
+abbrev three : List ℕ
+three = 0x01 ∷ 0x02 ∷ 0x03 ∷ []
+
+at-FE : (p : Record) → 1 ≤ p .blocks → addressIn p (0x02 ∷ 0x00 ∷ 0x00 ∷ 0xFE ∷ three) ≡ 0xFE
+unfolding addressIn highFirst
+at-FE p h = mod-eq-of-lt (omega arith)
+
+abbrev started : Record → Record
+started p = marked (begun p (Program Array 0x000000 0xFE 3 0) (pageData three)) false
+
+starts : (p : Record) → 1 ≤ p .blocks → afterExecuted (Programs Array) p (0x02 ∷ 0x00 ∷ 0x00 ∷ 0xFE ∷ three) ≡ started p
+unfolding programOf pagePlace
+starts p n = rw (at-FE p n)
+
+module _ (xs : List ℕ) (a : getD xs 0x0000FE 0 ≡ 0xFF) (b : getD xs 0x0000FF 0 ≡ 0xFF) (c : getD xs 0x000000 0 ≡ 0xFF) where
+  three-written : narrowed (narrowed (narrowed xs 0x0000FE 0x01) 0x0000FF 0x02) 0x000000 0x03 ≡ set (set (set xs 0x0000FE 0x01) 0x0000FF 0x02) 0x000000 0x03
+  three-written =
+      let ys = set xs 0x0000FE 0x01 in
+      let zs = set ys 0x0000FF 0x02 in
+      let y : getD ys 0x0000FF 0 ≡ 0xFF = getD-set-other xs 0x0000FE 0x0000FF 0x01 0 (omega arith) ∙ b in
+      let z : getD zs 0x000000 0 ≡ 0xFF = getD-set-other ys 0x0000FF 0x000000 0x02 0 (omega arith) ∙ getD-set-other xs 0x0000FE 0x000000 0x01 0 (omega arith) ∙ c in
+      rw (over-FF xs 0x0000FE 0x01 a, over-FF ys 0x0000FF 0x02 y, over-FF zs 0x000000 0x03 z)
+
+  three-run : (p : Record) → memoryAfter Array 3 (started p) xs ≡ set (set (set xs 0x0000FE 0x01) 0x0000FF 0x02) 0x000000 0x03
+  unfolding worked pagePlace pageData
+  three-run p = three-written
+
+case-5 : Case5
+unfolding worked
+case-5 p r w f xs l a b c =
+    let n : 1 ≤ p .blocks = size-range (p .blocks) (sound-parts p (r .is-sound) .size) .0 in
+    let g : Free (codeOf (p .status)) (p .blocks) (addressIn p (0x02 ∷ 0x00 ∷ 0x00 ∷ 0xFE ∷ three)) = rw (at-FE p n) f in (
+      ap number (program-run p r w 0x00 0x00 0xFE three (omega arith) (omega arith) g),
+      program-array p r w 0x00 0x00 0xFE three (omega arith) (omega arith) g xs l 3 (omega arith) ∙ ap (λ (q : Record). memoryAfter Array 3 q xs) (starts p n) ∙ three-run xs a b c p,
+      ap (λ (t : Ticked). t .next .phase) (program-ticks p r w 0x00 0x00 0xFE three (omega arith) (omega arith) g 3 (omega arith)) ∙ ap (λ (q : Record). recordAfter 3 q .phase) (starts p n),
+      ap (λ (t : Ticked). t .done) (program-ticks p r w 0x00 0x00 0xFE three (omega arith) (omega arith) g 4 (omega arith)) ∙ ap (workingTicks 4) (starts p n),
+    )
+
+offset-2 : (p : Record) (h m : ℕ) (d : List ℕ)
+    → let a = addressIn p (0x02 ∷ h ∷ m ∷ 0x00 ∷ d) in
+    pageBase a + pagePlace a 2 ≡ a + 2
+unfolding highFirst pagePlace
+offset-2 p h m d = omega (arith, in-page p (0x02 ∷ h ∷ m ∷ 0x00 ∷ d))
+
+case-6 : Case6
+unfolding narrowed
+case-6 p r w h m d n f xs e =
+    let two : passedCount d ≡ 2 = omega arith in (
+      ap number (program-run p r w h m 0x00 d (omega arith) (omega arith) f),
+      program-tick p r w h m 0x00 d (omega arith) (omega arith) f xs e ∙ rw (two, offset-2 p h m d),
+    )
+
+over-5A : (xs : List ℕ) (a : ℕ) → getD xs a 0 ≡ 0x5A → narrowed xs (pageBase a + pagePlace a 0) 0xA5 ≡ set xs a 0x00
+unfolding narrowed pagePlace
+over-5A xs a b =
+    let e : pageBase a + pagePlace a 0 ≡ a = omega arith in
+    rw (e, b)
+
+case-7 : Case7
+case-7 p r w h m l f xs e b = (
+  ap number (program-run p r w h m l (0xA5 ∷ []) (omega arith) (omega arith) f),
+  program-tick p r w h m l (0xA5 ∷ []) (omega arith) (omega arith) f xs e ∙ over-5A xs (addressIn p (0x02 ∷ h ∷ m ∷ l ∷ 0xA5 ∷ [])) b,
+)
+
+two-bytes : (p : Record) (b : ℕ) → Ready p → commandNumber (columns WriteEnable) p (0x06 ∷ b ∷ []) true ≡ 24
+unfolding commandNumber _or_ unless _orElse_
+two-bytes p b r = rw (r .awake, r .idle)
+
+case-8 : Case8
+unfolding decoded
+case-8 p r b = ap number (ignores p (r .is-sound) true WriteEnable (0x06 ∷ b ∷ []) (omega arith) (omega arith) refl 23 (two-bytes p b r))
+
+case-9 : Case9
+unfolding decoded sound unless
+case-9 p s e =
+    let a : send p (0x66 ∷ []) ≡ executed (columns ArmReset) p (0x66 ∷ []) = executes p s true ArmReset (0x66 ∷ []) (omega arith) (omega arith) refl (arm-number p e true) in
+    let b : send (marked p true) (0x05 ∷ []) ≡ executed (columns ReadStatus) (marked p true) (0x05 ∷ []) = executes (marked p true) s true ReadStatus (0x05 ∷ []) (omega arith) (omega arith) refl (read-status-number (marked p true) e true) in
+    let c : send (marked p false) (0x99 ∷ []) ≡ ignored (Known Reset) (marked p false) 25 1 = ignores (marked p false) s true Reset (0x99 ∷ []) (omega arith) (omega arith) refl 24 (reset-number (marked p false) e true false refl) in
+    rw (a, b, c) (refl, refl, refl)
+
+locked-row : (p : Record) → Ready p → p .wel ≡ true → locked (p .function) 1 ≡ true → (d : List ℕ) → 1 ≤ length d
+    → commandNumber (columns RowProgram) p (0x62 ∷ 0x00 ∷ 0x10 ∷ 0x00 ∷ d) true ≡ 28
+unfolding commandNumber _and_ _or_ unless _orElse_ rowOk rowPlace highFirst programOf
+locked-row p r w k d n = rw (r .awake, r .idle, le-leb 5 (length (0x62 ∷ 0x00 ∷ 0x10 ∷ 0x00 ∷ d)) (omega arith), w, k)
+
+no-row : (p : Record) → Ready p → p .wel ≡ true → (d : List ℕ) → 1 ≤ length d
+    → commandNumber (columns RowProgram) p (0x62 ∷ 0x00 ∷ 0x01 ∷ 0x00 ∷ d) true ≡ 27
+unfolding commandNumber _and_ _or_ unless _orElse_ rowOk highFirst
+no-row p r w d n = rw (r .awake, r .idle, le-leb 5 (length (0x62 ∷ 0x00 ∷ 0x01 ∷ 0x00 ∷ d)) (omega arith), w)
+
+case-10 : Case10
+unfolding decoded
+case-10 p r w k d (n, most) = (
+  ap number (ignores p (r .is-sound) true RowProgram (0x62 ∷ 0x00 ∷ 0x10 ∷ 0x00 ∷ d) (omega arith) (omega arith) refl 27 (locked-row p r w k d n)),
+  ap number (ignores p (r .is-sound) true RowProgram (0x62 ∷ 0x00 ∷ 0x01 ∷ 0x00 ∷ d) (omega arith) (omega arith) refl 26 (no-row p r w d n)),
+)
+
+case-11 : Case11
+case-11 p r has free m l hm hl xs e =
+    let k : 100 < 256 = omega arith in
+    rw (enabled p r, begins p r has free m l hm hl, runs p r has free 100 k, halts p r has free 100 k, halted-arms p r has free 100 k, halted-resets p r has free 100 k)
+    (refl, refl, refl, refl, refl, refl, refl, refl, refl, runs-on p r has free 100 xs k e)
+
+pub cases : Cases
+cases = (parts, case-1, case-2, case-3, case-4, case-5, case-6, case-7, case-8, case-9, case-10, case-11)

@@ -1,0 +1,7 @@
+pub mod Paper
+pub mod Answers
+pub mod Parts
+pub mod ProgramRun
+pub mod ProgramSent
+pub mod EraseCut
+pub mod Cases

@@ -1,0 +1,55 @@
+-- A ready part in another phase that keeps no page data: it is sound where the phase is, and 06h makes one of it.
+use Prim.Native.Nat.{ℕ}
+use mathlib.Core.Path.{_≡_, refl, sym, ap, _∙_}
+use mathlib.Core.Bool.{Bool, true, false}
+use mathlib.Core.List.{[], _∷_}
+use native.Mathlib.Omega.{arith}
+use lib.ListN.{drop}
+use Rattle.types.specs.declared.Phase.{Phase}
+use Rattle.types.specs.declared.Phase.the-variants.{Idle}
+use Rattle.types.specs.declared.Command.the-variants.{WriteEnable}
+use Rattle.types.specs.declared.Record.{Record}
+use Rattle.types.specs.declared.Answer.{Answer}
+use Rattle.words.specs.Logic.{_or_, unless, _orElse_}
+use Rattle.words.specs.Lists.{allZero}
+use Rattle.paper.specs.Records.{marked, settled}
+use Rattle.paper.specs.Soundness.{sound, latchOk, phaseOk, pageOk, keptIn}
+use Rattle.paper.specs.Numbers.{commandNumber}
+use Rattle.paper.specs.Table.{decoded, columns}
+use Rattle.paper.proofs.Soundness.{sound-parts, awake-ok}
+use Rattle.paper.proofs.MadeSound.{made-sound}
+use Rattle.cases.proofs.Paper.{send, Ready}
+use Rattle.cases.proofs.Answers.{executes}
+
+-- the part in another phase, with this latch and this armed mark
+abbrev pub turned : Record → Phase → Bool → Bool → Record
+turned p f wel armed = marked (settled p f wel (p .page)) armed
+
+-- the answer to a command that was executed and drove nothing
+abbrev pub did : Record → ℕ → Answer
+did q n = record { next = q; number = 0; first = n }
+
+module _ (p : Record) (r : Ready p) where
+  no-data : allZero (p .page) ≡ true
+  unfolding pageOk
+  no-data = ap (λ (f : Phase). pageOk f (p .page)) (sym (r .idle)) ∙ sound-parts p (r .is-sound) .page-ok
+
+  pub turned-sound : (f : Phase) (wel armed : Bool) → latchOk f wel ≡ true → phaseOk f (p .blocks) (p .status) (p .function) ≡ true → keptIn f ≡ 0
+      → sound (turned p f wel armed) ≡ true
+  unfolding pageOk
+  turned-sound f wel armed l o k =
+      made-sound (p .blocks) (p .identity) (p .status) (p .function) wel armed (p .asleep) f (p .page)
+      (sound-parts p (r .is-sound) .size) (rw (r .awake) (awake-ok f)) l o (ap (λ (n : ℕ). allZero (drop n (p .page))) k ∙ no-data)
+
+  enables : commandNumber (columns WriteEnable) p (0x06 ∷ []) true ≡ 0
+  unfolding commandNumber _or_ unless _orElse_
+  enables = rw (r .awake, r .idle)
+
+  pub enabled : send p (0x06 ∷ []) ≡ did (turned p Idle true false) 1
+  unfolding decoded
+  enabled =
+      executes p (r .is-sound) true WriteEnable (0x06 ∷ []) (omega arith) (omega arith) refl enables
+      ∙ ap (λ (f : Phase). did (turned p f true false) 1) (r .idle)
+
+  pub enabled-ready : Ready (turned p Idle true false)
+  enabled-ready = record { is-sound = turned-sound Idle true false refl refl refl; idle = refl; awake = r .awake }

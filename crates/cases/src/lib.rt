@@ -1,0 +1,1 @@
+// The cases worked on paper, proved against the definitions. It has no function.

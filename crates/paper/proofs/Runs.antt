@@ -1,0 +1,171 @@
+-- Runs of ticks, over any operation: the record, each memory and the working ticks after so many ticks.
+use Prim.Native.Nat.{ℕ, zero, suc, _+_, _-_, _≤_, _<_, min}
+use mathlib.Core.Path.{_≡_, refl, sym, ap, _∙_, subst⁻¹}
+use mathlib.Core.Bool.{Bool, true, false, cond, false≢true}
+use mathlib.Core.List.{List}
+use native.Mathlib.Omega.{arith}
+use native.Mathlib.Nat.{add-zero, add-suc}
+use native.Mathlib.Numerals.{add-one}
+use lib.Dec.{eqb, ltb}
+use borrow.Author.Tests.{ltb-true, ltb-false, lt-ltb, le-ltb, eq-eqb, ne-eqb}
+use Rattle.words.specs.Logic.{bit}
+use Rattle.types.specs.declared.Memory.{Memory}
+use Rattle.types.specs.declared.Operation.{Operation}
+use Rattle.types.specs.declared.Operation.the-variants.{Program, Erase, Write}
+use Rattle.types.specs.declared.Phase.{Phase}
+use Rattle.types.specs.declared.Phase.the-variants.{Idle, Busy, Suspended}
+use Rattle.types.specs.declared.Record.{Record}
+use Rattle.paper.specs.Registers.{statusAfter, functionAfter}
+use Rattle.paper.specs.Records.{isBusy, altered, goingOn}
+use Rattle.paper.specs.Operations.{ticksInAll, ticksDone, advancedBy, Touch, none, nextTouch, touched}
+use Rattle.paper.specs.Ticks.{finished, worked, tickedIn, tickOnce, touchIn, touchOf, works, recordAfter, memoryAfter, workingTicks, ran}
+
+-- an operation with ticks more done
+pub by-none : (o : Operation) → advancedBy 0 o ≡ o
+by-none (Program m b s k d) = ap (Program m b s k) (add-zero d)
+by-none (Erase u b d) = ap (Erase u b) (add-zero d)
+by-none (Write r v) = refl
+
+by-more : (t : ℕ) (o : Operation) → advancedBy 1 (advancedBy t o) ≡ advancedBy (suc t) o
+by-more t (Program m b s k d) = let e : d + t + 1 ≡ d + suc t = omega arith in ap (Program m b s k) e
+by-more t (Erase u b d) = let e : d + t + 1 ≡ d + suc t = omega arith in ap (Erase u b) e
+by-more t (Write r v) = refl
+
+by-all : (t : ℕ) (o : Operation) (n : ℕ) → ticksInAll (advancedBy t o) n ≡ ticksInAll o n
+by-all t (Program m b s k d) n = refl
+by-all t (Erase u b d) n = refl
+by-all t (Write r v) n = refl
+
+by-done : (t : ℕ) (o : Operation) (n : ℕ) → ticksDone o + t < ticksInAll o n → ticksDone (advancedBy t o) ≡ ticksDone o + t
+by-done t (Program m b s k d) n h = refl
+by-done t (Erase u b d) n h = refl
+by-done t (Write r v) n h = omega arith
+
+by-status : (t : ℕ) (o : Operation) (status : ℕ) → statusAfter (advancedBy t o) status ≡ statusAfter o status
+by-status t (Program m b s k d) status = refl
+by-status t (Erase u b d) status = refl
+by-status t (Write r v) status = refl
+
+by-function : (t : ℕ) (o : Operation) (function : ℕ) → functionAfter (advancedBy t o) function ≡ functionAfter o function
+by-function t (Program m b s k d) function = refl
+by-function t (Erase u b d) function = refl
+by-function t (Write r v) function = refl
+
+-- a tick of a busy part that is not the last, and the last
+module _ (p : Record) (o : Operation) where
+  tick-more : ticksDone o + 1 < ticksInAll o (p .blocks) → tickOnce (goingOn p o) ≡ goingOn p (advancedBy 1 o)
+  unfolding worked
+  tick-more h = rw (lt-ltb _ _ h)
+
+  tick-last : ticksInAll o (p .blocks) ≤ ticksDone o + 1 → tickOnce (goingOn p o) ≡ finished p o
+  unfolding worked
+  tick-last h = rw (le-ltb _ _ h)
+
+-- a part that is busy with an operation
+module _ (p : Record) (o : Operation) (e : p .phase ≡ Busy o) where
+  -- its record after k ticks that are not the last: so many ticks more are done
+  pub run-record : (k : ℕ) → ticksDone o + k < ticksInAll o (p .blocks) → recordAfter k p ≡ goingOn p (advancedBy k o)
+  run-record zero h = ap (altered p (p .armed) (p .asleep)) (e ∙ ap Busy (sym (by-none o)))
+  run-record (suc k) h =
+      let d : ticksDone (advancedBy k o) ≡ ticksDone o + k = by-done k o (p .blocks) (omega arith) in
+      ap tickOnce (run-record k (omega arith))
+      ∙ tick-more p (advancedBy k o) (omega (arith, by-all k o (p .blocks)))
+      ∙ ap (goingOn p) (by-more k o)
+
+  -- and after the last
+  pub run-last : (k : ℕ) → ticksDone o + suc k ≡ ticksInAll o (p .blocks) → recordAfter (suc k) p ≡ finished p o
+  run-last k h =
+      let d : ticksDone (advancedBy k o) ≡ ticksDone o + k = by-done k o (p .blocks) (omega arith) in
+      ap tickOnce (run-record k (omega arith))
+      ∙ tick-last p (advancedBy k o) (omega (arith, by-all k o (p .blocks)))
+      ∙ rw (by-status k o (p .status), by-function k o (p .function))
+
+  -- ticks past the last change nothing
+  pub run-past : (k j : ℕ) → ticksDone o + suc k ≡ ticksInAll o (p .blocks) → recordAfter (suc k + j) p ≡ finished p o
+  run-past k zero h = rw add-zero (run-last k h)
+  run-past k (suc j) h = rw add-suc (ap tickOnce (run-past k j h))
+
+  -- what k ticks reach
+  run-touch : (k : ℕ) → ticksDone o + k < ticksInAll o (p .blocks) → touchOf (recordAfter k p) ≡ nextTouch (advancedBy k o) (p .page)
+  run-touch k h = ap touchOf (run-record k h)
+
+  pub run-memory : (m : Memory) (xs : List ℕ) (k : ℕ) → ticksDone o + k ≤ ticksInAll o (p .blocks) → memoryAfter m k p xs ≡ ran m k o (p .page) xs
+  run-memory m xs zero h = refl
+  run-memory m xs (suc k) h = rw (run-touch k (omega arith), run-memory m xs k (omega arith))
+
+  pub run-memory-past : (m : Memory) (xs : List ℕ) (k j : ℕ) → ticksDone o + suc k ≡ ticksInAll o (p .blocks) → memoryAfter m (suc k + j) p xs ≡ ran m (suc k) o (p .page) xs
+  run-memory-past m xs k zero h = rw add-zero (run-memory m xs (suc k) (omega arith))
+  run-memory-past m xs k (suc j) h =
+      rw add-suc (ap (λ (q : Record). touched m (touchOf q) (memoryAfter m (suc k + j) p xs)) (run-past k j h) ∙ run-memory-past m xs k j h)
+
+  -- each of them does work, those past the last none
+  pub run-works : (k : ℕ) → ticksDone o + k ≤ ticksInAll o (p .blocks) → workingTicks k p ≡ k
+  run-works zero h = refl
+  run-works (suc k) h =
+      let w : works (recordAfter k p) ≡ 1 = ap works (run-record k (omega arith)) in
+      rw (w, run-works k (omega arith), add-one)
+
+  pub run-works-past : (k j : ℕ) → ticksDone o + suc k ≡ ticksInAll o (p .blocks) → workingTicks (suc k + j) p ≡ suc k
+  run-works-past k zero h = rw add-zero (run-works (suc k) (omega arith))
+  run-works-past k (suc j) h =
+      let w : works (recordAfter (suc k + j) p) ≡ 0 = ap works (run-past k j h) in
+      rw (add-suc) (rw (w, run-works-past k j h) (add-zero (suc k)))
+
+  -- n ticks, of which k find something left to do
+  pub record Ran (n k : ℕ) : Type 0 where
+    pub next : recordAfter n p ≡ cond (eqb k (ticksInAll o (p .blocks) - ticksDone o)) (finished p o) (goingOn p (advancedBy k o))
+    pub memory : (m : Memory) (xs : List ℕ) → memoryAfter m n p xs ≡ ran m k o (p .page) xs
+    pub done : workingTicks n p ≡ k
+
+  ran-short : (n : ℕ) → ticksDone o + n < ticksInAll o (p .blocks) → Ran n n
+  ran-short n h =
+      let l : n ≡ ticksInAll o (p .blocks) - ticksDone o → ⊥ = λ q. omega arith in
+      record { next = rw (ne-eqb _ _ l) (run-record n h); memory = λ m xs. run-memory m xs n (omega arith); done = run-works n (omega arith) }
+
+  ran-whole : (k j : ℕ) → ticksDone o + suc k ≡ ticksInAll o (p .blocks) → Ran (suc k + j) (suc k)
+  ran-whole k j h =
+      let l : suc k ≡ ticksInAll o (p .blocks) - ticksDone o = omega arith in
+      record { next = rw (eq-eqb _ _ l) (run-past k j h); memory = λ m xs. run-memory-past m xs k j h; done = run-works-past k j h }
+
+  ran-by : (n k : ℕ) (t : Bool) → ltb n (ticksInAll o (p .blocks) - ticksDone o) ≡ t → ticksDone o < ticksInAll o (p .blocks) → k ≡ min n (ticksInAll o (p .blocks) - ticksDone o) → Ran n k
+  ran-by n k true q g e =
+      let h : n < ticksInAll o (p .blocks) - ticksDone o = ltb-true _ _ q in
+      let w : k ≡ n = omega arith in
+      rw w (ran-short n (omega arith))
+  ran-by n k false q g e =
+      let h : ticksInAll o (p .blocks) - ticksDone o ≤ n = ltb-false _ _ q in
+      let l : k ≡ suc (k - 1) = omega arith in
+      let w : n ≡ suc (k - 1) + (n - k) = omega arith in
+      subst⁻¹ (λ (x : ℕ). Ran x k) w (subst⁻¹ (λ (x : ℕ). Ran (suc (k - 1) + (n - k)) x) l (ran-whole (k - 1) (n - k) (omega arith)))
+
+  pub ran-all : (n k : ℕ) → ticksDone o < ticksInAll o (p .blocks) → k ≡ min n (ticksInAll o (p .blocks) - ticksDone o) → Ran n k
+  ran-all n k g e = ran-by n k _ refl g e
+
+-- a part that is not busy: ticks change nothing and do no work
+module _ (p : Record) where
+  rest-next : (f : Phase) → isBusy f ≡ false → tickedIn p f ≡ p
+  rest-next Idle e = refl
+  rest-next (Suspended o) e = refl
+  rest-next (Busy o) e = absurd (false≢true (sym e))
+
+  rest-touch : (f : Phase) → isBusy f ≡ false → touchIn f (p .page) ≡ none
+  rest-touch Idle e = refl
+  rest-touch (Suspended o) e = refl
+  rest-touch (Busy o) e = absurd (false≢true (sym e))
+
+  module _ (e : isBusy (p .phase) ≡ false) where
+    pub rest-record : (n : ℕ) → recordAfter n p ≡ p
+    rest-record zero = refl
+    rest-record (suc n) = ap tickOnce (rest-record n) ∙ rest-next (p .phase) e
+
+    pub rest-memory : (m : Memory) (xs : List ℕ) (n : ℕ) → memoryAfter m n p xs ≡ xs
+    rest-memory m xs zero = refl
+    rest-memory m xs (suc n) =
+        let t : touchOf (recordAfter n p) ≡ none = ap touchOf (rest-record n) ∙ rest-touch (p .phase) e in
+        ap (λ (w : Touch). touched m w (memoryAfter m n p xs)) t ∙ rest-memory m xs n
+
+    pub rest-works : (n : ℕ) → workingTicks n p ≡ 0
+    rest-works zero = refl
+    rest-works (suc n) =
+        let w : works (recordAfter n p) ≡ 0 = ap works (rest-record n) ∙ ap bit e in
+        rw (w, rest-works n)
