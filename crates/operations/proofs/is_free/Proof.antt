@@ -1,0 +1,27 @@
+-- `operations::is_free` meets its contract: each arm is a clause of the definition.
+use borrow.Author.Needs.{needs}
+use Rattle.operations.proofs.is_free.Statement.{statement}
+use Rattle.operations.proofs.is_free.Tie as tie
+
+enum-told : tie.Need-enum-told
+enum-told c = search needs
+
+is-protected-requires : tie.Need-is-protected-requires
+is-protected-requires c κs = search needs
+
+enum-told-2 : tie.Need-enum-told-2
+enum-told-2 c = search needs
+
+is-locked-requires : tie.Need-is-locked-requires
+is-locked-requires c κs = search needs
+
+returns : tie.Need-returns
+returns c = rw (c .before .enum-told .given .1, c .is-protected .ensures)
+
+returns-2 : tie.Need-returns-2
+returns-2 c = rw (c .before .enum-told2 .given .1, c .is-locked .ensures)
+
+pub is-free-spec : {M : Type 1} → statement M
+is-free-spec =
+    tie.close
+    (tie.spec enum-told is-protected-requires enum-told-2 is-locked-requires returns returns-2)

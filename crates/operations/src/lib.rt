@@ -1,0 +1,196 @@
+// An operation: its ticks, its target, and what it keeps.
+ghost use mathlib.Core.Path.{_≡_};
+ghost use Prim.Native.Nat.{_+_};
+ghost use lib.Dec.{leb};
+ghost use Rattle.paper.specs.Sizes.{memoryBytes};
+ghost use Rattle.paper.specs.Registers.{held};
+ghost use Rattle.paper.specs.Operations.{ticksInAll, ticksDone, aligned, inside, free, unitFree, targetFree, memorySuspends, unitSuspends, canSuspend, keptBy};
+ghost use Rattle.paper.specs.Soundness.{contentOk, operationOk};
+use types::EraseUnit;
+use types::Memory;
+use types::Operation;
+use types::Register;
+
+// The ticks that an operation takes in all on a part of so many blocks.
+pub fn ticks_in_all(op: Operation, blocks: u16) -> usize
+    ensures { λ r. ⌜ r ≡ ticksInAll op blocks ⌝ }
+{
+    match op {
+        Operation::Program { count, .. } => count,
+        Operation::Erase { unit, .. } => pages::unit_pages(unit, blocks),
+        Operation::Write { .. } => 1,
+    }
+}
+
+// Its ticks done.
+pub fn ticks_done(op: Operation) -> usize
+    ensures { λ r. ⌜ r ≡ ticksDone op ⌝ }
+{
+    match op {
+        Operation::Program { done, .. } => done,
+        Operation::Erase { done, .. } => done,
+        Operation::Write { .. } => 0,
+    }
+}
+
+// How many bytes of page data it keeps.
+pub fn kept_by(op: Operation) -> usize
+    ensures { λ r. ⌜ r ≡ keptBy op ⌝ }
+{
+    match op {
+        Operation::Program { count: kept, .. } => kept,
+        Operation::Erase { .. } => 0,
+        Operation::Write { .. } => 0,
+    }
+}
+
+fn memory_suspends(memory: Memory) -> bool
+    ensures { λ r. ⌜ r ≡ memorySuspends memory ⌝ }
+{
+    match memory {
+        Memory::Array => true,
+        Memory::Rows => false,
+    }
+}
+
+fn unit_suspends(unit: EraseUnit) -> bool
+    ensures { λ r. ⌜ r ≡ unitSuspends unit ⌝ }
+{
+    match unit {
+        EraseUnit::Sector => true,
+        EraseUnit::Block32 => true,
+        EraseUnit::Block64 => true,
+        EraseUnit::Chip => false,
+        EraseUnit::Row => false,
+    }
+}
+
+// Whether it can be suspended: PP, SER, BER32 and BER64 can.
+pub fn can_suspend(op: Operation) -> bool
+    ensures { λ r. ⌜ r ≡ canSuspend op ⌝ }
+{
+    match op {
+        Operation::Program { memory, .. } => memory_suspends(memory),
+        Operation::Erase { unit, .. } => unit_suspends(unit),
+        Operation::Write { .. } => false,
+    }
+}
+
+// The byte that a write of a register holds: the bits that it does not store are zero.
+pub fn held_byte(register: Register, byte: u8) -> u8
+    ensures { λ r. ⌜ r ≡ held register byte ⌝ }
+{
+    match register {
+        Register::Status => byte / 4 * 4,
+        Register::Function => byte / 16 * 16,
+    }
+}
+
+fn is_aligned(op: Operation, blocks: u16) -> bool
+    ensures { λ r. ⌜ r ≡ aligned op blocks ⌝ }
+{
+    match op {
+        Operation::Program { base, .. } => base / 256 * 256 == base,
+        Operation::Erase { unit, base, .. } => pages::unit_base(unit, blocks, base) == base,
+        Operation::Write { .. } => true,
+    }
+}
+
+fn memory_bytes(memory: Memory, blocks: u16) -> usize
+    ensures { λ r. ⌜ r ≡ memoryBytes memory blocks ⌝ }
+{
+    match memory {
+        Memory::Array => (blocks as usize) * 65536,
+        Memory::Rows => 1024,
+    }
+}
+
+// Whether size bytes from a base on end within all.
+fn ends_within(base: usize, size: usize, all: usize) -> bool
+    ensures { λ r. ⌜ r ≡ leb (base + size) all ⌝ }
+{
+    if all < size {
+        return false;
+    }
+    base <= all - size
+}
+
+fn is_inside(op: Operation, blocks: u16) -> bool
+    ensures { λ r. ⌜ r ≡ inside op blocks ⌝ }
+{
+    match op {
+        Operation::Program { memory, base, .. } => ends_within(
+            base,
+            256,
+            memory_bytes(memory, blocks),
+        ),
+        Operation::Erase { unit, base, .. } => {
+            let size = pages::unit_pages(unit, blocks) * 256;
+            ends_within(base, size, memory_bytes(pages::unit_memory(unit), blocks))
+        }
+        Operation::Write { .. } => true,
+    }
+}
+
+fn is_free(memory: Memory, base: usize, blocks: u16, status: u8, function: u8) -> bool
+    ensures { λ r. ⌜ r ≡ free memory base blocks status function ⌝ }
+{
+    match memory {
+        Memory::Array => !protection::is_protected(status / 4 % 16, blocks, base / 65536),
+        Memory::Rows => !protection::is_locked(function, base / 256),
+    }
+}
+
+fn is_unit_free(unit: EraseUnit, base: usize, blocks: u16, status: u8, function: u8) -> bool
+    ensures { λ r. ⌜ r ≡ unitFree unit base blocks status function ⌝ }
+{
+    match unit {
+        EraseUnit::Sector => is_free(Memory::Array, base, blocks, status, function),
+        EraseUnit::Block32 => is_free(Memory::Array, base, blocks, status, function),
+        EraseUnit::Block64 => is_free(Memory::Array, base, blocks, status, function),
+        EraseUnit::Chip => status / 4 % 16 == 0,
+        EraseUnit::Row => is_free(Memory::Rows, base, blocks, status, function),
+    }
+}
+
+// Whether its target is unprotected or unlocked under the registers.
+pub fn target_free(op: Operation, blocks: u16, status: u8, function: u8) -> bool
+    ensures { λ r. ⌜ r ≡ targetFree op blocks status function ⌝ }
+{
+    match op {
+        Operation::Program { memory, base, .. } => is_free(memory, base, blocks, status, function),
+        Operation::Erase { unit, base, .. } => is_unit_free(unit, base, blocks, status, function),
+        Operation::Write { .. } => true,
+    }
+}
+
+fn content_ok(op: Operation) -> bool
+    ensures { λ r. ⌜ r ≡ contentOk op ⌝ }
+{
+    match op {
+        Operation::Program { start, count, .. } => {
+            let some = 1 <= count;
+            let few = count <= 256;
+            let in_page = (start as usize) < 256;
+            words::both(some, words::both(few, in_page))
+        }
+        Operation::Erase { .. } => true,
+        Operation::Write { register, value } => held_byte(register, value) == value,
+    }
+}
+
+// Whether a part of so many blocks with these registers can be at an operation: its target is aligned,
+// inside the part and free, its ticks done are fewer than all, and what it holds is in order.
+pub fn operation_ok(op: Operation, blocks: u16, status: u8, function: u8) -> bool
+    ensures { λ r. ⌜ r ≡ operationOk op blocks status function ⌝ }
+{
+    let begins = is_aligned(op, blocks);
+    let within = is_inside(op, blocks);
+    let open = target_free(op, blocks, status, function);
+    let going = ticks_done(op) < ticks_in_all(op, blocks);
+    let content = content_ok(op);
+    words::both(
+        begins,
+        words::both(within, words::both(open, words::both(going, content))),
+    )
+}

@@ -1,0 +1,21 @@
+-- `record::bits_ok` meets its contract: it joins the two tests as the definition does.
+use borrow.Author.Needs.{needs}
+use Rattle.paper.specs.Soundness.{bitsOk}
+use Rattle.record.proofs.bits_ok.Statement.{statement}
+use Rattle.record.proofs.bits_ok.Tie as tie
+
+status-low-requires : tie.Need-status-low-requires
+status-low-requires c κs = search needs
+
+function-low-requires : tie.Need-function-low-requires
+function-low-requires c κs = search needs
+
+both-requires : tie.Need-both-requires
+both-requires c κs = search needs
+
+returns : tie.Need-returns
+unfolding bitsOk
+returns c = rw (c .both .ensures, c .before .function-low .ensures, c .before .before .status-low .ensures)
+
+pub bits-ok-spec : {M : Type 1} → statement M
+bits-ok-spec = tie.close (tie.spec status-low-requires function-low-requires both-requires returns)

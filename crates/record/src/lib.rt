@@ -1,0 +1,244 @@
+// The record: how it is made, when it is sound, and power-up.
+ghost use mathlib.Core.Path.{_≡_};
+ghost use Prim.Native.Nat.{_+_, _*_};
+ghost use lib.ListN.{drop};
+ghost use Rattle.words.specs.Logic.{bit};
+ghost use Rattle.words.specs.Lists.{allZero};
+ghost use Rattle.paper.specs.Program.{noData};
+ghost use Rattle.paper.specs.Records.{isIdle, isErase, isProgram, wip, statusLow, functionLow, made, fresh};
+ghost use Rattle.paper.specs.Soundness.{sleepOk, latchOk, phaseOk, bitsOk, keptIn, pageOk, sound};
+ghost use Rattle.paper.specs.Numbers.{powerUpNumber};
+ghost use Rattle.paper.specs.Calls.{poweredUp};
+use types::Identity;
+use types::Operation;
+use types::Phase;
+use types::PoweredUp;
+use types::Record;
+use types::Register;
+
+// Page data of no program: all zero.
+pub fn no_data() -> [u8; 256]
+    ensures { λ r. ⌜ r ≡ noData ⌝ }
+{
+    [0u8; 256]
+}
+
+fn bit_of(test: bool) -> u8
+    ensures { λ r. ⌜ r ≡ bit test ⌝ }
+{
+    if test { 1 } else { 0 }
+}
+
+fn wip_of(phase: Phase) -> u8
+    ensures { λ r. ⌜ r ≡ wip phase ⌝ }
+{
+    match phase {
+        Phase::Idle => 0,
+        Phase::Busy(_) => 1,
+        Phase::Suspended(_) => 0,
+    }
+}
+
+// WEL and WIP at bits 1 and 0.
+fn status_low(phase: Phase, wel: bool) -> u8
+    ensures { λ r. ⌜ r ≡ statusLow phase wel ⌝ }
+{
+    2 * bit_of(wel) + wip_of(phase)
+}
+
+fn suspended_bits(op: Operation) -> u8
+    ensures { λ r. ⌜ r ≡ 8 * bit (isErase op) + 4 * bit (isProgram op) ⌝ }
+{
+    match op {
+        Operation::Program { .. } => 4,
+        Operation::Erase { .. } => 8,
+        Operation::Write { .. } => 0,
+    }
+}
+
+// ESUS and PSUS at bits 3 and 2.
+fn function_low(phase: Phase) -> u8
+    ensures { λ r. ⌜ r ≡ functionLow phase ⌝ }
+{
+    match phase {
+        Phase::Idle => 0,
+        Phase::Busy(_) => 0,
+        Phase::Suspended(op) => suspended_bits(op),
+    }
+}
+
+// A record with the stored bits of its registers. The bits that other fields define go by those.
+pub fn make(
+    blocks: u16,
+    identity: Identity,
+    status: u8,
+    function: u8,
+    wel: bool,
+    armed: bool,
+    asleep: bool,
+    phase: Phase,
+    page: [u8; 256],
+) -> Record
+    ensures { λ r. ⌜ r ≡ made blocks identity status function wel armed asleep phase page ⌝ }
+{
+    let stored_status = operations::held_byte(Register::Status, status);
+    let low_status = status_low(phase, wel);
+    let stored_function = operations::held_byte(Register::Function, function);
+    let low_function = function_low(phase);
+    Record {
+        blocks: blocks,
+        identity: identity,
+        status: stored_status + low_status,
+        function: stored_function + low_function,
+        wel: wel,
+        armed: armed,
+        asleep: asleep,
+        phase: phase,
+        page: page,
+    }
+}
+
+// An idle, awake, unarmed record with WEL 0 and page data zero.
+pub fn make_fresh(blocks: u16, identity: Identity, status: u8, function: u8) -> Record
+    ensures { λ r. ⌜ r ≡ fresh blocks identity status function ⌝ }
+{
+    make(
+        blocks,
+        identity,
+        status,
+        function,
+        false,
+        false,
+        false,
+        Phase::Idle,
+        no_data(),
+    )
+}
+
+fn is_idle(phase: Phase) -> bool
+    ensures { λ r. ⌜ r ≡ isIdle phase ⌝ }
+{
+    match phase {
+        Phase::Idle => true,
+        Phase::Busy(_) => false,
+        Phase::Suspended(_) => false,
+    }
+}
+
+fn latch_ok(phase: Phase, wel: bool) -> bool
+    ensures { λ r. ⌜ r ≡ latchOk phase wel ⌝ }
+{
+    match phase {
+        Phase::Idle => true,
+        Phase::Busy(_) => wel,
+        Phase::Suspended(_) => !wel,
+    }
+}
+
+fn phase_ok(phase: Phase, blocks: u16, status: u8, function: u8) -> bool
+    ensures { λ r. ⌜ r ≡ phaseOk phase blocks status function ⌝ }
+{
+    match phase {
+        Phase::Idle => true,
+        Phase::Busy(op) => operations::operation_ok(op, blocks, status, function),
+        Phase::Suspended(op) => {
+            let halts = operations::can_suspend(op);
+            words::both(
+                halts,
+                operations::operation_ok(op, blocks, status, function),
+            )
+        }
+    }
+}
+
+fn bits_ok(phase: Phase, wel: bool, status: u8, function: u8) -> bool
+    ensures { λ r. ⌜ r ≡ bitsOk phase wel status function ⌝ }
+{
+    let latches = status % 4 == status_low(phase, wel);
+    let marks = function % 16 == function_low(phase);
+    words::both(latches, marks)
+}
+
+fn kept_in(phase: Phase) -> usize
+    ensures { λ r. ⌜ r ≡ keptIn phase ⌝ }
+{
+    match phase {
+        Phase::Idle => 0,
+        Phase::Busy(op) => operations::kept_by(op),
+        Phase::Suspended(op) => operations::kept_by(op),
+    }
+}
+
+// Whether all bytes from a place on are 0. It looks at each of them, with no early exit.
+fn zero_from(bytes: &[u8], from: usize) -> bool
+    ensures { λ r. ⌜ r ≡ allZero (drop from (now (bytes .entry))) ⌝ }
+{
+    let mut any: u8 = 0;
+    let mut i = from;
+    while i < bytes.len() {
+        any = any | bytes[i];
+        i += 1;
+    }
+    any == 0
+}
+
+fn page_ok(phase: Phase, page: [u8; 256]) -> bool
+    ensures { λ r. ⌜ r ≡ pageOk phase page ⌝ }
+{
+    zero_from(&page, kept_in(phase))
+}
+
+// Whether a record is sound.
+pub fn is_sound(part: Record) -> bool
+    ensures { λ r. ⌜ r ≡ sound part ⌝ }
+{
+    let phase = part.phase;
+    let page = part.page;
+    let size = sizes::size_ok(part.blocks as u64);
+    let sleep = words::either(is_idle(phase), !part.asleep);
+    let latch = latch_ok(phase, part.wel);
+    let operation = phase_ok(phase, part.blocks, part.status, part.function);
+    let bits = bits_ok(phase, part.wel, part.status, part.function);
+    let kept = page_ok(phase, page);
+    words::both(
+        size,
+        words::both(
+            sleep,
+            words::both(latch, words::both(operation, words::both(bits, kept))),
+        ),
+    )
+}
+
+fn power_up_number(blocks: u16, status: u8, function: u8) -> u8
+    ensures { λ r. ⌜ r ≡ powerUpNumber blocks status function ⌝ }
+{
+    let size = words::number_unless(sizes::size_ok(blocks as u64), 1);
+    let bits = bits_ok(Phase::Idle, false, status, function);
+    words::or_else(size, words::number_unless(bits, 5))
+}
+
+// Power-up: an idle, awake, unarmed record with WEL 0 and page data zero; refused, with 1 or 5, an idle
+// 1-block record, all else zero.
+pub fn power_up(blocks: u16, identity: Identity, status: u8, function: u8) -> PoweredUp
+    ensures { λ r. ⌜ r ≡ poweredUp blocks identity status function ⌝ }
+{
+    let number = power_up_number(blocks, status, function);
+    if number != 0 {
+        let none = Identity {
+            maker: 0,
+            kind: 0,
+            capacity: 0,
+            device: 0,
+        };
+        let next = make_fresh(1, none, 0, 0);
+        return PoweredUp {
+            next: next,
+            number: number,
+        };
+    }
+    let next = make_fresh(blocks, identity, status, function);
+    PoweredUp {
+        next: next,
+        number: 0,
+    }
+}
