@@ -1,19 +1,15 @@
 -- `address::address_sent` meets its contract: the part that is lent on is as many bytes after the first as were asked for and are there.
 use Prim.Native.Nat.{_+_, _-_, _≤_, min}
-use mathlib.Core.Path.{_≡_, refl, _∙_}
+use mathlib.Core.Path.{_≡_, _∙_}
 use native.Mathlib.Omega.{arith}
 use lib.Seq.{take-nil}
-use lib.ListN.{length, take, drop, length-drop, drop-of-length-le}
+use lib.ListN.{length, drop, length-drop, drop-of-length-le}
 use denote.Ref.{now}
 use borrow.Author.Needs.{needs}
-use Rattle.paper.specs.Address.{highFirst, addressBytes}
+use Rattle.paper.specs.Address.{highFirst}
 use Rattle.words.proofs.Lists.{take-min}
-use Rattle.words.proofs.lesser.Reads as lesser-reads
 use Rattle.address.proofs.address_sent.Statement.{statement}
 use Rattle.address.proofs.address_sent.Tie as tie
-use Rattle.address.proofs.address_sent.Reads as reads
-use Rattle.address.proofs.address_sent.Lts as lts
-use Rattle.address.proofs.high_first.Reads as high-first-reads
 
 returns : tie.Need-returns
 unfolding highFirst

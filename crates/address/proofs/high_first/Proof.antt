@@ -1,7 +1,6 @@
 -- `address::high_first` meets its contract. The loop's invariant: the number is that of the bytes passed; seven bytes leave room for one more.
-use Prim.Native.Nat.{ℕ}
-use Prim.Native.Nat.{_≤_, _<_, _-_}
-use mathlib.Core.Path.{_≡_, refl, sym, _∙_}
+use Prim.Native.Nat.{ℕ, _≤_, _<_, _-_}
+use mathlib.Core.Path.{_≡_, sym, _∙_}
 use native.Mathlib.Numerals.{add-one}
 use native.Mathlib.Omega.{arith}
 use lib.Seq.{take-length}
@@ -12,9 +11,6 @@ use Rattle.paper.proofs.Addresses.{high-first-none, high-first-more, high-first
 use Rattle.paper.specs.Address.{highFirst}
 use Rattle.address.proofs.high_first.Statement.{statement}
 use Rattle.address.proofs.high_first.Tie as tie
-use Rattle.address.proofs.high_first.Reads as reads
-use Rattle.address.proofs.high_first.Lts as lts
-use Rattle.address.proofs.wide.Reads as wide-reads
 
 abbrev Inv-loop : tie.InvT-loop
 Inv-loop bytes number₀ i₀ number i = (number ≡ highFirst (take i bytes)) × (i ≤ length bytes)

@@ -1,15 +1,10 @@
 -- `cbench::yawlspar_page_place` meets its contract: the two tests are the definition's, and the place is the page's.
-use mathlib.Core.Path.{_∙_}
-use native.Mathlib.Omega.{arith}
 use borrow.Author.Tests.{lt-ltb, le-ltb}
 use borrow.Author.Needs.{needs}
 use Rattle.paper.specs.CBench.{placeAnswer}
 use Rattle.words.specs.Logic.{_and_}
-use Rattle.pages.proofs.page_place.Reads as page-place-reads
 use Rattle.cbench.proofs.yawlspar_page_place.Statement.{statement}
 use Rattle.cbench.proofs.yawlspar_page_place.Tie as tie
-use Rattle.cbench.proofs.yawlspar_page_place.Reads as reads
-use Rattle.cbench.proofs.yawlspar_page_place.Lts as lts
 
 returns : tie.Need-returns
 unfolding placeAnswer _and_

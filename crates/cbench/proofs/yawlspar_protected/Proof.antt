@@ -5,12 +5,8 @@ use borrow.Author.Tests.{eq-eqb, ne-eqb}
 use borrow.Author.Needs.{needs}
 use Rattle.paper.proofs.CBench.{answerable}
 use Rattle.paper.specs.CBench.{protectedAnswer}
-use Rattle.protection.proofs.is_protected.Reads as is-protected-reads
 use Rattle.cbench.proofs.yawlspar_protected.Statement.{statement}
 use Rattle.cbench.proofs.yawlspar_protected.Tie as tie
-use Rattle.cbench.proofs.yawlspar_protected.Reads as reads
-use Rattle.cbench.proofs.yawlspar_protected.Lts as lts
-use Rattle.cbench.proofs.yawlspar_protection_number.Reads as yawlspar-protection-number-reads
 
 yawlspar-protection-number-requires : tie.Need-yawlspar-protection-number-requires
 yawlspar-protection-number-requires c κs = search needs

@@ -1,14 +1,8 @@
 -- `cbench::yawlspar_protection_number` meets its contract: it joins the two tests in the paper's order.
-use native.Mathlib.Omega.{arith}
 use borrow.Author.Needs.{needs}
 use Rattle.paper.specs.CBench.{protectionNumber}
-use Rattle.sizes.proofs.size_ok.Reads as size-ok-reads
-use Rattle.words.proofs.number_unless.Reads as number-unless-reads
-use Rattle.words.proofs.or_else.Reads as or-else-reads
 use Rattle.cbench.proofs.yawlspar_protection_number.Statement.{statement}
 use Rattle.cbench.proofs.yawlspar_protection_number.Tie as tie
-use Rattle.cbench.proofs.yawlspar_protection_number.Reads as reads
-use Rattle.cbench.proofs.yawlspar_protection_number.Lts as lts
 
 size-ok-requires : tie.Need-size-ok-requires
 size-ok-requires c κs = search needs

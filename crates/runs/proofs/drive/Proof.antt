@@ -1,25 +1,16 @@
 -- `runs::drive` meets its contract. The loop's invariant: so many places from the first on are laid, and the source stands where they end.
-use Prim.Native.Nat.{ℕ, _+_, _≤_, _<_, _-_, _%_, min}
-use mathlib.Core.List.{_++_, append-nil}
+use Prim.Native.Nat.{_+_, _≤_, _<_, _-_, _%_}
 use mathlib.Core.Path.{_≡_, refl, sym, ap, _∙_}
 use native.Mathlib.Nat.{mod-lt, add-zero}
 use native.Mathlib.Omega.{arith}
-use lib.Seq.{take-all, drop-length}
-use lib.ListN.{length, take, drop, getD, length-take, length-drop}
+use lib.ListN.{length, length-take, length-drop}
 use denote.Ref.{now}
 use borrow.Rule.Slice.PartMut.{putMid}
-use borrow.Author.Tests.{eq-eqb, ne-eqb}
-use borrow.Author.Needs.{needs}
-use Rattle.words.proofs.Lists.{driven-empty, driven-past, driven-laid}
-use Rattle.words.proofs.Lists.{laid, laid-none, length-laid, round-more, begins-again}
-use Rattle.words.specs.Lists.{upTo, round, driven}
-use Rattle.bytes.proofs.copy.Reads as copy-reads
-use Rattle.words.proofs.lesser.Reads as lesser-reads
-use Rattle.runs.proofs.Laws.{Run, run, copied}
+use Rattle.words.proofs.Lists.{driven-empty, driven-past, driven-laid, laid, laid-none, length-laid, round-more, begins-again}
+use Rattle.words.specs.Lists.{round}
+use Rattle.runs.proofs.Laws.{run, copied}
 use Rattle.runs.proofs.drive.Statement.{statement}
 use Rattle.runs.proofs.drive.Tie as tie
-use Rattle.runs.proofs.drive.Reads as reads
-use Rattle.runs.proofs.drive.Lts as lts
 
 abbrev Inv-loop : tie.InvT-loop
 Inv-loop source at output₀ from n end room here₀ done₀ output here done =

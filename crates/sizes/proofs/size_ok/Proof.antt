@@ -1,12 +1,8 @@
 -- `sizes::size_ok` meets its contract: it joins the four tests as the definition does.
-use native.Mathlib.Omega.{arith}
 use borrow.Author.Needs.{needs}
 use Rattle.paper.specs.Sizes.{sizeOk}
-use Rattle.words.proofs.either.Reads as either-reads
 use Rattle.sizes.proofs.size_ok.Statement.{statement}
 use Rattle.sizes.proofs.size_ok.Tie as tie
-use Rattle.sizes.proofs.size_ok.Reads as reads
-use Rattle.sizes.proofs.size_ok.Lts as lts
 
 either-requires : tie.Need-either-requires
 either-requires c κs = search needs

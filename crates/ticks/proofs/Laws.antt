@@ -1,0 +1,80 @@
+-- Runs on one memory: they keep its length, and are what the ticks of an operation make of it.
+use Prim.Native.Nat.{ℕ, zero, suc, _+_, _-_, _*_, _≤_, _<_}
+use mathlib.Core.Path.{_≡_, refl, sym, _∙_}
+use mathlib.Core.Bool.{true, false}
+use mathlib.Core.List.{List}
+use native.Mathlib.Omega.{arith}
+use lib.ListN.{length}
+use borrow.Author.Tests.{leb-true}
+use Rattle.types.specs.declared.Memory.{Memory}
+use Rattle.types.specs.declared.Memory.the-variants.{Array, Rows}
+use Rattle.types.specs.declared.EraseUnit.{EraseUnit}
+use Rattle.types.specs.declared.Operation.{Operation}
+use Rattle.types.specs.declared.Operation.the-variants.{Program, Erase, Write}
+use Rattle.types.specs.declared.Register.{Register}
+use Rattle.types.specs.declared.Record.{Record}
+use Rattle.types.specs.declared.Ticked.{Ticked}
+use Rattle.paper.specs.Sizes.{sameMemory, pageBytes, arrayBytes, rowsBytes, memoryBytes}
+use Rattle.paper.specs.Erase.{memoryOf, unitBytes}
+use Rattle.paper.specs.Operations.{ticksInAll, ticksDone}
+use Rattle.paper.specs.Ticks.{ran}
+use Rattle.paper.proofs.Pages.{erased-length, narrowed-length, unit-pages-le}
+use Rattle.paper.proofs.Soundness.{InOrder}
+use Rattle.words.proofs.Tests.{and-l, and-r}
+use Rattle.ticks.specs.Runs.{pagesErased, bytesNarrowed, pick, Within}
+
+pub pages-length : (k from : ℕ) (xs : List ℕ) → length (pagesErased k from xs) ≡ length xs
+pages-length zero from xs = refl
+pages-length (suc k) from xs = erased-length (pagesErased k from xs) (from + k * pageBytes) ∙ pages-length k from xs
+
+pub bytes-length : (k base start d : ℕ) (g xs : List ℕ) → length (bytesNarrowed k base start d g xs) ≡ length xs
+bytes-length zero base start d g xs = refl
+bytes-length (suc k) base start d g xs = narrowed-length _ _ _ ∙ bytes-length k base start d g xs
+
+-- an operation's ticks on the memory that it is of, and on the other
+module _ (m : Memory) (g xs : List ℕ) where
+  pub ran-erase : (u : EraseUnit) (b d k : ℕ) → sameMemory m (memoryOf u) ≡ true → ran m k (Erase u b d) g xs ≡ pagesErased k (b + d * pageBytes) xs
+  ran-erase u b d zero e = refl
+  ran-erase u b d (suc k) e =
+      let a : b + (d + k) * pageBytes ≡ b + d * pageBytes + k * pageBytes = omega arith in
+      rw (e, ran-erase u b d k e, a)
+
+  pub ran-program : (w : Memory) (b s c d k : ℕ) → sameMemory m w ≡ true → ran m k (Program w b s c d) g xs ≡ bytesNarrowed k b s d g xs
+  ran-program w b s c d zero e = refl
+  ran-program w b s c d (suc k) e = rw (e, ran-program w b s c d k e)
+
+  pub ran-program-not : (w : Memory) (b s c d k : ℕ) → sameMemory m w ≡ false → ran m k (Program w b s c d) g xs ≡ xs
+  ran-program-not w b s c d zero e = refl
+  ran-program-not w b s c d (suc k) e = rw e (ran-program-not w b s c d k e)
+
+  pub ran-write : (r : Register) (v k : ℕ) → ran m k (Write r v) g xs ≡ xs
+  ran-write r v zero = refl
+  ran-write r v (suc k) = ran-write r v k
+
+-- the part of a memory that is lent, of the two
+pick-bytes : (m : Memory) (n a r : ℕ) → a ≡ arrayBytes n → r ≡ rowsBytes → memoryBytes m n ≡ pick m a r
+pick-bytes Array n a r e f = sym e
+pick-bytes Rows n a r e f = sym f
+
+-- the ticks that are left to an operation that is in order stay within the memory
+pub left-within : (o : Operation) (n status function k a r : ℕ) → InOrder o n status function → k ≤ ticksInAll o n - ticksDone o → a ≡ arrayBytes n → r ≡ rowsBytes → Within o k a r
+left-within (Program m b s c d) n status function k a r i h e f =
+    let few : c ≤ pageBytes = leb-true _ _ (and-l _ _ (and-r _ _ (i .content))) in
+    let w : b + pageBytes ≤ memoryBytes m n = leb-true _ _ (i .within) in
+    (omega (arith, i .going), omega (arith, pick-bytes m n a r e f))
+left-within (Erase u b d) n status function k a r i h e f =
+    let w : b + unitBytes u n ≤ memoryBytes (memoryOf u) n = leb-true _ _ (i .within) in
+    omega (arith, i .going, pick-bytes (memoryOf u) n a r e f)
+left-within (Write g v) n status function k a r i h e f = tt
+
+-- and they are not many
+pub all-le : (o : Operation) (n status function : ℕ) → InOrder o n status function → n < 65536 → ticksInAll o n ≤ 16777216
+all-le (Program m b s c d) n status function i h =
+    let few : c ≤ pageBytes = leb-true _ _ (and-l _ _ (and-r _ _ (i .content))) in
+    omega arith
+all-le (Erase u b d) n status function i h = omega (arith, unit-pages-le u n h)
+all-le (Write g v) n status function i h = omega arith
+
+-- answers that agree in the record and in the ticks done
+pub same-ticked : (p q : Record) (d e : ℕ) → p ≡ q → d ≡ e → _≡_ {A = Ticked} record { next = p; number = 0; done = d } record { next = q; number = 0; done = e }
+same-ticked p q d e f g = rw (f, g)
