@@ -98,7 +98,7 @@ over-FF xs a d e = rw e
 abbrev three : List ℕ
 three = 0x01 ∷ 0x02 ∷ 0x03 ∷ []
 
-at-FE : (p : Record) → 1 ≤ p .blocks → addressIn p (0x02 ∷ 0x00 ∷ 0x00 ∷ 0xFE ∷ three) ≡ 0xFE
+at-FE : (p : Record) → 1 ≤ p .blocks → addressIn (p .blocks) (0x02 ∷ 0x00 ∷ 0x00 ∷ 0xFE ∷ three) ≡ 0xFE
 unfolding addressIn highFirst
 at-FE p h = mod-eq-of-lt (omega arith)
 
@@ -126,7 +126,7 @@ case-5 : Case5
 unfolding worked
 case-5 p r w f xs l a b c =
     let n : 1 ≤ p .blocks = size-range (p .blocks) (sound-parts p (r .is-sound) .size) .0 in
-    let g : Free (codeOf (p .status)) (p .blocks) (addressIn p (0x02 ∷ 0x00 ∷ 0x00 ∷ 0xFE ∷ three)) = rw (at-FE p n) f in (
+    let g : Free (codeOf (p .status)) (p .blocks) (addressIn (p .blocks) (0x02 ∷ 0x00 ∷ 0x00 ∷ 0xFE ∷ three)) = rw (at-FE p n) f in (
       ap number (program-run p r w 0x00 0x00 0xFE three (omega arith) (omega arith) g),
       program-array p r w 0x00 0x00 0xFE three (omega arith) (omega arith) g xs l 3 (omega arith) ∙ ap (λ (q : Record). memoryAfter Array 3 q xs) (starts p n) ∙ three-run xs a b c p,
       ap (λ (t : Ticked). t .next .phase) (program-ticks p r w 0x00 0x00 0xFE three (omega arith) (omega arith) g 3 (omega arith)) ∙ ap (λ (q : Record). recordAfter 3 q .phase) (starts p n),
@@ -134,10 +134,10 @@ case-5 p r w f xs l a b c =
     )
 
 offset-2 : (p : Record) (h m : ℕ) (d : List ℕ)
-    → let a = addressIn p (0x02 ∷ h ∷ m ∷ 0x00 ∷ d) in
+    → let a = addressIn (p .blocks) (0x02 ∷ h ∷ m ∷ 0x00 ∷ d) in
     pageBase a + pagePlace a 2 ≡ a + 2
 unfolding highFirst pagePlace
-offset-2 p h m d = omega (arith, in-page p (0x02 ∷ h ∷ m ∷ 0x00 ∷ d))
+offset-2 p h m d = omega (arith, in-page (p .blocks) (0x02 ∷ h ∷ m ∷ 0x00 ∷ d))
 
 case-6 : Case6
 unfolding narrowed
@@ -156,7 +156,7 @@ over-5A xs a b =
 case-7 : Case7
 case-7 p r w h m l f xs e b = (
   ap number (program-run p r w h m l (0xA5 ∷ []) (omega arith) (omega arith) f),
-  program-tick p r w h m l (0xA5 ∷ []) (omega arith) (omega arith) f xs e ∙ over-5A xs (addressIn p (0x02 ∷ h ∷ m ∷ l ∷ 0xA5 ∷ [])) b,
+  program-tick p r w h m l (0xA5 ∷ []) (omega arith) (omega arith) f xs e ∙ over-5A xs (addressIn (p .blocks) (0x02 ∷ h ∷ m ∷ l ∷ 0xA5 ∷ [])) b,
 )
 
 two-bytes : (p : Record) (b : ℕ) → Ready p → commandNumber (columns WriteEnable) p (0x06 ∷ b ∷ []) true ≡ 24

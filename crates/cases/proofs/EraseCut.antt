@@ -58,7 +58,7 @@ module _ (p : Record) (r : Ready p) (has : 3 < p .blocks) (free : Free (codeOf (
   halted-sound k armed h = turned-sound p r (Suspended (erasing k)) false armed refl (operation-ok k h) refl
 
   module _ (m l : ℕ) (hm : m < 256) (hl : l < 256) where
-    at-block-3 : eraseOf Block64 (turned p Idle true false) (0xD8 ∷ 0x03 ∷ m ∷ l ∷ []) ≡ erasing 0
+    at-block-3 : eraseOf Block64 (p .blocks) (0xD8 ∷ 0x03 ∷ m ∷ l ∷ []) ≡ erasing 0
     unfolding eraseOf addressIn highFirst
     at-block-3 =
         let a = (3 * 256 + m) * 256 + l in

@@ -94,7 +94,7 @@ Case6 =
     (p : Record) → Ready p → p .wel ≡ true
     → (h m : ℕ) (d : List ℕ) → length d ≡ 258
     → let i : List ℕ = 0x02 ∷ h ∷ m ∷ 0x00 ∷ d in
-    let a = addressIn p i in
+    let a = addressIn (p .blocks) i in
     Free (codeOf (p .status)) (p .blocks) a
     → (xs : List ℕ) → length xs ≡ arrayBytes (p .blocks)
     → (send p i .number ≡ 0) × (arrayTicked (send p i .next) 1 xs ≡ set xs (a + 2) (bitAnd (getD xs (a + 2) 0) (getD d 2 0)))
@@ -105,7 +105,7 @@ Case7 =
     (p : Record) → Ready p → p .wel ≡ true
     → (h m l : ℕ)
     → let i : List ℕ = 0x02 ∷ h ∷ m ∷ l ∷ 0xA5 ∷ [] in
-    let a = addressIn p i in
+    let a = addressIn (p .blocks) i in
     Free (codeOf (p .status)) (p .blocks) a
     → (xs : List ℕ) → length xs ≡ arrayBytes (p .blocks) → getD xs a 0 ≡ 0x5A
     → (send p i .number ≡ 0) × (arrayTicked (send p i .next) 1 xs ≡ set xs a 0x00)

@@ -52,9 +52,9 @@ module _ (d : List ℕ) where
       ∙ ap (λ (k : ℕ). getD d k 0) (add-zero (passedCount d))
 
 -- the block of A is free, and data follows A
-module _ (p : Record) (i : List ℕ) (size : sizeOk (p .blocks) ≡ true) (least : 5 ≤ length i) (free : protectedAt (codeOf (p .status)) (p .blocks) (addressIn p i) ≡ false) where
+module _ (p : Record) (i : List ℕ) (size : sizeOk (p .blocks) ≡ true) (least : 5 ≤ length i) (free : protectedAt (codeOf (p .status)) (p .blocks) (addressIn (p .blocks) i) ≡ false) where
   abbrev address : ℕ
-  address = addressIn p i
+  address = addressIn (p .blocks) i
 
   abbrev sent : List ℕ
   sent = dataSent i
@@ -77,7 +77,7 @@ module _ (p : Record) (i : List ℕ) (size : sizeOk (p .blocks) ≡ true) (least
   unfolding commandNumber _or_ unless _orElse_ programOf
   program-number a f w wp = rw (page-free, a, f, le-leb 5 (length i) least, w)
 
-  operation-ok : operationOk (programOf Array p i) (p .blocks) (p .status) (p .function) ≡ true
+  operation-ok : operationOk (programOf Array (p .blocks) i) (p .blocks) (p .status) (p .function) ≡ true
   unfolding operationOk _and_ programOf pagePlace
   operation-ok =
       rw (
@@ -92,8 +92,8 @@ module _ (p : Record) (i : List ℕ) (size : sizeOk (p .blocks) ≡ true) (least
   pub program-sound : p .asleep ≡ false → sound (afterExecuted (Programs Array) p i) ≡ true
   unfolding programOf pageOk
   program-sound a =
-      made-sound (p .blocks) (p .identity) (p .status) (p .function) true false (p .asleep) (Busy (programOf Array p i)) (pageData sent)
-      size (rw a (awake-ok (Busy (programOf Array p i)))) refl operation-ok (zeros-after sent)
+      made-sound (p .blocks) (p .identity) (p .status) (p .function) true false (p .asleep) (Busy (programOf Array (p .blocks) i)) (pageData sent)
+      size (rw a (awake-ok (Busy (programOf Array (p .blocks) i)))) refl operation-ok (zeros-after sent)
 
   -- the first tick
   pub program-first : (xs : List ℕ)

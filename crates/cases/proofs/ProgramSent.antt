@@ -29,7 +29,7 @@ module _ (p : Record) (r : Ready p) (w : p .wel ≡ true) (h m l : ℕ) (d : Lis
 
   -- A
   abbrev address : ℕ
-  address = addressIn p input
+  address = addressIn (p .blocks) input
 
   -- the part as the program begins
   abbrev begins : Record

@@ -7,7 +7,6 @@ use native.Mathlib.Nat.{mod-mod-of-dvd, dvd-mul-left, dvd-mul-left-of-dvd}
 use lib.ListN.{length, getD, take}
 use lib.Seq.{take-suc}
 use lib.Pow.{pow-add, pow-mono}
-use Rattle.types.specs.declared.Record.{Record}
 use Rattle.paper.specs.Sizes.{blockBytes, pageBytes}
 use Rattle.paper.specs.Address.{readOn, highFirst, addressSent, addressIn}
 
@@ -40,6 +39,6 @@ module _ (bs : List ℕ) where
       omega (arith, high-first-fits byte i h)
 
 -- A lies in its page where the address sent does
-pub in-page : (p : Record) (i : List ℕ) → addressIn p i % pageBytes ≡ addressSent i % pageBytes
+pub in-page : (n : ℕ) (i : List ℕ) → addressIn n i % pageBytes ≡ addressSent i % pageBytes
 unfolding addressIn
-in-page p i = mod-mod-of-dvd pageBytes (addressSent i) (dvd-mul-left-of-dvd pageBytes {b = blockBytes} (dvd-mul-left pageBytes pageBytes) (p .blocks))
+in-page n i = mod-mod-of-dvd pageBytes (addressSent i) (dvd-mul-left-of-dvd pageBytes {b = blockBytes} (dvd-mul-left pageBytes pageBytes) n)

@@ -4,7 +4,6 @@ use mathlib.Core.List.{List, [], _∷_}
 use mathlib.Core.Bool.{Bool}
 use lib.ListN.{getD, take, drop}
 use lib.Dec.{eqb, ltb}
-use Rattle.types.specs.declared.Record.{Record}
 use Rattle.types.specs.declared.Memory.{Memory}
 use Rattle.types.specs.declared.Memory.the-variants.{Array, Rows}
 use Rattle.words.specs.Logic.{_and_}
@@ -31,9 +30,9 @@ addressBytes count i = take count (drop 1 i)
 abbrev pub addressSent : List ℕ → ℕ
 addressSent i = highFirst (addressBytes addressCount i)
 
--- A: the address taken modulo the array size of a part
-unfoldable pub addressIn : Record → List ℕ → ℕ
-addressIn p i = addressSent i % arrayBytes (p .blocks)
+-- A: the address taken modulo the array size of a part of n blocks
+unfoldable pub addressIn : ℕ → List ℕ → ℕ
+addressIn n i = addressSent i % arrayBytes n
 
 -- row addresses, as sent, are 00h, then 00h, 10h, 20h or 30h, then a byte address: below 4000h, and the second byte's low half 0
 unfoldable pub rowOk : List ℕ → Bool
@@ -52,9 +51,9 @@ unfoldable pub rowPlace : List ℕ → ℕ
 rowPlace i = rowBase i + rowByte i
 
 -- the place in a memory that a transaction names
-abbrev pub placeIn : Memory → Record → List ℕ → ℕ
-placeIn Array p i = addressIn p i
-placeIn Rows p i = rowPlace i
+abbrev pub placeIn : Memory → ℕ → List ℕ → ℕ
+placeIn Array n i = addressIn n i
+placeIn Rows n i = rowPlace i
 
 -- the third address byte, of which 90h asks bit 0
 abbrev pub thirdAddressByte : List ℕ → ℕ

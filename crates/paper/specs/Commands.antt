@@ -24,8 +24,8 @@ abbrev pub after : Effect → Record → List ℕ → Record
 after Looks p i = p
 after Enables p i = settled p (p .phase) true (p .page)
 after Disables p i = settled p (p .phase) false (p .page)
-after (Programs m) p i = begun p (programOf m p i) (pageData (dataSent i))
-after (Erases u) p i = begun p (eraseOf u p i) (p .page)
+after (Programs m) p i = begun p (programOf m (p .blocks) i) (pageData (dataSent i))
+after (Erases u) p i = begun p (eraseOf u (p .blocks) i) (p .page)
 after (Writes r) p i = begun p (writeOf r i) (p .page)
 after Suspends p i = suspendedIn p (p .phase)
 after Resumes p i = resumedIn p (p .phase)

@@ -8,7 +8,6 @@ use Rattle.types.specs.declared.Memory.{Memory}
 use Rattle.types.specs.declared.Memory.the-variants.{Array, Rows}
 use Rattle.types.specs.declared.EraseUnit.{EraseUnit}
 use Rattle.types.specs.declared.EraseUnit.the-variants.{Sector, Block32, Block64, Chip, Row}
-use Rattle.types.specs.declared.Record.{Record}
 use Rattle.types.specs.declared.Operation.{Operation}
 use Rattle.types.specs.declared.Operation.the-variants.{Erase}
 use Rattle.paper.specs.Sizes.{pageBytes, downTo}
@@ -39,8 +38,8 @@ abbrev pub unitBase : EraseUnit → ℕ → ℕ → ℕ
 unitBase u n a = downTo (unitBytes u n) a
 
 -- the erase that a transaction begins: the unit that holds A. A row erase disregards the byte address
-unfoldable pub eraseOf : EraseUnit → Record → List ℕ → Operation
-eraseOf u p i = Erase u (unitBase u (p .blocks) (placeIn (memoryOf u) p i)) 0
+unfoldable pub eraseOf : EraseUnit → ℕ → List ℕ → Operation
+eraseOf u n i = Erase u (unitBase u n (placeIn (memoryOf u) n i)) 0
 
 -- an erased byte is FFh
 abbrev pub erasedByte : ℕ

@@ -121,20 +121,20 @@ abbrev pub pinOk : Register → ℕ → Bool → Bool
 pinOk Status status wp = not (barred status wp)
 pinOk Function status wp = true
 
--- 28: protected, locked, or status write barred by the pin
-abbrev pub freeOk : Effect → Record → List ℕ → Bool → Bool
-freeOk Looks p i wp = true
-freeOk Enables p i wp = true
-freeOk Disables p i wp = true
-freeOk (Programs m) p i wp = targetFree (programOf m p i) (p .blocks) (p .status) (p .function)
-freeOk (Erases u) p i wp = targetFree (eraseOf u p i) (p .blocks) (p .status) (p .function)
-freeOk (Writes r) p i wp = pinOk r (p .status) wp
-freeOk Suspends p i wp = true
-freeOk Resumes p i wp = true
-freeOk Sleeps p i wp = true
-freeOk Wakes p i wp = true
-freeOk Arms p i wp = true
-freeOk Resets p i wp = true
+-- 28: protected, locked, or status write barred by the pin, on a part of n blocks
+abbrev pub freeOk : Effect → ℕ → ℕ → ℕ → List ℕ → Bool → Bool
+freeOk Looks n status function i wp = true
+freeOk Enables n status function i wp = true
+freeOk Disables n status function i wp = true
+freeOk (Programs m) n status function i wp = targetFree (programOf m n i) n status function
+freeOk (Erases u) n status function i wp = targetFree (eraseOf u n i) n status function
+freeOk (Writes r) n status function i wp = pinOk r status wp
+freeOk Suspends n status function i wp = true
+freeOk Resumes n status function i wp = true
+freeOk Sleeps n status function i wp = true
+freeOk Wakes n status function i wp = true
+freeOk Arms n status function i wp = true
+freeOk Resets n status function i wp = true
 
 -- 21 to 28, of a command with these columns and the input i, with WP# high where wp is true: 0 where it is executed
 unfoldable pub commandNumber : Columns → Record → List ℕ → Bool → ℕ
@@ -146,7 +146,7 @@ commandNumber k p i wp =
     orElse unless (stateOk (k .effect) (p .phase) (p .armed)) 25
     orElse unless (not (k .wel) or p .wel) 26
     orElse unless (rowAddressOk k i) 27
-    orElse unless (freeOk (k .effect) p i wp) 28
+    orElse unless (freeOk (k .effect) (p .blocks) (p .status) (p .function) i wp) 28
 
 -- 20 to 28: 20 where the first byte is in no row of the command table, even asleep or busy
 abbrev pub ignoredNumber : Decoded → Record → List ℕ → Bool → ℕ

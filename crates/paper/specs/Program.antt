@@ -4,7 +4,6 @@ use mathlib.Core.List.{List, _++_}
 use lib.ListN.{length, getD, drop, set, replicate}
 use lib.Bits.{bitAnd}
 use Rattle.types.specs.declared.Memory.{Memory}
-use Rattle.types.specs.declared.Record.{Record}
 use Rattle.types.specs.declared.Operation.{Operation}
 use Rattle.types.specs.declared.Operation.the-variants.{Program}
 use Rattle.paper.specs.Sizes.{pageBytes, downTo}
@@ -38,10 +37,10 @@ pageData d = drop (passedCount d) d ++ replicate (pageBytes - keptCount d) 0
 unfoldable pub noData : List ℕ
 noData = replicate pageBytes 0
 
--- the program that a transaction begins in a memory of a part: of the page (row) of A, from the place in it of the first byte that counts
-unfoldable pub programOf : Memory → Record → List ℕ → Operation
-programOf m p i =
-    Program m (pageBase (placeIn m p i)) (pagePlace (placeIn m p i) (passedCount (dataSent i))) (keptCount (dataSent i)) 0
+-- the program that a transaction begins in a memory of a part of n blocks: of the page (row) of A, from the place in it of the first byte that counts
+unfoldable pub programOf : Memory → ℕ → List ℕ → Operation
+programOf m n i =
+    Program m (pageBase (placeIn m n i)) (pagePlace (placeIn m n i) (passedCount (dataSent i))) (keptCount (dataSent i)) 0
 
 -- new = old AND data
 abbrev pub narrowedByte : ℕ → ℕ → ℕ

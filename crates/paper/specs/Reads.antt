@@ -35,21 +35,21 @@ sourceBytes MakerDevice p xs rs i = p .identity .maker ∷ p .identity .device �
 sourceBytes DeviceByte p xs rs i = p .identity .device ∷ []
 
 -- at which of them it begins: at A, at the row's byte address; 90h with bit 0 of the third address byte clear: M first, set: D first
-abbrev pub sourceStart : Source → Record → List ℕ → ℕ
-sourceStart Nothing p i = 0
-sourceStart ArrayBytes p i = addressIn p i
-sourceStart RowBytes p i = rowByte i
-sourceStart StatusByte p i = 0
-sourceStart FunctionByte p i = 0
-sourceStart IdentityBytes p i = 0
-sourceStart MakerDevice p i = thirdAddressByte i % 2
-sourceStart DeviceByte p i = 0
+abbrev pub sourceStart : Source → ℕ → List ℕ → ℕ
+sourceStart Nothing n i = 0
+sourceStart ArrayBytes n i = addressIn n i
+sourceStart RowBytes n i = rowByte i
+sourceStart StatusByte n i = 0
+sourceStart FunctionByte n i = 0
+sourceStart IdentityBytes n i = 0
+sourceStart MakerDevice n i = thirdAddressByte i % 2
+sourceStart DeviceByte n i = 0
 
 -- the byte at place j of an executed command's output
 abbrev pub outputByte : Columns → Record → List ℕ → List ℕ → List ℕ → ℕ → ℕ
 outputByte k p xs rs i j =
     cond (isRead k and leb (k .from) j)
-    (round (sourceBytes (k .source) p xs rs i) (sourceStart (k .source) p i) (j - k .from))
+    (round (sourceBytes (k .source) p xs rs i) (sourceStart (k .source) (p .blocks) i) (j - k .from))
     undrivenByte
 
 -- its whole output, as long as the input
