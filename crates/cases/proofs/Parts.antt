@@ -1,23 +1,21 @@
 -- A ready part in another phase that keeps no page data: it is sound where the phase is, and 06h makes one of it.
 use Prim.Native.Nat.{ℕ}
-use mathlib.Core.Path.{_≡_, refl, sym, ap, _∙_}
+use mathlib.Core.Path.{_≡_, refl, ap, _∙_}
 use mathlib.Core.Bool.{Bool, true, false}
 use mathlib.Core.List.{[], _∷_}
 use native.Mathlib.Omega.{arith}
-use lib.ListN.{drop}
 use Rattle.types.specs.declared.Phase.{Phase}
 use Rattle.types.specs.declared.Phase.the-variants.{Idle}
 use Rattle.types.specs.declared.Command.the-variants.{WriteEnable}
 use Rattle.types.specs.declared.Record.{Record}
 use Rattle.types.specs.declared.Answer.{Answer}
 use Rattle.words.specs.Logic.{_or_, unless, _orElse_}
-use Rattle.words.specs.Lists.{allZero}
 use Rattle.paper.specs.Records.{marked, settled}
-use Rattle.paper.specs.Soundness.{sound, latchOk, phaseOk, pageOk, keptIn}
+use Rattle.paper.specs.Soundness.{sound, latchOk, phaseOk, keptIn}
 use Rattle.paper.specs.Numbers.{commandNumber}
 use Rattle.paper.specs.Table.{decoded, columns}
-use Rattle.paper.proofs.Soundness.{sound-parts, awake-ok}
-use Rattle.paper.proofs.MadeSound.{made-sound}
+use Rattle.paper.proofs.Soundness.{sound-parts, marked-sound}
+use Rattle.paper.proofs.Begun.{settled-empty, idle-empty}
 use Rattle.cases.proofs.Paper.{send, Ready}
 use Rattle.cases.proofs.Answers.{executes}
 
@@ -30,16 +28,11 @@ abbrev pub did : Record → ℕ → Answer
 did q n = record { next = q; number = 0; first = n }
 
 module _ (p : Record) (r : Ready p) where
-  no-data : allZero (p .page) ≡ true
-  unfolding pageOk
-  no-data = ap (λ (f : Phase). pageOk f (p .page)) (sym (r .idle)) ∙ sound-parts p (r .is-sound) .page-ok
-
   pub turned-sound : (f : Phase) (wel armed : Bool) → latchOk f wel ≡ true → phaseOk f (p .blocks) (p .status) (p .function) ≡ true → keptIn f ≡ 0
       → sound (turned p f wel armed) ≡ true
-  unfolding pageOk
   turned-sound f wel armed l o k =
-      made-sound (p .blocks) (p .identity) (p .status) (p .function) wel armed (p .asleep) f (p .page)
-      (sound-parts p (r .is-sound) .size) (rw (r .awake) (awake-ok f)) l o (ap (λ (n : ℕ). allZero (drop n (p .page))) k ∙ no-data)
+      marked-sound (settled p f wel (p .page)) armed
+      (settled-empty p (sound-parts p (r .is-sound) .size) (r .awake) (idle-empty p (r .idle) (r .is-sound)) f wel l o k)
 
   enables : commandNumber (columns WriteEnable) p (0x06 ∷ []) true ≡ 0
   unfolding commandNumber _or_ unless _orElse_

@@ -1,6 +1,6 @@
 -- What power-up and ticks keep: the record that power-up gives is sound, and ticks keep a record sound and its size; at most as many ticks do work as are asked.
 use Prim.Native.Nat.{ℕ, zero, suc, _+_, _≤_, _<_}
-use mathlib.Core.Path.{_≡_, refl, sym, ap, _∙_}
+use mathlib.Core.Path.{_≡_, refl, ap, _∙_}
 use mathlib.Core.Bool.{Bool, true, false, cond}
 use native.Mathlib.Omega.{arith}
 use lib.ListN.{drop}
@@ -18,7 +18,7 @@ use Rattle.words.specs.Lists.{allZero}
 use Rattle.words.proofs.Tests.{unless-zero, orElse-zero, bit-le}
 use Rattle.paper.specs.Sizes.{sizeOk}
 use Rattle.paper.specs.Program.{noData}
-use Rattle.paper.specs.Records.{isBusy, made, fresh, altered, goingOn}
+use Rattle.paper.specs.Records.{isBusy, made, fresh, goingOn}
 use Rattle.paper.specs.Operations.{ticksInAll, ticksDone, advancedBy, keptBy}
 use Rattle.paper.specs.Registers.{statusAfter, functionAfter}
 use Rattle.paper.specs.Soundness.{bitsOk, pageOk, sound}
@@ -26,7 +26,7 @@ use Rattle.paper.specs.Numbers.{powerUpNumber}
 use Rattle.paper.specs.Calls.{noIdentity, poweredUp}
 use Rattle.paper.specs.Ticks.{finished, worked, tickedIn, tickOnce, recordAfter, workingTicks}
 use Rattle.paper.proofs.MadeSound.{made-sound}
-use Rattle.paper.proofs.Soundness.{Sound, sound-parts, sound-whole, InOrder, in-order, in-order-whole}
+use Rattle.paper.proofs.Soundness.{Sound, sound-whole, sound-in, InOrder, in-order, in-order-whole}
 
 -- an idle record with WEL 0 and page data zero, asleep or awake
 pub idle-sound : (n : ℕ) (id : Identity) (status function : ℕ) (armed asleep : Bool) → sizeOk n ≡ true → sound (made n id status function false armed asleep Idle noData) ≡ true
@@ -81,7 +81,7 @@ module _ (p : Record) (o : Operation) (s : Sound (goingOn p o)) where
 module _ (p : Record) where
   ticked-sound : (f : Phase) → p .phase ≡ f → sound p ≡ true → sound (tickedIn p f) ≡ true
   ticked-sound Idle e s = s
-  ticked-sound (Busy o) e s = worked-sound p o (sound-parts (goingOn p o) (ap (λ (f : Phase). sound (altered p (p .armed) (p .asleep) f)) (sym e) ∙ s))
+  ticked-sound (Busy o) e s = worked-sound p o (sound-in p (Busy o) e s)
   ticked-sound (Suspended o) e s = s
 
   pub tick-sound : sound p ≡ true → sound (tickOnce p) ≡ true

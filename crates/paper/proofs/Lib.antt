@@ -12,3 +12,5 @@ pub mod EraseRun
 pub mod Kept
 pub mod Numbers
 pub mod KeptBytes
+pub mod Begun
+pub mod TransactionKept

@@ -1,17 +1,17 @@
 -- Pages: what a touch leaves where it fits and where it does not, and how large units are.
-use Prim.Native.Nat.{ℕ, _+_, _*_, _≤_, _<_}
+use Prim.Native.Nat.{ℕ, _+_, _*_, _%_, _≤_, _<_}
 use mathlib.Core.Path.{_≡_, refl}
 use mathlib.Core.Bool.{Bool, true, false}
 use mathlib.Core.List.{List, _++_}
 use native.Mathlib.Omega.{arith}
 use borrow.Author.Tests.{leb-true, le-leb, lt-leb}
 use lib.Dec.{leb}
-use lib.ListN.{length, take, drop, replicate, length-drop, length-take, length-append, length-replicate, length-set}
+use lib.ListN.{length, take, drop, replicate, length-drop, length-take, length-append, length-set}
 use lib.Seq.{drop-drop, set-out}
 use Rattle.types.specs.declared.EraseUnit.{EraseUnit}
 use Rattle.types.specs.declared.EraseUnit.the-variants.{Sector, Block32, Block64, Chip, Row}
 use Rattle.paper.specs.Sizes.{pageBytes}
-use Rattle.paper.specs.Program.{narrowed}
+use Rattle.paper.specs.Program.{pagePlace, narrowed}
 use Rattle.paper.specs.Erase.{unitPages, erasedByte, pageErased}
 
 -- a page that does not fit leaves the bytes as they are
@@ -31,7 +31,7 @@ erased-length-as : (xs : List ℕ) (b : ℕ) (t : Bool) → leb (b + pageBytes) 
 unfolding pageErased
 erased-length-as xs b true e =
     let h : b + pageBytes ≤ length xs = leb-true _ _ e in
-    rw e (simp (length-append, length-take, length-drop, length-replicate) (omega arith))
+    rw e (simp (length-append, length-take, length-drop) (omega arith))
 erased-length-as xs b false e = rw e
 
 -- a touch keeps a memory's length
@@ -54,3 +54,8 @@ unit-pages-le Block32 n h = omega arith
 unit-pages-le Block64 n h = omega arith
 unit-pages-le Chip n h = omega arith
 unit-pages-le Row n h = omega arith
+
+-- the place in a page of what is counted from any place of the memory
+pub place-of : (a k : ℕ) → pagePlace (a % pageBytes) k ≡ pagePlace a k
+unfolding pagePlace
+place-of a k = omega arith

@@ -1,7 +1,7 @@
 -- What a sound record may be relied on for, part by part.
 use Prim.Native.Nat.{ℕ, _<_}
-use mathlib.Core.Path.{_≡_, refl}
-use mathlib.Core.Bool.{true, false}
+use mathlib.Core.Path.{_≡_, refl, sym, ap, _∙_}
+use mathlib.Core.Bool.{Bool, true, false}
 use borrow.Author.Tests.{ltb-true, lt-ltb}
 use Rattle.types.specs.declared.Operation.{Operation}
 use Rattle.types.specs.declared.Phase.{Phase}
@@ -10,6 +10,7 @@ use Rattle.types.specs.declared.Record.{Record}
 use Rattle.words.specs.Logic.{_or_}
 use Rattle.words.proofs.Tests.{and-l, and-r, and-in}
 use Rattle.paper.specs.Sizes.{sizeOk}
+use Rattle.paper.specs.Records.{altered, marked}
 use Rattle.paper.specs.Operations.{ticksInAll, ticksDone, aligned, inside, targetFree}
 use Rattle.paper.specs.Soundness.{sleepOk, latchOk, contentOk, operationOk, phaseOk, bitsOk, pageOk, sound}
 
@@ -35,6 +36,15 @@ pub sound-whole : (p : Record) → Sound p → sound p ≡ true
 unfolding sound
 sound-whole p s =
     and-in (s .size) (and-in (s .sleep) (and-in (s .latch) (and-in (s .phase-ok) (and-in (s .bits) (s .page-ok)))))
+
+-- the parts of a record whose phase is known
+pub sound-in : (p : Record) (f : Phase) → p .phase ≡ f → sound p ≡ true → Sound (altered p (p .armed) (p .asleep) f)
+sound-in p f e h = sound-parts (altered p (p .armed) (p .asleep) f) (ap (λ (g : Phase). sound (altered p (p .armed) (p .asleep) g)) (sym e) ∙ h)
+
+-- the armed mark does not matter
+pub marked-sound : (p : Record) (armed : Bool) → sound p ≡ true → sound (marked p armed) ≡ true
+unfolding sound
+marked-sound p armed h = h
 
 -- an awake part may be in any phase
 pub awake-ok : (f : Phase) → sleepOk f false ≡ true
@@ -66,4 +76,4 @@ in-order-whole o n status function i =
 
 -- the operation of a busy part
 pub busy-in-order : (p : Record) (o : Operation) → p .phase ≡ Busy o → sound p ≡ true → InOrder o (p .blocks) (p .status) (p .function)
-busy-in-order p o e h = in-order o (p .blocks) (p .status) (p .function) (rw e at (sound-parts p h .phase-ok))
+busy-in-order p o e h = in-order o (p .blocks) (p .status) (p .function) (sound-in p (Busy o) e h .phase-ok)

@@ -66,8 +66,8 @@ outputTo (Known k) p xs rs wp i =
 outputTo Unknown p xs rs wp i = undriven (length i)
 
 -- the output buffer after a transaction: refusals write nothing
-unfoldable pub output : Record → List ℕ → List ℕ → Bool → List ℕ → List ℕ → List ℕ
-output p xs rs wp i o =
+unfoldable pub outputAfter : Record → List ℕ → List ℕ → Bool → List ℕ → List ℕ → List ℕ
+outputAfter p xs rs wp i o =
     whenZero (transactionRefusal p (length xs) (length rs) (length i) (length o))
     (outputTo (decoded (getD i 0 0)) p xs rs wp i)
     o

@@ -1,8 +1,12 @@
 -- Two results that a contract of this crate allows are equal.
 use denote.Ref.{now}
 use Rattle.words.proofs.Allowed.{OneExit, agree}
+use Rattle.runs.proofs.fill.Reads as fill
 use Rattle.runs.proofs.blank.Reads as blank
 use Rattle.runs.proofs.drive.Reads as drive
+
+pub fill-one : OneExit fill.Learnt (λ κ s. now (s .0))
+fill-one κ a x y s t p q = agree p q
 
 pub blank-one : OneExit blank.Learnt (λ κ s. now (s .0))
 blank-one κ a x y s t p q = agree p q

@@ -1,17 +1,24 @@
-// Bytes that are written in runs: FFh all over, and a source read round and round.
+// Bytes that are written in runs: one value all over, and a source read round and round.
 ghost use mathlib.Core.Path.{_≡_};
 ghost use lib.ListN.{length, replicate};
 ghost use Rattle.words.specs.Lists.{driven};
+
+// All of the bytes set to one value.
+pub fn fill(bytes: &mut [u8], value: u8)
+    ensures { λ _. ⌜ now (bytes .exit) ≡ replicate (length (now (bytes .entry))) value ⌝ }
+{
+    let mut i = 0;
+    while i < bytes.len() {
+        bytes[i] = value;
+        i += 1;
+    }
+}
 
 // All of the bytes set to FFh.
 pub fn blank(bytes: &mut [u8])
     ensures { λ _. ⌜ now (bytes .exit) ≡ replicate (length (now (bytes .entry))) 255 ⌝ }
 {
-    let mut i = 0;
-    while i < bytes.len() {
-        bytes[i] = 255;
-        i += 1;
-    }
+    fill(bytes, 255);
 }
 
 // The source, read from its place at on and past its end from its start again, into the output from

@@ -1,11 +1,14 @@
 -- Laws of lists by what stands at each place: parts, `upTo`, and sources that are read round and round.
 use Prim.Native.Nat.{ℕ, zero, suc, _+_, _-_, _%_, _<_, _≤_, min}
 use mathlib.Core.Path.{_≡_, refl, sym, ap, _∙_}
+use mathlib.Core.Bool.{cond}
 use mathlib.Core.List.{List, [], _∷_, _++_, append-assoc, append-nil}
 use native.Mathlib.Omega.{arith}
 use native.Mathlib.Nat.{add-zero, add-suc, mod-eq-of-lt, mod-self, mod-add-mod}
-use borrow.Author.Tests.{eq-eqb, ne-eqb}
-use lib.ListN.{length, take, drop, getD, length-append, length-drop, take-append-drop}
+use native.Mathlib.Numerals.{add-one}
+use borrow.Author.Tests.{eq-eqb, ne-eqb, le-leb, lt-leb}
+use lib.Dec.{leb}
+use lib.ListN.{length, take, drop, getD, replicate, length-append, length-drop, take-append-drop, replicate-append-replicate}
 use lib.Seq.{take-suc, take-at, drop-at, drop-drop, getD-drop, length-take-le, take-all, drop-length}
 use Rattle.words.specs.Lists.{upTo, round, driven}
 
@@ -32,6 +35,15 @@ upTo-part s p zero f h same = refl
 upTo-part s p (suc r) f h same =
     let n : r < length (drop p s) = simp length-drop (omega arith) in
     rw (take-suc (drop p s) r 0 n, getD-drop, upTo-part s p r f (omega arith) (λ j l. same j (omega arith)), same r (omega arith))
+
+-- places that agree, and places that all hold one byte
+pub upTo-same : (n : ℕ) (f g : ℕ → ℕ) → ((j : ℕ) → j < n → f j ≡ g j) → upTo n f ≡ upTo n g
+upTo-same zero f g same = refl
+upTo-same (suc n) f g same = rw (upTo-same n f g (λ j l. same j (omega arith)), same n (omega arith))
+
+pub upTo-const : (n b : ℕ) → upTo n (λ (j : ℕ). b) ≡ replicate n b
+upTo-const zero b = refl
+upTo-const (suc n) b = rw (upTo-const n b) (replicate-append-replicate n 1 b ∙ ap (λ (k : ℕ). replicate k b) (add-one n))
 
 -- a list o whose n places from a place on are f's
 abbrev pub laid : List ℕ → ℕ → ℕ → (ℕ → ℕ) → List ℕ
@@ -97,3 +109,26 @@ module _ (s : List ℕ) (at : ℕ) (o : List ℕ) (from : ℕ) (some : length s 
   driven-laid n h =
       let e : length o - from ≡ n = omega arith in
       rw (ne-eqb _ _ some, e, h, drop-length, append-nil)
+
+-- an output whose places before that hold one byte, by places
+module _ (s : List ℕ) (at : ℕ) (o : List ℕ) (from b : ℕ) where
+  abbrev placed : ℕ → ℕ
+  placed j = cond (leb from j) (round s at (j - from)) b
+
+  placed-before : (n : ℕ) → n ≤ from → upTo n placed ≡ replicate n b
+  placed-before n h = upTo-same n placed (λ (j : ℕ). b) (λ j l. rw (lt-leb from j (omega arith))) ∙ upTo-const n b
+
+  placed-after : (n k : ℕ) → (0 < n → k ≡ from) → upTo n (λ (j : ℕ). placed (k + j)) ≡ upTo n (round s at)
+  placed-after n k h =
+      upTo-same n (λ (j : ℕ). placed (k + j)) (round s at)
+      (λ j l.
+      let e : k ≡ from = h (omega arith) in
+      let d : k + j - from ≡ j = omega arith in
+      rw (le-leb from (k + j) (omega arith), d))
+
+  pub driven-places : (length s ≡ 0 → ⊥) → take from o ≡ replicate (min from (length o)) b → driven s at o from ≡ upTo (length o) (λ (j : ℕ). cond (leb from j) (round s at (j - from)) b)
+  unfolding driven
+  driven-places some before =
+      let n : length o ≡ min from (length o) + (length o - from) = omega arith in
+      rw (ne-eqb _ _ some, before, ← placed-before (min from (length o)) (omega arith), ← placed-after (length o - from) (min from (length o)) (λ h. omega arith))
+      (sym (ap (λ (k : ℕ). upTo k placed) n ∙ upTo-add (min from (length o)) (length o - from) placed))

@@ -1,4 +1,4 @@
--- `runs::blank` meets its contract. The loop's invariant: what is passed is FFh, what is left is as it came.
+-- `runs::fill` meets its contract. The loop's invariant: what is passed has the value, what is left is as it came.
 use Prim.Native.Nat.{_≤_, _<_, _-_}
 use mathlib.Core.Path.{_≡_, refl, _∙_}
 use mathlib.Core.List.{_++_, append-nil}
@@ -8,15 +8,15 @@ use lib.Seq.{drop-length}
 use denote.Ref.{now}
 use borrow.Author.Fill.{fill-more}
 use borrow.Author.Needs.{needs}
-use Rattle.runs.proofs.blank.Statement.{statement}
-use Rattle.runs.proofs.blank.Tie as tie
+use Rattle.runs.proofs.fill.Statement.{statement}
+use Rattle.runs.proofs.fill.Tie as tie
 
 abbrev Inv-loop : tie.InvT-loop
-Inv-loop bytes₀ i₀ bytes i =
-    (bytes ≡ replicate i 255 ++ drop i bytes₀) × (length bytes ≡ length bytes₀) × (i ≤ length bytes₀)
+Inv-loop bytes₀ value i₀ bytes i =
+    (bytes ≡ replicate i value ++ drop i bytes₀) × (length bytes ≡ length bytes₀) × (i ≤ length bytes₀)
 
 abbrev μ-loop : tie.MeasureT-loop
-μ-loop bytes₀ i₀ bytes i = length bytes₀ - i
+μ-loop bytes₀ value i₀ bytes i = length bytes₀ - i
 
 loop-holds : tie.Need-loop-holds Inv-loop μ-loop
 loop-holds c = (refl, refl, omega arith)
@@ -45,8 +45,8 @@ returns c =
     let e : l .i ≡ length (now (c .before .before .args .bytes)) = omega (arith, l .inv .1, c .loop-test .left) in
     l .inv .0 ∙ rw (e, drop-length, append-nil)
 
-pub blank-spec : {M : Type 1} → statement M
-blank-spec =
+pub fill-spec : {M : Type 1} → statement M
+fill-spec =
     tie.close
     (tie.spec
     Inv-loop

@@ -1,0 +1,134 @@
+// What a transaction names, and the operation that it begins.
+ghost use mathlib.Core.Path.{_≡_};
+ghost use Prim.Native.Nat.{_-_, _%_, min};
+ghost use lib.ListN.{length, getD};
+ghost use Rattle.paper.specs.Address.{addressSent, addressIn, rowOk, rowBase, rowByte, placeIn};
+ghost use Rattle.paper.specs.Program.{dataSent, keptCount, passedCount, programOf};
+ghost use Rattle.paper.specs.Erase.{eraseOf};
+ghost use Rattle.paper.specs.Registers.{writeOf};
+use types::EraseUnit;
+use types::Memory;
+use types::Operation;
+use types::Register;
+
+// The byte at a place of the input, 0 where none was sent.
+pub fn byte_at(input: &[u8], place: usize) -> u8
+    ensures { λ r. ⌜ r ≡ getD (now (input .entry)) place 0 ⌝ }
+{
+    if place < input.len() { input[place] } else { 0 }
+}
+
+// The address as it was sent.
+fn sent(input: &[u8]) -> usize
+    ensures { λ r. ⌜ r ≡ addressSent (now (input .entry)) ⌝ }
+{
+    address::address_sent(input, 3)
+}
+
+// A: the address taken modulo the array size. (A part of no blocks does not exist; there it is the address as sent.)
+pub fn address_in(blocks: u16, input: &[u8]) -> usize
+    ensures { λ r. ⌜ r ≡ addressIn blocks (now (input .entry)) ⌝ }
+{
+    let a = sent(input);
+    let size = (blocks as usize) * 65536;
+    if size == 0 {
+        return a;
+    }
+    a % size
+}
+
+// Whether the address that was sent is a row address.
+pub fn row_ok(input: &[u8]) -> bool
+    ensures { λ r. ⌜ r ≡ rowOk (now (input .entry)) ⌝ }
+{
+    let a = sent(input);
+    let row = a / 4096 < 4;
+    let low = a / 256 % 16 == 0;
+    words::both(row, low)
+}
+
+// Where the row that was named begins.
+pub fn row_base(input: &[u8]) -> usize
+    ensures { λ r. ⌜ r ≡ rowBase (now (input .entry)) ⌝ }
+{
+    sent(input) / 4096 * 256
+}
+
+// The byte address in the row that was named.
+pub fn row_byte(input: &[u8]) -> usize
+    ensures { λ r. ⌜ r ≡ rowByte (now (input .entry)) ⌝ }
+{
+    sent(input) % 256
+}
+
+// The place in a memory that a transaction names.
+fn place_in(memory: Memory, blocks: u16, input: &[u8]) -> usize
+    ensures { λ r. ⌜ r ≡ placeIn memory blocks (now (input .entry)) ⌝ }
+{
+    match memory {
+        Memory::Array => address_in(blocks, input),
+        Memory::Rows => row_base(input) + row_byte(input),
+    }
+}
+
+// How many data bytes of a program are kept.
+pub fn kept_count(input: &[u8]) -> usize
+    ensures { λ r. ⌜ r ≡ keptCount (dataSent (now (input .entry))) ⌝ }
+{
+    let n = input.len();
+    if n < 4 {
+        return 0;
+    }
+    words::lesser(n - 4, 256)
+}
+
+// How many came before those that are kept.
+fn passed_count(input: &[u8]) -> usize
+    ensures { λ r. ⌜ r ≡ passedCount (dataSent (now (input .entry))) ⌝ }
+{
+    let n = input.len();
+    if n < 4 {
+        return 0;
+    }
+    n - 4 - kept_count(input)
+}
+
+// The program that a transaction begins.
+pub fn program_of(memory: Memory, blocks: u16, input: &[u8]) -> Operation
+    ensures { λ r. ⌜ r ≡ programOf memory blocks (now (input .entry)) ⌝ }
+{
+    let place = place_in(memory, blocks, input);
+    let start = pages::page_place((place % 256) as u8, passed_count(input));
+    let count = kept_count(input);
+    Operation::Program {
+        memory: memory,
+        base: place / 256 * 256,
+        start: start,
+        count: count,
+        done: 0,
+    }
+}
+
+// The erase that a transaction begins.
+pub fn erase_of(unit: EraseUnit, blocks: u16, input: &[u8]) -> Operation
+    ensures { λ r. ⌜ r ≡ eraseOf unit blocks (now (input .entry)) ⌝ }
+{
+    let place = place_in(pages::unit_memory(unit), blocks, input);
+    let base = pages::unit_base(unit, blocks, place);
+    Operation::Erase {
+        unit: unit,
+        base: base,
+        done: 0,
+    }
+}
+
+// The register write that a transaction begins.
+pub fn write_of(register: Register, input: &[u8]) -> Operation
+    ensures { λ r. ⌜ r ≡ writeOf register (now (input .entry)) ⌝ }
+{
+    let value = operations::held_byte(register, byte_at(input, 1));
+    Operation::Write {
+        register: register,
+        value: value,
+    }
+}

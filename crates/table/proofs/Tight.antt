@@ -1,0 +1,22 @@
+-- Two results that a contract of this crate allows are equal.
+use Rattle.words.proofs.Allowed.{OneResult, agree}
+use Rattle.table.proofs.columns_of.Reads as columns-of
+use Rattle.table.proofs.length_ok.Reads as length-ok
+use Rattle.table.proofs.drives_any.Reads as drives-any
+use Rattle.table.proofs.first_driven.Reads as first-driven
+use Rattle.table.proofs.arms_reset.Reads as arms-reset
+
+pub columns-of-one : OneResult columns-of.Learnt
+columns-of-one κ a x y s t p q = agree p q
+
+pub length-ok-one : OneResult length-ok.Learnt
+length-ok-one κ a x y s t p q = agree p q
+
+pub drives-any-one : OneResult drives-any.Learnt
+drives-any-one κ a x y s t p q = agree p q
+
+pub first-driven-one : OneResult first-driven.Learnt
+first-driven-one κ a x y s t p q = agree p q
+
+pub arms-reset-one : OneResult arms-reset.Learnt
+arms-reset-one κ a x y s t p q = agree p q

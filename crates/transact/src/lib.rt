@@ -1,0 +1,82 @@
+// A transaction: array and rows are lent shared, so that it cannot write them.
+ghost use mathlib.Core.Path.{_≡_};
+ghost use mathlib.Core.Bool.{true};
+ghost use mathlib.Core.List.{[], _∷_};
+ghost use Prim.Native.Nat.{_≤_, _<_};
+ghost use lib.ListN.{length, take, drop};
+ghost use Rattle.types.specs.declared.Decoded.the-variants.{Known};
+ghost use Rattle.paper.specs.Sizes.{arrayBytes, rowsBytes};
+ghost use Rattle.paper.specs.Soundness.{sound};
+ghost use Rattle.paper.specs.Address.{rowBase, rowByte};
+ghost use Rattle.paper.specs.Reads.{outputOf};
+ghost use Rattle.paper.specs.Numbers.{transactionRefusal};
+ghost use Rattle.paper.specs.Calls.{answerTo, outputTo, transacted, outputAfter};
+ghost use Rattle.transact.specs.Shown.{shown, HasBytes};
+use types::Answer;
+use types::Columns;
+use types::Command;
+use types::Decoded;
+use types::Record;
+use types::Source;
+
+// A source of some bytes, read round and round from a place on, into an output from its place from on.
+// The places before hold FFh.
+fn drive_from(source: &[u8], at: usize, output: &mut [u8], from: usize)
+    requires { ⌜ 0 < length (now source) ⌝ }
+    ensures { λ _. ⌜ now (output .exit) ≡ shown (now (source .entry)) at from (length (now (output .entry))) ⌝ }
+{
+    let first = words::lesser(from, output.len());
+    runs::blank(&mut output[0..first]);
+    runs::drive(source, at, output, from);
+}
+
+// One byte, repeated into an output from its place from on. The places before hold FFh.
+fn repeat_from(byte: u8, output: &mut [u8], from: usize)
+    ensures { λ _. ⌜ now (output .exit) ≡ shown (byte ∷ []) 0 from (length (now (output .entry))) ⌝ }
+{
+    let end = output.len();
+    let first = words::lesser(from, end);
+    runs::blank(&mut output[0..first]);
+    runs::fill(&mut output[first..end], byte);
+}
+
+// The row that was named, from the byte that was named on.
+fn drive_row(rows: &[u8], input: &[u8], output: &mut [u8], from: usize)
+    requires { ⌜ rowBase (now input) < length (now rows) ⌝ }
+    ensures { λ _. ⌜ now (output .exit) ≡ shown (take 256 (drop (rowBase (now (input .entry))) (now (rows .entry)))) (rowByte (now (input .entry))) from (length (now (output .entry))) ⌝ }
+{
+    let base = begin::row_base(input);
+    let end = words::lesser(base + 256, rows.len());
+    let at = begin::row_byte(input);
+    drive_from(&rows[base..end], at, output, from);
+}
+
+// What a command drives, at every place of the output.
+fn show(k: Columns, part: Record, array: &[u8], rows: &[u8], input: &[u8], output: &mut [u8])
+    requires { ⌜ HasBytes k part (now array) (now rows) (now input) × (length (now output) ≡ length (now input)) ⌝ }
+    ensures { λ _. ⌜ now (output .exit) ≡ outputOf k part (now (array .entry)) (now (rows .entry)) (now (input .entry)) ⌝ }
+{
+    let source = k.source;
+    let from = k.from;
+    let identity = part.identity;
+    match source {
+        Source::Nothing => runs::blank(output),
+        Source::ArrayBytes => {
+            let at = begin::address_in(part.blocks, input);
+            drive_from(array, at, output, from);
+        }
+        Source::RowBytes => drive_row(rows, input, output, from),
+        Source::StatusByte => repeat_from(part.status, output, from),
+        Source::FunctionByte => repeat_from(part.function, output, from),
+        Source::IdentityBytes => {
+            let bytes = [identity.maker, identity.kind, identity.capacity];
+            drive_from(&bytes, 0, output, from);
+        }
+        Source::MakerDevice => {
+            let bytes = [identity.maker, identity.device];
+            let at = (begin::byte_at(input, 3) % 2) as usize;
+            drive_from(&bytes, at, output, from);
+        }
+        Source::DeviceByte => repeat_from(identity.device, output, from),
+    }
+}
