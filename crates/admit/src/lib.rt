@@ -1,7 +1,7 @@
 // Whether a command is executed: the numbers 21 to 28, in the paper's order.
 ghost use mathlib.Core.Path.{_≡_};
 ghost use Rattle.paper.specs.Records.{isBusy, isSuspended};
-ghost use Rattle.paper.specs.Suspend.{suspendable, resumable};
+ghost use Rattle.paper.specs.Suspend.{suspendable};
 ghost use Rattle.paper.specs.Numbers.{stateOk, namesRows, readsRow, writesRow, rowAddressOk, pinOk, freeOk, commandNumber};
 use types::Columns;
 use types::Effect;

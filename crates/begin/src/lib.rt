@@ -1,7 +1,7 @@
 // What a transaction names, and the operation that it begins.
 ghost use mathlib.Core.Path.{_≡_};
-ghost use Prim.Native.Nat.{_-_, _%_, min};
-ghost use lib.ListN.{length, getD};
+ghost use Prim.Native.Nat.{_-_, _%_};
+ghost use lib.ListN.{getD};
 ghost use Rattle.paper.specs.Address.{addressSent, addressIn, rowOk, rowBase, rowByte, placeIn};
 ghost use Rattle.paper.specs.Program.{dataSent, keptCount, passedCount, programOf};
 ghost use Rattle.paper.specs.Erase.{eraseOf};

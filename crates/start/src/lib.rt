@@ -1,8 +1,6 @@
 // What an executed command makes of the record.
 ghost use mathlib.Core.Path.{_≡_};
 ghost use mathlib.Core.Bool.{true, false};
-ghost use lib.ListN.{drop};
-ghost use Rattle.types.specs.declared.Phase.the-variants.{Busy};
 ghost use Rattle.paper.specs.Program.{dataSent, pageData};
 ghost use Rattle.paper.specs.Records.{settled, marked, resting};
 ghost use Rattle.paper.specs.Suspend.{suspendedIn, resumedIn};

@@ -1,121 +1,84 @@
-use Rattle.paper.specs.Numbers.{commandNumber}
+-- `admit::command_number` meets its contract: it joins the eight numbers in the paper's order.
 use borrow.Author.Needs.{needs}
-use native.Mathlib.Omega.{arith}
+use Rattle.paper.specs.Numbers.{commandNumber}
 use Rattle.admit.proofs.command_number.Statement.{statement}
 use Rattle.admit.proofs.command_number.Tie as tie
-use Rattle.admit.proofs.command_number.Reads as reads
-use Rattle.admit.proofs.command_number.Lts as lts
-use Rattle.admit.proofs.free_ok.Reads as free-ok-reads
-use Rattle.admit.proofs.is_busy.Reads as is-busy-reads
-use Rattle.admit.proofs.is_suspended.Reads as is-suspended-reads
-use Rattle.admit.proofs.row_address_ok.Reads as row-address-ok-reads
-use Rattle.admit.proofs.state_ok.Reads as state-ok-reads
-use Rattle.table.proofs.length_ok.Reads as length-ok-reads
-use Rattle.words.proofs.either.Reads as either-reads
-use Rattle.words.proofs.number_unless.Reads as number-unless-reads
-use Rattle.words.proofs.or_else.Reads as or-else-reads
 
--- src/lib.rt:159:9
 either-requires : tie.Need-either-requires
 either-requires c κs = search needs
 
--- src/lib.rt:160:42
 is-busy-requires : tie.Need-is-busy-requires
 is-busy-requires c κs = search needs
 
--- src/lib.rt:160:9
 either-requires-2 : tie.Need-either-requires-2
 either-requires-2 c κs = search needs
 
--- src/lib.rt:161:45
 is-suspended-requires : tie.Need-is-suspended-requires
 is-suspended-requires c κs = search needs
 
--- src/lib.rt:161:9
 either-requires-3 : tie.Need-either-requires-3
 either-requires-3 c κs = search needs
 
--- src/lib.rt:162:9
 length-ok-requires : tie.Need-length-ok-requires
 length-ok-requires c κs = search needs
 
--- src/lib.rt:163:9
 state-ok-requires : tie.Need-state-ok-requires
 state-ok-requires c κs = search needs
 
--- src/lib.rt:164:9
 either-requires-4 : tie.Need-either-requires-4
 either-requires-4 c κs = search needs
 
--- src/lib.rt:165:9
 row-address-ok-requires : tie.Need-row-address-ok-requires
 row-address-ok-requires c κs = search needs
 
--- src/lib.rt:166:9
 free-ok-requires : tie.Need-free-ok-requires
 free-ok-requires c κs = search needs
 
--- src/lib.rt:168:9
 number-unless-requires : tie.Need-number-unless-requires
 number-unless-requires c κs = search needs
 
--- src/lib.rt:169:9
 number-unless-requires-2 : tie.Need-number-unless-requires-2
 number-unless-requires-2 c κs = search needs
 
--- src/lib.rt:167:9
 or-else-requires : tie.Need-or-else-requires
 or-else-requires c κs = search needs
 
--- src/lib.rt:172:9
 number-unless-requires-3 : tie.Need-number-unless-requires-3
 number-unless-requires-3 c κs = search needs
 
--- src/lib.rt:173:24
 number-unless-requires-4 : tie.Need-number-unless-requires-4
 number-unless-requires-4 c κs = search needs
 
--- src/lib.rt:173:9
 or-else-requires-2 : tie.Need-or-else-requires-2
 or-else-requires-2 c κs = search needs
 
--- src/lib.rt:171:9
 or-else-requires-3 : tie.Need-or-else-requires-3
 or-else-requires-3 c κs = search needs
 
--- src/lib.rt:176:9
 number-unless-requires-5 : tie.Need-number-unless-requires-5
 number-unless-requires-5 c κs = search needs
 
--- src/lib.rt:177:24
 number-unless-requires-6 : tie.Need-number-unless-requires-6
 number-unless-requires-6 c κs = search needs
 
--- src/lib.rt:177:9
 or-else-requires-4 : tie.Need-or-else-requires-4
 or-else-requires-4 c κs = search needs
 
--- src/lib.rt:175:9
 or-else-requires-5 : tie.Need-or-else-requires-5
 or-else-requires-5 c κs = search needs
 
--- src/lib.rt:180:9
 number-unless-requires-7 : tie.Need-number-unless-requires-7
 number-unless-requires-7 c κs = search needs
 
--- src/lib.rt:181:24
 number-unless-requires-8 : tie.Need-number-unless-requires-8
 number-unless-requires-8 c κs = search needs
 
--- src/lib.rt:181:9
 or-else-requires-6 : tie.Need-or-else-requires-6
 or-else-requires-6 c κs = search needs
 
--- src/lib.rt:179:5
 or-else-requires-7 : tie.Need-or-else-requires-7
 or-else-requires-7 c κs = search needs
 
--- src/lib.rt:153:1
 returns : tie.Need-returns
 unfolding commandNumber
 returns c =

@@ -1,127 +1,92 @@
+-- `admit::free_ok` meets its contract: each arm is a clause of the definition.
 use borrow.Author.Needs.{needs}
-use native.Mathlib.Omega.{arith}
 use Rattle.admit.proofs.free_ok.Statement.{statement}
 use Rattle.admit.proofs.free_ok.Tie as tie
-use Rattle.admit.proofs.free_ok.Reads as reads
-use Rattle.admit.proofs.free_ok.Lts as lts
-use Rattle.admit.proofs.pin_ok.Reads as pin-ok-reads
-use Rattle.begin.proofs.erase_of.Reads as erase-of-reads
-use Rattle.begin.proofs.program_of.Reads as program-of-reads
-use Rattle.operations.proofs.target_free.Reads as target-free-reads
 
--- src/lib.rt:131:26
 enum-told : tie.Need-enum-told
 enum-told c = search needs
 
--- src/lib.rt:132:28
 enum-told-2 : tie.Need-enum-told-2
 enum-told-2 c = search needs
 
--- src/lib.rt:133:29
 enum-told-3 : tie.Need-enum-told-3
 enum-told-3 c = search needs
 
--- src/lib.rt:134:26
 enum-known-effect : tie.Need-enum-known-effect
 enum-known-effect c = search needs
 
--- src/lib.rt:135:17
 program-of-requires : tie.Need-program-of-requires
 program-of-requires c κs = search needs
 
--- src/lib.rt:136:13
 target-free-requires : tie.Need-target-free-requires
 target-free-requires c κs = search needs
 
--- src/lib.rt:138:24
 enum-known-effect-2 : tie.Need-enum-known-effect-2
 enum-known-effect-2 c = search needs
 
--- src/lib.rt:139:17
 erase-of-requires : tie.Need-erase-of-requires
 erase-of-requires c κs = search needs
 
--- src/lib.rt:140:13
 target-free-requires-2 : tie.Need-target-free-requires-2
 target-free-requires-2 c κs = search needs
 
--- src/lib.rt:142:24
 enum-known-effect-3 : tie.Need-enum-known-effect-3
 enum-known-effect-3 c = search needs
 
--- src/lib.rt:142:37
 pin-ok-requires : tie.Need-pin-ok-requires
 pin-ok-requires c κs = search needs
 
--- src/lib.rt:143:29
 enum-told-4 : tie.Need-enum-told-4
 enum-told-4 c = search needs
 
--- src/lib.rt:144:28
 enum-told-5 : tie.Need-enum-told-5
 enum-told-5 c = search needs
 
--- src/lib.rt:145:27
 enum-told-6 : tie.Need-enum-told-6
 enum-told-6 c = search needs
 
--- src/lib.rt:146:26
 enum-told-7 : tie.Need-enum-told-7
 enum-told-7 c = search needs
 
--- src/lib.rt:147:25
 enum-told-8 : tie.Need-enum-told-8
 enum-told-8 c = search needs
 
--- src/lib.rt:148:27
 enum-told-9 : tie.Need-enum-told-9
 enum-told-9 c = search needs
 
--- src/lib.rt:127:1
 returns : tie.Need-returns
 returns c = search needs
 
--- src/lib.rt:127:1
 returns-2 : tie.Need-returns-2
 returns-2 c = search needs
 
--- src/lib.rt:127:1
 returns-3 : tie.Need-returns-3
 returns-3 c = search needs
 
--- src/lib.rt:127:1
 returns-4 : tie.Need-returns-4
 returns-4 c = rw (c .before .before .before .effect .given .1, ← c .before .program-of .ensures) (c .target-free .ensures)
 
--- src/lib.rt:127:1
 returns-5 : tie.Need-returns-5
 returns-5 c = rw (c .before .before .before .effect2 .given .1, ← c .before .erase-of .ensures) (c .target-free2 .ensures)
 
--- src/lib.rt:127:1
 returns-6 : tie.Need-returns-6
 returns-6 c = rw (c .before .before .effect3 .given .1) (c .pin-ok .ensures)
 
--- src/lib.rt:127:1
 returns-7 : tie.Need-returns-7
 returns-7 c = search needs
 
--- src/lib.rt:127:1
 returns-8 : tie.Need-returns-8
 returns-8 c = search needs
 
--- src/lib.rt:127:1
 returns-9 : tie.Need-returns-9
 returns-9 c = search needs
 
--- src/lib.rt:127:1
 returns-10 : tie.Need-returns-10
 returns-10 c = search needs
 
--- src/lib.rt:127:1
 returns-11 : tie.Need-returns-11
 returns-11 c = search needs
 
--- src/lib.rt:127:1
 returns-12 : tie.Need-returns-12
 returns-12 c = search needs
 

@@ -1,27 +1,18 @@
-use Rattle.paper.specs.Erase.{eraseOf}
+-- `begin::erase_of` meets its contract: the base is that of the unit that holds the place.
 use borrow.Author.Needs.{needs}
-use native.Mathlib.Omega.{arith}
+use Rattle.paper.specs.Erase.{eraseOf}
 use Rattle.begin.proofs.erase_of.Statement.{statement}
 use Rattle.begin.proofs.erase_of.Tie as tie
-use Rattle.begin.proofs.erase_of.Reads as reads
-use Rattle.begin.proofs.erase_of.Lts as lts
-use Rattle.begin.proofs.place_in.Reads as place-in-reads
-use Rattle.pages.proofs.unit_base.Reads as unit-base-reads
-use Rattle.pages.proofs.unit_memory.Reads as unit-memory-reads
 
--- src/lib.rt:116:26
 unit-memory-requires : tie.Need-unit-memory-requires
 unit-memory-requires c κs = search needs
 
--- src/lib.rt:116:9
 place-in-requires : tie.Need-place-in-requires
 place-in-requires c κs = search needs
 
--- src/lib.rt:117:9
 unit-base-requires : tie.Need-unit-base-requires
 unit-base-requires c κs = search needs
 
--- src/lib.rt:113:1
 returns : tie.Need-returns
 unfolding eraseOf
 returns c = rw (c .unit-base .ensures, c .before .place-in .ensures, c .before .before .unit-memory .ensures)

@@ -1,169 +1,119 @@
+-- `start::after_effect` meets its contract: each arm is a clause of the definition.
 use borrow.Author.Needs.{needs}
-use native.Mathlib.Omega.{arith}
 use Rattle.start.proofs.after_effect.Statement.{statement}
 use Rattle.start.proofs.after_effect.Tie as tie
-use Rattle.start.proofs.after_effect.Reads as reads
-use Rattle.start.proofs.after_effect.Lts as lts
-use Rattle.begin.proofs.erase_of.Reads as erase-of-reads
-use Rattle.begin.proofs.program_of.Reads as program-of-reads
-use Rattle.begin.proofs.write_of.Reads as write-of-reads
-use Rattle.start.proofs.begun_with.Reads as begun-with-reads
-use Rattle.start.proofs.page_data.Reads as page-data-reads
-use Rattle.start.proofs.reset.Reads as reset-reads
-use Rattle.start.proofs.rest.Reads as rest-reads
-use Rattle.start.proofs.resume.Reads as resume-reads
-use Rattle.start.proofs.settle.Reads as settle-reads
-use Rattle.start.proofs.suspend.Reads as suspend-reads
 
--- src/lib.rt:107:26
 enum-told : tie.Need-enum-told
 enum-told c = search needs
 
--- src/lib.rt:108:28
 enum-told-2 : tie.Need-enum-told-2
 enum-told-2 c = search needs
 
--- src/lib.rt:108:28
 settle-requires : tie.Need-settle-requires
 settle-requires c κs = search needs
 
--- src/lib.rt:109:29
 enum-told-3 : tie.Need-enum-told-3
 enum-told-3 c = search needs
 
--- src/lib.rt:109:29
 settle-requires-2 : tie.Need-settle-requires-2
 settle-requires-2 c κs = search needs
 
--- src/lib.rt:110:26
 enum-known-effect : tie.Need-enum-known-effect
 enum-known-effect c = search needs
 
--- src/lib.rt:111:17
 program-of-requires : tie.Need-program-of-requires
 program-of-requires c κs = search needs
 
--- src/lib.rt:112:34
 page-data-requires : tie.Need-page-data-requires
 page-data-requires c κs = search needs
 
--- src/lib.rt:112:13
 begun-with-requires : tie.Need-begun-with-requires
 begun-with-requires c κs = search needs
 
--- src/lib.rt:114:24
 enum-known-effect-2 : tie.Need-enum-known-effect-2
 enum-known-effect-2 c = search needs
 
--- src/lib.rt:114:50
 erase-of-requires : tie.Need-erase-of-requires
 erase-of-requires c κs = search needs
 
--- src/lib.rt:114:33
 begun-with-requires-2 : tie.Need-begun-with-requires-2
 begun-with-requires-2 c κs = search needs
 
--- src/lib.rt:115:24
 enum-known-effect-3 : tie.Need-enum-known-effect-3
 enum-known-effect-3 c = search needs
 
--- src/lib.rt:115:54
 write-of-requires : tie.Need-write-of-requires
 write-of-requires c κs = search needs
 
--- src/lib.rt:115:37
 begun-with-requires-3 : tie.Need-begun-with-requires-3
 begun-with-requires-3 c κs = search needs
 
--- src/lib.rt:116:29
 enum-told-4 : tie.Need-enum-told-4
 enum-told-4 c = search needs
 
--- src/lib.rt:116:29
 suspend-requires : tie.Need-suspend-requires
 suspend-requires c κs = search needs
 
--- src/lib.rt:117:28
 enum-told-5 : tie.Need-enum-told-5
 enum-told-5 c = search needs
 
--- src/lib.rt:117:28
 resume-requires : tie.Need-resume-requires
 resume-requires c κs = search needs
 
--- src/lib.rt:118:27
 enum-told-6 : tie.Need-enum-told-6
 enum-told-6 c = search needs
 
--- src/lib.rt:118:27
 rest-requires : tie.Need-rest-requires
 rest-requires c κs = search needs
 
--- src/lib.rt:119:26
 enum-told-7 : tie.Need-enum-told-7
 enum-told-7 c = search needs
 
--- src/lib.rt:119:26
 rest-requires-2 : tie.Need-rest-requires-2
 rest-requires-2 c κs = search needs
 
--- src/lib.rt:120:25
 enum-told-8 : tie.Need-enum-told-8
 enum-told-8 c = search needs
 
--- src/lib.rt:121:27
 enum-told-9 : tie.Need-enum-told-9
 enum-told-9 c = search needs
 
--- src/lib.rt:121:27
 reset-requires : tie.Need-reset-requires
 reset-requires c κs = search needs
 
--- src/lib.rt:101:1
 returns : tie.Need-returns
 returns c = rw (c .enum-told .given .1)
 
--- src/lib.rt:101:1
 returns-2 : tie.Need-returns-2
 returns-2 c = rw (c .before .enum-told2 .given .1) (c .settle .ensures)
 
--- src/lib.rt:101:1
 returns-3 : tie.Need-returns-3
 returns-3 c = rw (c .before .enum-told3 .given .1) (c .settle2 .ensures)
 
--- src/lib.rt:101:1
 returns-4 : tie.Need-returns-4
 returns-4 c = rw (c .before .before .before .before .effect .given .1, ← c .before .before .program-of .ensures, ← c .before .page-data .ensures) (c .begun-with .ensures)
 
--- src/lib.rt:101:1
 returns-5 : tie.Need-returns-5
 returns-5 c = rw (c .before .before .before .effect2 .given .1, ← c .before .erase-of .ensures) (c .begun-with2 .ensures)
 
--- src/lib.rt:101:1
 returns-6 : tie.Need-returns-6
 returns-6 c = rw (c .before .before .before .effect3 .given .1, ← c .before .write-of .ensures) (c .begun-with3 .ensures)
 
--- src/lib.rt:101:1
 returns-7 : tie.Need-returns-7
 returns-7 c = rw (c .before .enum-told4 .given .1) (c .suspend .ensures)
 
--- src/lib.rt:101:1
 returns-8 : tie.Need-returns-8
 returns-8 c = rw (c .before .enum-told5 .given .1) (c .resume .ensures)
 
--- src/lib.rt:101:1
 returns-9 : tie.Need-returns-9
 returns-9 c = rw (c .before .enum-told6 .given .1) (c .rest .ensures)
 
--- src/lib.rt:101:1
 returns-10 : tie.Need-returns-10
 returns-10 c = rw (c .before .enum-told7 .given .1) (c .rest2 .ensures)
 
--- src/lib.rt:101:1
 returns-11 : tie.Need-returns-11
 returns-11 c = rw (c .enum-told8 .given .1)
 
--- src/lib.rt:101:1
 returns-12 : tie.Need-returns-12
 returns-12 c = rw (c .before .enum-told9 .given .1) (c .reset .ensures)
 
