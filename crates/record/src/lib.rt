@@ -6,7 +6,7 @@ ghost use Rattle.words.specs.Logic.{bit};
 ghost use Rattle.words.specs.Lists.{allZero};
 ghost use Rattle.paper.specs.Program.{noData};
 ghost use Rattle.paper.specs.Records.{isIdle, isErase, isProgram, wip, statusLow, functionLow, made, fresh};
-ghost use Rattle.paper.specs.Soundness.{sleepOk, latchOk, phaseOk, bitsOk, keptIn, pageOk, sound};
+ghost use Rattle.paper.specs.Soundness.{latchOk, phaseOk, bitsOk, keptIn, pageOk, sound};
 ghost use Rattle.paper.specs.Numbers.{powerUpNumber};
 ghost use Rattle.paper.specs.Calls.{poweredUp};
 use types::Identity;

@@ -10,7 +10,7 @@ ghost use Rattle.types.specs.declared.Phase.the-variants.{Busy};
 ghost use Rattle.paper.specs.Sizes.{arrayBytes, rowsBytes};
 ghost use Rattle.paper.specs.Registers.{statusWritten, functionWritten, statusAfter, functionAfter};
 ghost use Rattle.paper.specs.Records.{goingOn};
-ghost use Rattle.paper.specs.Operations.{ticksInAll, ticksDone, advancedBy};
+ghost use Rattle.paper.specs.Operations.{ticksDone, advancedBy};
 ghost use Rattle.paper.specs.Soundness.{sound};
 ghost use Rattle.paper.specs.Ticks.{finished, recordAfter, memoryAfter, workingTicks, ran};
 ghost use Rattle.paper.specs.Numbers.{tickNumber};

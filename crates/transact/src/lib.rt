@@ -1,14 +1,15 @@
 // A transaction: array and rows are lent shared, so that it cannot write them.
 ghost use mathlib.Core.Path.{_≡_};
-ghost use mathlib.Core.Bool.{true};
+ghost use mathlib.Core.Bool.{true, false};
 ghost use mathlib.Core.List.{[], _∷_};
-ghost use Prim.Native.Nat.{_≤_, _<_};
+ghost use Prim.Native.Nat.{_<_};
 ghost use lib.ListN.{length, take, drop};
 ghost use Rattle.types.specs.declared.Decoded.the-variants.{Known};
 ghost use Rattle.paper.specs.Sizes.{arrayBytes, rowsBytes};
 ghost use Rattle.paper.specs.Soundness.{sound};
+ghost use Rattle.paper.specs.Records.{marked};
 ghost use Rattle.paper.specs.Address.{rowBase, rowByte};
-ghost use Rattle.paper.specs.Reads.{outputOf};
+ghost use Rattle.paper.specs.Reads.{undriven, outputOf};
 ghost use Rattle.paper.specs.Numbers.{transactionRefusal};
 ghost use Rattle.paper.specs.Calls.{answerTo, outputTo, transacted, outputAfter};
 ghost use Rattle.transact.specs.Shown.{shown, HasBytes};
@@ -79,4 +80,94 @@ fn show(k: Columns, part: Record, array: &[u8], rows: &[u8], input: &[u8], outpu
         }
         Source::DeviceByte => repeat_from(identity.device, output, from),
     }
+}
+
+// The part ignores a transaction of n bytes with a number: nothing is driven.
+fn ignore(part: Record, number: u8, n: usize, output: &mut [u8]) -> Answer
+    ensures { λ r. ⌜ (r ≡ record { next = marked part false; number = number; first = n }) × (now (output .exit) ≡ undriven (length (now (output .entry)))) ⌝ }
+{
+    runs::blank(output);
+    let next = start::mark(part, false);
+    Answer {
+        next: next,
+        number: number,
+        first: n,
+    }
+}
+
+// A known command: executed, or ignored with its number.
+fn answer_to(
+    command: Command,
+    part: Record,
+    array: &[u8],
+    rows: &[u8],
+    wp: bool,
+    input: &[u8],
+    output: &mut [u8],
+) -> Answer
+    requires { ⌜ (sound part ≡ true) × (length (now array) ≡ arrayBytes (part .blocks)) × (length (now rows) ≡ rowsBytes) × (length (now output) ≡ length (now input)) ⌝ }
+    ensures { λ r. ⌜ (r ≡ answerTo (Known command) part wp (now (input .entry))) × (now (output .exit) ≡ outputTo (Known command) part (now (array .entry)) (now (rows .entry)) wp (now (input .entry))) ⌝ }
+{
+    let k = table::columns_of(command);
+    let n = input.len();
+    let number = admit::command_number(k, part, input, wp);
+    if number != 0 {
+        return ignore(part, number, n, output);
+    }
+    show(k, part, array, rows, input, output);
+    let effect = k.effect;
+    let next = start::after_executed(effect, part, input);
+    let first = table::first_driven(k, n);
+    Answer {
+        next: next,
+        number: 0,
+        first: first,
+    }
+}
+
+// The refusals 1 to 5, in the paper's order.
+fn refusal(part: Record, array: usize, rows: usize, n: usize, o: usize) -> u8
+    ensures { λ r. ⌜ r ≡ transactionRefusal part array rows n o ⌝ }
+{
+    let size = refusals::size_number(part.blocks, array);
+    let row = refusals::rows_number(rows);
+    let some = 1 <= n;
+    let few = n <= 4096;
+    let long = words::number_unless(words::both(some, few), 3);
+    let same = o == n;
+    let other = words::number_unless(same, 4);
+    let unsound = refusals::sound_number(part);
+    words::or_else(
+        size,
+        words::or_else(row, words::or_else(long, words::or_else(other, unsound))),
+    )
+}
+
+// A transaction. WP# is high where wp is true. It answers the next record, the number and the first driven
+// place, and fills the output; refused, with 1 to 5, it writes nothing and gives the record back.
+pub fn transact(
+    part: Record,
+    array: &[u8],
+    rows: &[u8],
+    wp: bool,
+    input: &[u8],
+    output: &mut [u8],
+) -> Answer
+    ensures answer { λ r. ⌜ r ≡ transacted part (length (now (array .entry))) (length (now (rows .entry))) wp (now (input .entry)) (length (now (output .entry))) ⌝ }
+    ensures output { λ _. ⌜ now (output .exit) ≡ outputAfter part (now (array .entry)) (now (rows .entry)) wp (now (input .entry)) (now (output .entry)) ⌝ }
+{
+    let n = input.len();
+    let number = refusal(part, array.len(), rows.len(), n, output.len());
+    if number != 0 {
+        return Answer {
+            next: part,
+            number: number,
+            first: 0,
+        };
+    }
+    let decoded = decode::decode(begin::byte_at(input, 0));
+    let Decoded::Known(command) = decoded else {
+        return ignore(part, 20, n, output);
+    };
+    answer_to(command, part, array, rows, wp, input, output)
 }

@@ -1,53 +1,49 @@
-use borrow.Author.Needs.{needs}
+-- `transact::drive_row` meets its contract: the part that is lent on is the row.
+use Prim.Native.Nat.{_-_, min}
+use mathlib.Core.Path.{_≡_, _∙_}
 use native.Mathlib.Omega.{arith}
+use lib.ListN.{length, drop, length-drop}
+use denote.Ref.{now}
+use borrow.Author.Needs.{needs}
+use Rattle.words.proofs.Lists.{take-min}
 use Rattle.transact.proofs.drive_row.Statement.{statement}
 use Rattle.transact.proofs.drive_row.Tie as tie
-use Rattle.transact.proofs.drive_row.Reads as reads
-use Rattle.transact.proofs.drive_row.Lts as lts
-use Rattle.begin.proofs.row_base.Reads as row-base-reads
-use Rattle.begin.proofs.row_byte.Reads as row-byte-reads
-use Rattle.transact.proofs.drive_from.Reads as drive-from-reads
-use Rattle.words.proofs.lesser.Reads as lesser-reads
 
--- src/lib.rt:48:9
 row-base-requires : tie.Need-row-base-requires
 row-base-requires c κs = search needs
 
--- src/lib.rt:49:29
 add-lesser : tie.Need-add-lesser
 add-lesser c = search needs
 
--- src/lib.rt:49:9
 lesser-requires : tie.Need-lesser-requires
 lesser-requires c κs = search needs
 
--- src/lib.rt:50:9
 row-byte-requires : tie.Need-row-byte-requires
 row-byte-requires c κs = search needs
 
--- src/lib.rt:51:16
 sub-drive-from : tie.Need-sub-drive-from
 sub-drive-from c = search needs
 
--- src/lib.rt:51:16
 part-drive-from-start : tie.Need-part-drive-from-start
 part-drive-from-start c = search needs
 
--- src/lib.rt:51:16
 part-drive-from-end : tie.Need-part-drive-from-end
 part-drive-from-end c = search needs
 
--- src/lib.rt:51:5
 drive-from-requires : tie.Need-drive-from-requires
 drive-from-requires c κs = search needs
 
--- src/lib.rt:44:1
 same-length : tie.Need-same-length
 same-length c = search needs
 
--- src/lib.rt:44:1
 returns : tie.Need-returns
-returns c = ?
+returns c =
+    let s = c .before .before .before .before .before .before .before .before .before .before .before in
+    let xs = now (s .args .rows) in
+    let b = c .before .before .before .before .before .before .before .row-base in
+    let m = c .before .before .before .before .before .before .lesser in
+    let e : m .result - b .result ≡ min 256 (length (drop (b .result) xs)) = rw length-drop (omega (arith, m .ensures, b .ensures, s .pre)) in
+    c .before .before .drive-from .ensures ∙ rw (e, take-min, c .before .before .before .before .before .row-byte .ensures, b .ensures)
 
 pub drive-row-spec : {M : Type 1} → statement M
 drive-row-spec =

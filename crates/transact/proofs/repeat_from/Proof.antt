@@ -1,56 +1,48 @@
-use borrow.Author.Needs.{needs}
+-- `transact::repeat_from` meets its contract: FFh before the first driven place, then the byte.
+use Prim.Native.Nat.{_-_}
 use native.Mathlib.Omega.{arith}
+use lib.ListN.{length}
+use denote.Ref.{now}
+use borrow.Author.Needs.{needs}
+use Rattle.transact.proofs.Laws.{repeated-blank}
 use Rattle.transact.proofs.repeat_from.Statement.{statement}
 use Rattle.transact.proofs.repeat_from.Tie as tie
-use Rattle.transact.proofs.repeat_from.Reads as reads
-use Rattle.transact.proofs.repeat_from.Lts as lts
-use Rattle.runs.proofs.blank.Reads as blank-reads
-use Rattle.runs.proofs.fill.Reads as fill-reads
-use Rattle.words.proofs.lesser.Reads as lesser-reads
 
--- src/lib.rt:38:9
 lesser-requires : tie.Need-lesser-requires
 lesser-requires c κs = search needs
 
--- src/lib.rt:39:17
 sub-blank : tie.Need-sub-blank
 sub-blank c = search needs
 
--- src/lib.rt:39:17
 part-blank-start : tie.Need-part-blank-start
 part-blank-start c = search needs
 
--- src/lib.rt:39:17
 part-blank-end : tie.Need-part-blank-end
 part-blank-end c = search needs
 
--- src/lib.rt:39:5
 blank-requires : tie.Need-blank-requires
 blank-requires c κs = search needs
 
--- src/lib.rt:40:16
 sub-fill : tie.Need-sub-fill
 sub-fill c = search needs
 
--- src/lib.rt:40:16
 part-fill-start : tie.Need-part-fill-start
 part-fill-start c = search needs
 
--- src/lib.rt:40:16
 part-fill-end : tie.Need-part-fill-end
 part-fill-end c = search needs
 
--- src/lib.rt:40:5
 fill-requires : tie.Need-fill-requires
 fill-requires c κs = search needs
 
--- src/lib.rt:34:1
 same-length : tie.Need-same-length
 same-length c = search needs
 
--- src/lib.rt:34:1
 returns : tie.Need-returns
-returns c = ?
+returns c =
+    let a = c .before .before .before .before .before .before .before .before .before .before .args in
+    let m = c .before .before .before .before .before .before .before .before .lesser in
+    repeated-blank (now (a .output)) (a .from) (m .result) (m .result - 0) _ (omega arith) (m .ensures) (c .before .before .before .before .before .before .blank .ensures) (a .byte) (length (now (a .output)) - m .result) _ (omega arith) (c .before .before .fill .ensures)
 
 pub repeat-from-spec : {M : Type 1} → statement M
 repeat-from-spec =

@@ -1,163 +1,152 @@
+-- `transact::show` meets its contract: each arm drives the bytes of its source.
+use mathlib.Core.Path.{refl, sym, _∙_}
+use denote.Ref.{now}
 use borrow.Author.Needs.{needs}
-use native.Mathlib.Omega.{arith}
+use Rattle.types.specs.declared.Source.the-variants.{ArrayBytes, RowBytes, StatusByte, FunctionByte, IdentityBytes, MakerDevice, DeviceByte}
+use Rattle.transact.proofs.Outputs.{driven-output, some-bytes, blank-output, row-inside}
 use Rattle.transact.proofs.show.Statement.{statement}
 use Rattle.transact.proofs.show.Tie as tie
-use Rattle.transact.proofs.show.Reads as reads
-use Rattle.transact.proofs.show.Lts as lts
-use Rattle.begin.proofs.address_in.Reads as address-in-reads
-use Rattle.begin.proofs.byte_at.Reads as byte-at-reads
-use Rattle.runs.proofs.blank.Reads as blank-reads
-use Rattle.transact.proofs.drive_from.Reads as drive-from-reads
-use Rattle.transact.proofs.drive_row.Reads as drive-row-reads
-use Rattle.transact.proofs.repeat_from.Reads as repeat-from-reads
 
--- src/lib.rt:63:40
 enum-told : tie.Need-enum-told
 enum-told c = search needs
 
--- src/lib.rt:63:28
 blank-requires : tie.Need-blank-requires
 blank-requires c κs = search needs
 
--- src/lib.rt:65:17
 enum-told-2 : tie.Need-enum-told-2
 enum-told-2 c = search needs
 
--- src/lib.rt:65:17
 address-in-requires : tie.Need-address-in-requires
 address-in-requires c κs = search needs
 
--- src/lib.rt:66:13
 drive-from-requires : tie.Need-drive-from-requires
-drive-from-requires c κs = ?
+drive-from-requires c κs =
+    let s = c .before .before .before .before .before .before .before .before .before in
+    let a = s .args in
+    some-bytes (a .k) (a .part) (now (a .array)) (now (a .rows)) (now (a .input)) ArrayBytes (c .before .before .enum-told2 .given .1) refl (s .pre .0)
 
--- src/lib.rt:68:52
 enum-told-3 : tie.Need-enum-told-3
 enum-told-3 c = search needs
 
--- src/lib.rt:68:29
 drive-row-requires : tie.Need-drive-row-requires
-drive-row-requires c κs = ?
+drive-row-requires c κs =
+    let s = c .before .before .before .before .before .before .before .before in
+    let a = s .args in
+    row-inside (a .k) (a .part) (now (a .array)) (now (a .rows)) (now (a .input)) (c .before .enum-told3 .given .1) (s .pre .0)
 
--- src/lib.rt:69:56
 enum-told-4 : tie.Need-enum-told-4
 enum-told-4 c = search needs
 
--- src/lib.rt:69:31
 repeat-from-requires : tie.Need-repeat-from-requires
 repeat-from-requires c κs = search needs
 
--- src/lib.rt:70:60
 enum-told-5 : tie.Need-enum-told-5
 enum-told-5 c = search needs
 
--- src/lib.rt:70:33
 repeat-from-requires-2 : tie.Need-repeat-from-requires-2
 repeat-from-requires-2 c κs = search needs
 
--- src/lib.rt:72:17
 enum-told-6 : tie.Need-enum-told-6
 enum-told-6 c = search needs
 
--- src/lib.rt:73:24
 slice-aggregate-drive-from : tie.Need-slice-aggregate-drive-from
 slice-aggregate-drive-from c = search needs
 
--- src/lib.rt:73:13
 drive-from-requires-2 : tie.Need-drive-from-requires-2
 drive-from-requires-2 c κs = search needs
 
--- src/lib.rt:76:17
 enum-told-7 : tie.Need-enum-told-7
 enum-told-7 c = search needs
 
--- src/lib.rt:77:23
 byte-at-requires : tie.Need-byte-at-requires
 byte-at-requires c κs = search needs
 
--- src/lib.rt:77:22
 cast-at : tie.Need-cast-at
 cast-at c = search needs
 
--- src/lib.rt:78:24
 slice-aggregate-drive-from-2 : tie.Need-slice-aggregate-drive-from-2
 slice-aggregate-drive-from-2 c = search needs
 
--- src/lib.rt:78:13
 drive-from-requires-3 : tie.Need-drive-from-requires-3
 drive-from-requires-3 c κs = search needs
 
--- src/lib.rt:80:60
 enum-told-8 : tie.Need-enum-told-8
 enum-told-8 c = search needs
 
--- src/lib.rt:80:31
 repeat-from-requires-3 : tie.Need-repeat-from-requires-3
 repeat-from-requires-3 c κs = search needs
 
--- src/lib.rt:55:1
 same-length : tie.Need-same-length
 same-length c = search needs
 
--- src/lib.rt:55:1
 returns : tie.Need-returns
-returns c = ?
+returns c =
+    let s = c .before .before .before .before .before .before .before .before .before .before .before in
+    let a = s .args in
+    c .before .before .blank .ensures ∙ rw (s .pre .1) (sym (blank-output (a .k) (a .part) (now (a .array)) (now (a .rows)) (now (a .input)) (c .before .before .before .before .enum-told .given .1)))
 
--- src/lib.rt:55:1
 same-length-2 : tie.Need-same-length-2
 same-length-2 c = search needs
 
--- src/lib.rt:55:1
 returns-2 : tie.Need-returns-2
-returns-2 c = ?
+returns-2 c =
+    let s = c .before .before .before .before .before .before .before .before .before .before .before .before in
+    let a = s .args in
+    c .before .before .drive-from .ensures ∙ rw (s .pre .1, c .before .before .before .before .address-in .ensures) (sym (driven-output (a .k) (a .part) (now (a .array)) (now (a .rows)) (now (a .input)) ArrayBytes (c .before .before .before .before .before .enum-told2 .given .1) refl))
 
--- src/lib.rt:55:1
 same-length-3 : tie.Need-same-length-3
 same-length-3 c = search needs
 
--- src/lib.rt:55:1
 returns-3 : tie.Need-returns-3
-returns-3 c = ?
+returns-3 c =
+    let s = c .before .before .before .before .before .before .before .before .before .before .before in
+    let a = s .args in
+    c .before .before .drive-row .ensures ∙ rw (s .pre .1) (sym (driven-output (a .k) (a .part) (now (a .array)) (now (a .rows)) (now (a .input)) RowBytes (c .before .before .before .before .enum-told3 .given .1) refl))
 
--- src/lib.rt:55:1
 same-length-4 : tie.Need-same-length-4
 same-length-4 c = search needs
 
--- src/lib.rt:55:1
 returns-4 : tie.Need-returns-4
-returns-4 c = ?
+returns-4 c =
+    let s = c .before .before .before .before .before .before .before .before .before .before .before in
+    let a = s .args in
+    c .before .before .repeat-from .ensures ∙ rw (s .pre .1) (sym (driven-output (a .k) (a .part) (now (a .array)) (now (a .rows)) (now (a .input)) StatusByte (c .before .before .before .before .enum-told4 .given .1) refl))
 
--- src/lib.rt:55:1
 same-length-5 : tie.Need-same-length-5
 same-length-5 c = search needs
 
--- src/lib.rt:55:1
 returns-5 : tie.Need-returns-5
-returns-5 c = ?
+returns-5 c =
+    let s = c .before .before .before .before .before .before .before .before .before .before .before in
+    let a = s .args in
+    c .before .before .repeat-from2 .ensures ∙ rw (s .pre .1) (sym (driven-output (a .k) (a .part) (now (a .array)) (now (a .rows)) (now (a .input)) FunctionByte (c .before .before .before .before .enum-told5 .given .1) refl))
 
--- src/lib.rt:55:1
 same-length-6 : tie.Need-same-length-6
 same-length-6 c = search needs
 
--- src/lib.rt:55:1
 returns-6 : tie.Need-returns-6
-returns-6 c = ?
+returns-6 c =
+    let s = c .before .before .before .before .before .before .before .before .before .before .before .before in
+    let a = s .args in
+    c .before .before .drive-from2 .ensures ∙ rw (s .pre .1) (sym (driven-output (a .k) (a .part) (now (a .array)) (now (a .rows)) (now (a .input)) IdentityBytes (c .before .before .before .before .before .enum-told6 .given .1) refl))
 
--- src/lib.rt:55:1
 same-length-7 : tie.Need-same-length-7
 same-length-7 c = search needs
 
--- src/lib.rt:55:1
 returns-7 : tie.Need-returns-7
-returns-7 c = ?
+returns-7 c =
+    let s = c .before .before .before .before .before .before .before .before .before .before .before .before .before in
+    let a = s .args in
+    c .before .before .drive-from3 .ensures ∙ rw (s .pre .1, c .before .before .before .before .before .byte-at .ensures) (sym (driven-output (a .k) (a .part) (now (a .array)) (now (a .rows)) (now (a .input)) MakerDevice (c .before .before .before .before .before .before .enum-told7 .given .1) refl))
 
--- src/lib.rt:55:1
 same-length-8 : tie.Need-same-length-8
 same-length-8 c = search needs
 
--- src/lib.rt:55:1
 returns-8 : tie.Need-returns-8
-returns-8 c = ?
+returns-8 c =
+    let s = c .before .before .before .before .before .before .before .before .before .before .before in
+    let a = s .args in
+    c .before .before .repeat-from3 .ensures ∙ rw (s .pre .1) (sym (driven-output (a .k) (a .part) (now (a .array)) (now (a .rows)) (now (a .input)) DeviceByte (c .before .before .before .before .enum-told8 .given .1) refl))
 
 pub show-spec : {M : Type 1} → statement M
 show-spec =

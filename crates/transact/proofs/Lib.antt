@@ -1,0 +1,4 @@
+pub mod Laws
+pub mod Outputs
+pub mod Driven
+pub mod Tight

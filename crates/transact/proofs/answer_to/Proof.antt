@@ -1,0 +1,75 @@
+-- `transact::answer_to` meets its contract: the number decides, and a command that is executed has something to drive.
+use mathlib.Core.Path.{_≡_, sym, ap, _∙_}
+use denote.Ref.{now}
+use borrow.Author.Tests.{eq-eqb, ne-eqb}
+use borrow.Author.Needs.{needs}
+use Rattle.types.specs.declared.Columns.{Columns}
+use Rattle.paper.proofs.Numbers.{command-taken}
+use Rattle.paper.specs.Numbers.{commandNumber}
+use Rattle.paper.specs.Reads.{outputOf}
+use Rattle.paper.specs.Table.{columns}
+use Rattle.transact.proofs.Driven.{has-bytes}
+use Rattle.transact.proofs.answer_to.Statement.{statement}
+use Rattle.transact.proofs.answer_to.Tie as tie
+
+columns-of-requires : tie.Need-columns-of-requires
+columns-of-requires c κs = search needs
+
+command-number-requires : tie.Need-command-number-requires
+command-number-requires c κs = search needs
+
+ignore-requires : tie.Need-ignore-requires
+ignore-requires c κs = search needs
+
+same-length : tie.Need-same-length
+same-length c = search needs
+
+returns : tie.Need-returns
+returns c =
+    let s = c .before .before .before .before .before .before .before .before .before .before .before in
+    let a = s .args in
+    let n : c .before .before .before .before .before .command-number .result ≡ commandNumber (columns (a .command)) (a .part) (now (a .input)) (a .wp) =
+    c .before .before .before .before .before .command-number .ensures ∙ ap (λ (x : Columns). commandNumber x (a .part) (now (a .input)) (a .wp)) (c .before .before .before .before .before .before .columns-of .ensures) in
+    let z = ne-eqb _ _ (c .before .before .before .before .if1 .taken) in
+    (rw (← n, z) (c .before .before .ignore .ensures .0), rw (← n, z, ← s .pre .3) (c .before .before .ignore .ensures .1))
+
+show-requires : tie.Need-show-requires
+show-requires c κs =
+    let s = c .before .before .before .before .before .before .before .before in
+    let a = s .args in
+    let t = command-taken _ (a .part) (now (a .input)) (a .wp) (sym (c .before .before .command-number .ensures) ∙ c .before .if1 .left) in
+    (has-bytes (a .part) (now (a .array)) (now (a .rows)) (now (a .input)) (s .pre .0) (s .pre .1) (s .pre .2) (c .before .before .before .columns-of .result) (t .row-address-ok), s .pre .3)
+
+after-executed-requires : tie.Need-after-executed-requires
+after-executed-requires c κs = search needs
+
+first-driven-requires : tie.Need-first-driven-requires
+first-driven-requires c κs = search needs
+
+same-length-2 : tie.Need-same-length-2
+same-length-2 c = search needs
+
+returns-2 : tie.Need-returns-2
+returns-2 c =
+    let a = c .before .before .before .before .before .before .before .before .before .before .before .before .before .args in
+    let n : c .before .before .before .before .before .before .before .command-number .result ≡ commandNumber (columns (a .command)) (a .part) (now (a .input)) (a .wp) =
+    c .before .before .before .before .before .before .before .command-number .ensures ∙ ap (λ (x : Columns). commandNumber x (a .part) (now (a .input)) (a .wp)) (c .before .before .before .before .before .before .before .before .columns-of .ensures) in
+    let z = eq-eqb _ _ (c .before .before .before .before .before .before .if1 .left) in (
+      rw (← n, z, c .before .after-executed .ensures, c .first-driven .ensures, c .before .before .before .before .before .before .before .before .columns-of .ensures),
+      rw (← n, z) (c .before .before .before .before .show .ensures ∙ ap (λ (x : Columns). outputOf x (a .part) (now (a .array)) (now (a .rows)) (now (a .input))) (c .before .before .before .before .before .before .before .before .columns-of .ensures)),
+    )
+
+pub answer-to-spec : {M : Type 1} → statement M
+answer-to-spec =
+    tie.close
+    (tie.spec
+    columns-of-requires
+    command-number-requires
+    ignore-requires
+    same-length
+    returns
+    show-requires
+    after-executed-requires
+    first-driven-requires
+    same-length-2
+    returns-2)
