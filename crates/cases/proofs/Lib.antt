@@ -5,3 +5,4 @@ pub mod ProgramRun
 pub mod ProgramSent
 pub mod EraseCut
 pub mod Cases
+pub mod States
