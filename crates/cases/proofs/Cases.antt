@@ -36,7 +36,7 @@ use Rattle.paper.proofs.Addresses.{in-page}
 use Rattle.paper.proofs.Soundness.{sound-parts}
 use Rattle.paper.proofs.Kept.{idle-sound}
 use Rattle.cases.proofs.Paper.{send, Ready, Free, Case1, Case2, Case3, Case4, Case5, Case6, Case7, Case8, Case9, Case10, Case11, Parts, Cases}
-use Rattle.cases.proofs.Answers.{executes, ignores, arm-number, read-status-number, reset-number}
+use Rattle.paper.proofs.Answers.{executes, ignores, arm-number, read-status-number, reset-number}
 use Rattle.cases.proofs.EraseCut.{begins, runs, runs-on, halts, halted-arms, halted-resets}
 use Rattle.cases.proofs.Parts.{enabled, enabled-ready}
 use Rattle.cases.proofs.ProgramSent.{program-run, program-ticks, program-array, program-tick}

@@ -31,7 +31,7 @@ use Rattle.paper.proofs.MadeSound.{made-again, code-stored}
 use Rattle.paper.proofs.Runs.{run-record, run-memory, run-works}
 use Rattle.paper.proofs.EraseRun.{stretch, erase-ran}
 use Rattle.cases.proofs.Paper.{send, tick, arrayTicked, Ready, Free}
-use Rattle.cases.proofs.Answers.{executes, ticks-run, ticks-memory, arm-number, reset-number}
+use Rattle.paper.proofs.Answers.{executes, ticks-run, ticks-memory, arm-number, reset-number}
 use Rattle.cases.proofs.Parts.{turned, did, turned-sound, enabled-ready}
 
 -- BER64 at block 3 with k ticks done

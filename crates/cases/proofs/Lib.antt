@@ -1,5 +1,4 @@
 pub mod Paper
-pub mod Answers
 pub mod Parts
 pub mod ProgramRun
 pub mod ProgramSent

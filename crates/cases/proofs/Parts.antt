@@ -17,7 +17,7 @@ use Rattle.paper.specs.Table.{decoded, columns}
 use Rattle.paper.proofs.Soundness.{sound-parts, marked-sound}
 use Rattle.paper.proofs.Begun.{settled-empty, idle-empty}
 use Rattle.cases.proofs.Paper.{send, Ready}
-use Rattle.cases.proofs.Answers.{executes}
+use Rattle.paper.proofs.Answers.{executes}
 
 -- the part in another phase, with this latch and this armed mark
 abbrev pub turned : Record → Phase → Bool → Bool → Record

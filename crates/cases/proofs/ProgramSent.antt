@@ -20,7 +20,7 @@ use Rattle.paper.specs.Calls.{executed}
 use Rattle.paper.specs.Ticks.{recordAfter, memoryAfter, workingTicks}
 use Rattle.paper.proofs.Soundness.{sound-parts}
 use Rattle.cases.proofs.Paper.{send, tick, arrayTicked, Ready, Free}
-use Rattle.cases.proofs.Answers.{executes, ticks-run, ticks-memory}
+use Rattle.paper.proofs.Answers.{executes, ticks-run, ticks-memory}
 use Rattle.cases.proofs.ProgramRun.{program-number, program-sound, program-first}
 
 module _ (p : Record) (r : Ready p) (w : p .wel ≡ true) (h m l : ℕ) (d : List ℕ) (n : 1 ≤ length d) (most : length d ≤ 4092) where

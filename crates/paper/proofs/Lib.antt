@@ -14,3 +14,4 @@ pub mod Numbers
 pub mod KeptBytes
 pub mod Begun
 pub mod TransactionKept
+pub mod Answers

@@ -1,0 +1,5 @@
+pub mod Touches
+pub mod Told
+pub mod Shielded
+pub mod FromPowerUp
+pub mod Contracts

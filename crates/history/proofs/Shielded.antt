@@ -1,0 +1,166 @@
+-- A byte whose block is protected throughout, or whose row is locked throughout, holds its starting value after any run of calls: no touch reaches it.
+use Prim.Native.Nat.{ℕ, zero, suc, _+_, _*_, _/_, _%_, _≤_, _<_, min}
+use mathlib.Core.Path.{_≡_, refl, sym, ap, _∙_}
+use mathlib.Core.Bool.{Bool, true, false, not, cond, false≢true}
+use mathlib.Core.List.{List, [], _∷_}
+use native.Mathlib.Omega.{arith}
+use lib.ListN.{length, getD}
+use lib.Dec.{eqb, leb, ltb}
+use borrow.Author.Tests.{eqb-true, leb-true, ltb-true, le-ltb}
+use Rattle.types.specs.declared.Memory.{Memory}
+use Rattle.types.specs.declared.Memory.the-variants.{Array, Rows}
+use Rattle.types.specs.declared.EraseUnit.{EraseUnit}
+use Rattle.types.specs.declared.EraseUnit.the-variants.{Sector, Block32, Block64, Chip, Row}
+use Rattle.types.specs.declared.Operation.{Operation}
+use Rattle.types.specs.declared.Operation.the-variants.{Program, Erase, Write}
+use Rattle.types.specs.declared.Phase.{Phase}
+use Rattle.types.specs.declared.Phase.the-variants.{Idle, Busy, Suspended}
+use Rattle.types.specs.declared.Record.{Record}
+use Rattle.words.specs.Logic.{_and_, _or_}
+use Rattle.words.proofs.Tests.{and-l, and-r}
+use Rattle.paper.specs.Sizes.{arrayBytes, rowsBytes, pageBytes, blockBytes, sameMemory}
+use Rattle.paper.specs.Protection.{codeOf, blocksAsked, protectedBlocks, protected, locked}
+use Rattle.paper.specs.Program.{pageBase, pagePlace, narrowedByte}
+use Rattle.paper.specs.Erase.{memoryOf, unitBytes, unitBase, erasedByte}
+use Rattle.paper.specs.Records.{isBusy, goingOn}
+use Rattle.paper.specs.Operations.{ticksInAll, ticksDone, advancedBy, free, unitFree, nextTouch}
+use Rattle.paper.specs.Soundness.{sound}
+use Rattle.paper.specs.Ticks.{finished, worked, tickedIn, recordAfter, touchIn, touchOf}
+use Rattle.paper.specs.Numbers.{tickNumber}
+use Rattle.paper.specs.History.{Call, transaction, ticks, recordAfterCall, tickTouches, callTouches, history, byteAfter, byteAfterAll, shielded, shieldedThroughout}
+use Rattle.paper.proofs.Soundness.{InOrder, busy-in-order}
+use Rattle.paper.proofs.Kept.{run-sound}
+use Rattle.paper.proofs.TransactionKept.{transaction-sound}
+use Rattle.history.specs.Run.{Run}
+use Rattle.history.proofs.Touches.{bytes-append}
+use Rattle.history.proofs.Told.{ticks-sound, run-told}
+
+and-false : (a : Bool) → (a and false) ≡ false
+unfolding _and_
+and-false true = refl
+and-false false = refl
+
+-- a code of 0 protects nothing
+none-protected : (n k : ℕ) → protected 0 n k ≡ false
+unfolding protected protectedBlocks blocksAsked _and_ _or_
+none-protected n k =
+    let e : ltb k (0 + min n 0) ≡ false = le-ltb k (0 + min n 0) (omega arith) in
+    ap (λ (t : Bool). leb 0 k and t) e ∙ and-false (leb 0 k)
+
+-- places of one block, or of one row, are free together
+module _ (n status function at b : ℕ) where
+  same-block : at / blockBytes ≡ b / blockBytes → free Array b n status function ≡ true → free Array at n status function ≡ true
+  same-block e h = ap (λ (k : ℕ). not (protected (codeOf status) n k)) e ∙ h
+
+  same-row : at / pageBytes ≡ b / pageBytes → free Rows b n status function ≡ true → free Rows at n status function ≡ true
+  same-row e h = ap (λ (k : ℕ). not (locked function k)) e ∙ h
+
+  -- a place of a page that begins at b
+  page-free : (m : Memory) → pageBase b ≡ b → b ≤ at → at < b + pageBytes → free m b n status function ≡ true → free m at n status function ≡ true
+  page-free Array e l u h = same-block (omega arith) h
+  page-free Rows e l u h = same-row (omega arith) h
+
+  -- a place of a unit that begins at b
+  unit-free : (u : EraseUnit) → unitBase u n b ≡ b → b ≤ at → at < b + unitBytes u n → unitFree u b n status function ≡ true → free (memoryOf u) at n status function ≡ true
+  unit-free Sector e l h f = same-block (omega arith) f
+  unit-free Block32 e l h f = same-block (omega arith) f
+  unit-free Block64 e l h f = same-block (omega arith) f
+  unit-free Chip e l h f =
+      let z : codeOf status ≡ 0 = eqb-true _ _ f in
+      ap (λ (c : ℕ). not (protected c n (at / blockBytes))) z ∙ ap not (none-protected n (at / blockBytes))
+  unit-free Row e l h f = same-row (omega arith) f
+
+-- a test that only a free place can pass is failed at a place that is not free
+failed : (m : Memory) (at n status function : ℕ) (t : Bool) → not (free m at n status function) ≡ true → (t ≡ true → free m at n status function ≡ true) → t ≡ false
+failed m at n status function true shut h = absurd (false≢true (ap not (sym (h refl)) ∙ shut))
+failed m at n status function false shut h = refl
+
+-- what the next tick of an operation that is in order reaches, at a place that is not free
+module _ (at n status function : ℕ) where
+  -- a test of a place of a memory w that only a free place of w can pass
+  spares : (m w : Memory) (t : Bool) → (t ≡ true → free w at n status function ≡ true) → not (free m at n status function) ≡ true → (sameMemory m w and t) ≡ false
+  unfolding _and_
+  spares Array Array t h shut = failed Array at n status function t shut h
+  spares Array Rows t h shut = refl
+  spares Rows Array t h shut = refl
+  spares Rows Rows t h shut = failed Rows at n status function t shut h
+
+  -- the place that a program narrows next
+  program-free : (m : Memory) (b s k d : ℕ) → InOrder (Program m b s k d) n status function → eqb at (b + pagePlace s d) ≡ true → free m at n status function ≡ true
+  unfolding pagePlace
+  program-free m b s k d i t =
+      let e : at ≡ b + (s + d) % pageBytes = eqb-true _ _ t in
+      page-free n status function at b m (eqb-true _ _ (i .begins)) (omega arith) (omega arith) (i .open-target)
+
+  -- a place of the page that an erase sets next
+  erase-free : (u : EraseUnit) (b d : ℕ) → InOrder (Erase u b d) n status function → (leb (b + d * pageBytes) at and ltb at (b + d * pageBytes + pageBytes)) ≡ true → free (memoryOf u) at n status function ≡ true
+  erase-free u b d i t =
+      let l : b + d * pageBytes ≤ at = leb-true _ _ (and-l _ _ t) in
+      let h : at < b + d * pageBytes + pageBytes = ltb-true _ _ (and-r _ _ t) in
+      unit-free n status function at b u (eqb-true _ _ (i .begins)) (omega arith) (omega (arith, i .going)) (i .open-target)
+
+  next-spares : (m : Memory) (o : Operation) (g : List ℕ) (x : ℕ) → InOrder o n status function → not (free m at n status function) ≡ true → byteAfter m at (nextTouch o g) x ≡ x
+  next-spares m (Program w b s k d) g x i shut = ap (λ (t : Bool). cond t (narrowedByte x (getD g d 0)) x) (spares m w (eqb at (b + pagePlace s d)) (program-free w b s k d i) shut)
+  next-spares m (Erase u b d) g x i shut = ap (λ (t : Bool). cond t erasedByte x) (spares m (memoryOf u) (leb (b + d * pageBytes) at and ltb at (b + d * pageBytes + pageBytes)) (erase-free u b d i) shut)
+  next-spares m (Write r v) g x i shut = refl
+
+-- a call keeps a record sound
+call-sound : (c : Call) (p : Record) → sound p ≡ true → sound (recordAfterCall c p) ≡ true
+call-sound (transaction wp i o) p s = transaction-sound p (arrayBytes (p .blocks)) rowsBytes wp i o s
+call-sound (ticks n) p s = ticks-sound p n s
+
+module _ (m : Memory) (at : ℕ) where
+  -- while a part is busy, the place is shielded
+  abbrev Guarded : Record → Phase → Type 0
+  Guarded p f = isBusy f ≡ true → shielded m at p ≡ true
+
+  touch-spares : (p : Record) (f : Phase) (x : ℕ) → p .phase ≡ f → sound p ≡ true → Guarded p f → byteAfter m at (touchIn f (p .page)) x ≡ x
+  touch-spares p Idle x e s g = refl
+  touch-spares p (Busy o) x e s g = next-spares at (p .blocks) (p .status) (p .function) m o (p .page) x (busy-in-order p o e s) (g refl)
+  touch-spares p (Suspended o) x e s g = refl
+
+  -- a tick keeps it so: a register changes with the last tick alone, which makes the part idle
+  worked-guarded : (p : Record) (o : Operation) (t : Bool) → shielded m at p ≡ true → Guarded (cond t (goingOn p (advancedBy 1 o)) (finished p o)) (cond t (goingOn p (advancedBy 1 o)) (finished p o) .phase)
+  worked-guarded p o true g b = g
+  worked-guarded p o false g b = absurd (false≢true b)
+
+  tick-guarded : (p : Record) (f : Phase) → p .phase ≡ f → Guarded p f → Guarded (tickedIn p f) (tickedIn p f .phase)
+  unfolding worked
+  tick-guarded p Idle e g = λ b. g (sym (ap isBusy e) ∙ b)
+  tick-guarded p (Busy o) e g = worked-guarded p o (ltb (ticksDone o + 1) (ticksInAll o (p .blocks))) (g refl)
+  tick-guarded p (Suspended o) e g = λ b. g (sym (ap isBusy e) ∙ b)
+
+  run-guarded : (n : ℕ) (p : Record) → shielded m at p ≡ true → Guarded (recordAfter n p) (recordAfter n p .phase)
+  run-guarded zero p h = λ b. h
+  run-guarded (suc n) p h = tick-guarded (recordAfter n p) (recordAfter n p .phase) refl (run-guarded n p h)
+
+  -- n ticks, a call and a list of calls spare the byte
+  ticks-spare : (n : ℕ) (p : Record) (x : ℕ) → sound p ≡ true → shielded m at p ≡ true → byteAfterAll m at (tickTouches n p) x ≡ x
+  ticks-spare zero p x s h = refl
+  ticks-spare (suc n) p x s h =
+      bytes-append m at (tickTouches n p) (touchOf (recordAfter n p) ∷ []) x
+      ∙ ap (byteAfter m at (touchOf (recordAfter n p))) (ticks-spare n p x s h)
+      ∙ touch-spares (recordAfter n p) (recordAfter n p .phase) x refl (run-sound n p s) (run-guarded n p h)
+
+  call-as : (n : ℕ) (p : Record) (x : ℕ) (t : Bool) → byteAfterAll m at (tickTouches n p) x ≡ x → byteAfterAll m at (cond t (tickTouches n p) []) x ≡ x
+  call-as n p x true e = e
+  call-as n p x false e = refl
+
+  call-spares : (c : Call) (p : Record) (x : ℕ) → sound p ≡ true → shielded m at p ≡ true → byteAfterAll m at (callTouches c p) x ≡ x
+  call-spares (transaction wp i o) p x s h = refl
+  call-spares (ticks n) p x s h = call-as n p x (eqb (tickNumber p (arrayBytes (p .blocks)) rowsBytes n) 0) (ticks-spare n p x s h)
+
+  history-spares : (cs : List Call) (p : Record) (x : ℕ) → sound p ≡ true → shieldedThroughout m at cs p ≡ true → byteAfterAll m at (history cs p) x ≡ x
+  history-spares [] p x s h = refl
+  history-spares (c ∷ cs) p x s h =
+      bytes-append m at (callTouches c p) (history cs (recordAfterCall c p)) x
+      ∙ ap (byteAfterAll m at (history cs (recordAfterCall c p))) (call-spares c p x s (and-l _ _ h))
+      ∙ history-spares cs (recordAfterCall c p) x (call-sound c p s) (and-r _ _ h)
+
+-- a run of calls from a sound record over the part's own memory
+module _ {cs : List Call} {p q : Record} {xs rs ys ts : List ℕ} (run : Run p xs rs cs q ys ts) (s : sound p ≡ true) (a : length xs ≡ arrayBytes (p .blocks)) (r : length rs ≡ rowsBytes) where
+  pub protected-kept : (at : ℕ) → at < length xs → shieldedThroughout Array at cs p ≡ true → getD ys at 0 ≡ getD xs at 0
+  protected-kept at l h = run-told run s a r .array at l ∙ history-spares Array at cs p (getD xs at 0) s h
+
+  pub locked-kept : (at : ℕ) → at < length rs → shieldedThroughout Rows at cs p ≡ true → getD ts at 0 ≡ getD rs at 0
+  locked-kept at l h = run-told run s a r .rows at l ∙ history-spares Rows at cs p (getD rs at 0) s h

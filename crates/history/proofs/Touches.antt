@@ -1,0 +1,152 @@
+-- Touches, place by place: what a touch, the touches of so many ticks, and a tick call leave at each place of a memory is what the history says of its byte.
+use Prim.Native.Nat.{ℕ, zero, suc, _+_, _-_, _≤_, _<_}
+use mathlib.Core.Path.{_≡_, refl, sym, ap, _∙_}
+use mathlib.Core.Bool.{Bool, true, false, cond}
+use mathlib.Core.List.{List, [], _∷_, _++_}
+use native.Mathlib.Omega.{arith}
+use lib.ListN.{length, take, drop, replicate, getD, length-replicate, getD-replicate, List·getD-append}
+use lib.Seq.{getD-append-add, getD-set-same, getD-set-other, getD-take, getD-drop, length-take-le}
+use lib.Dec.{eqb, leb, ltb}
+use borrow.Author.Tests.{eqb-true, eqb-false, leb-true, leb-false, ltb-true, ltb-false, le-leb}
+use Rattle.types.specs.declared.Memory.{Memory}
+use Rattle.types.specs.declared.Memory.the-variants.{Array, Rows}
+use Rattle.types.specs.declared.Operation.{Operation}
+use Rattle.types.specs.declared.Operation.the-variants.{Program, Erase, Write}
+use Rattle.types.specs.declared.Phase.{Phase}
+use Rattle.types.specs.declared.Phase.the-variants.{Idle, Busy, Suspended}
+use Rattle.types.specs.declared.Record.{Record}
+use Rattle.words.specs.Logic.{_and_}
+use Rattle.paper.specs.Sizes.{memoryBytes, pageBytes}
+use Rattle.paper.specs.Program.{narrowedByte, narrowed}
+use Rattle.paper.specs.Erase.{memoryOf, unitBytes, erasedByte, pageErased}
+use Rattle.paper.specs.Operations.{Touch, none, blank, narrow, nextTouch, touched}
+use Rattle.paper.specs.Soundness.{sound}
+use Rattle.paper.specs.Ticks.{recordAfter, touchIn, touchOf, memoryAfter}
+use Rattle.paper.specs.History.{tickTouches, byteAfter, byteAfterAll}
+use Rattle.paper.proofs.Pages.{erased-length, narrowed-length}
+use Rattle.paper.proofs.Soundness.{InOrder, busy-in-order}
+use Rattle.paper.proofs.Kept.{run-sound, run-size}
+
+-- a place of a memory after a page of it was set to FFh
+module _ (xs : List ℕ) (b at : ℕ) (h : b + pageBytes ≤ length xs) where
+  pages : pageErased xs b ≡ take b xs ++ (replicate pageBytes erasedByte ++ drop (b + pageBytes) xs)
+  unfolding pageErased
+  pages = rw (le-leb _ _ h)
+
+  before-page : at < b → getD (pageErased xs b) at 0 ≡ getD xs at 0
+  before-page l =
+      ap (λ (ys : List ℕ). getD ys at 0) pages
+      ∙ List·getD-append (take b xs) (replicate pageBytes erasedByte ++ drop (b + pageBytes) xs) 0 at (rw (length-take-le b xs (omega arith)) l)
+      ∙ getD-take b xs at 0 l
+
+  -- k places after the place where the page begins
+  behind : (k : ℕ) → at ≡ b + k → getD (pageErased xs b) at 0 ≡ getD (replicate pageBytes erasedByte ++ drop (b + pageBytes) xs) k 0
+  behind k e =
+      let n : length (take b xs) ≡ b = length-take-le b xs (omega arith) in
+      let f : at ≡ length (take b xs) + k = rw n e in
+      ap (λ (ys : List ℕ). getD ys at 0) pages
+      ∙ ap (λ (j : ℕ). getD (take b xs ++ (replicate pageBytes erasedByte ++ drop (b + pageBytes) xs)) j 0) f
+      ∙ getD-append-add (take b xs) (replicate pageBytes erasedByte ++ drop (b + pageBytes) xs) k 0
+
+  in-page : b ≤ at → at < b + pageBytes → getD (pageErased xs b) at 0 ≡ erasedByte
+  in-page l u =
+      behind (at - b) (omega arith)
+      ∙ List·getD-append (replicate pageBytes erasedByte) (drop (b + pageBytes) xs) 0 (at - b) (rw (length-replicate pageBytes erasedByte) (omega arith))
+      ∙ getD-replicate pageBytes (at - b) erasedByte 0 (omega arith)
+
+  after-page : b + pageBytes ≤ at → getD (pageErased xs b) at 0 ≡ getD xs at 0
+  after-page l =
+      let n : at - b ≡ length (replicate pageBytes erasedByte) + (at - b - pageBytes) = rw (length-replicate pageBytes erasedByte) (omega arith) in
+      let e : b + pageBytes + (at - b - pageBytes) ≡ at = omega arith in
+      behind (at - b) (omega arith)
+      ∙ ap (λ (j : ℕ). getD (replicate pageBytes erasedByte ++ drop (b + pageBytes) xs) j 0) n
+      ∙ getD-append-add (replicate pageBytes erasedByte) (drop (b + pageBytes) xs) (at - b - pageBytes) 0
+      ∙ getD-drop (b + pageBytes) xs (at - b - pageBytes) 0
+      ∙ ap (λ (j : ℕ). getD xs j 0) e
+
+  page-as : (t u : Bool) → leb b at ≡ t → ltb at (b + pageBytes) ≡ u → getD (pageErased xs b) at 0 ≡ cond (t and u) erasedByte (getD xs at 0)
+  unfolding _and_
+  page-as false u e f = before-page (leb-false _ _ e)
+  page-as true true e f = in-page (leb-true _ _ e) (ltb-true _ _ f)
+  page-as true false e f = after-page (ltb-false _ _ f)
+
+  page-at : getD (pageErased xs b) at 0 ≡ cond (leb b at and ltb at (b + pageBytes)) erasedByte (getD xs at 0)
+  page-at = page-as (leb b at) (ltb at (b + pageBytes)) refl refl
+
+-- a place of a memory after a place of it was narrowed
+module _ (xs : List ℕ) (a d at : ℕ) (l : at < length xs) where
+  narrowed-as : (t : Bool) → eqb at a ≡ t → getD (narrowed xs a d) at 0 ≡ cond t (narrowedByte (getD xs at 0) d) (getD xs at 0)
+  unfolding narrowed
+  narrowed-as true e =
+      let s : at ≡ a = eqb-true _ _ e in
+      rw (← s) (getD-set-same xs at (narrowedByte (getD xs at 0) d) 0 l)
+  narrowed-as false e = getD-set-other xs a at (narrowedByte (getD xs a 0) d) 0 (eqb-false _ _ e)
+
+  narrowed-at : getD (narrowed xs a d) at 0 ≡ cond (eqb at a) (narrowedByte (getD xs at 0) d) (getD xs at 0)
+  narrowed-at = narrowed-as (eqb at a) refl
+
+-- a touch whose page, if it is one, lies in its memory, on a part of n blocks
+abbrev Fits : Touch → ℕ → Type 0
+Fits none n = 0 ≤ n
+Fits (blank w b) n = b + pageBytes ≤ memoryBytes w n
+Fits (narrow w a d) n = 0 ≤ n
+
+touched-at : (m : Memory) (t : Touch) (n : ℕ) (xs : List ℕ) (at : ℕ) → Fits t n → length xs ≡ memoryBytes m n → at < length xs → getD (touched m t xs) at 0 ≡ byteAfter m at t (getD xs at 0)
+unfolding _and_
+touched-at m none n xs at f e l = refl
+touched-at Array (blank Array b) n xs at f e l = page-at xs b at (omega (arith, f, e))
+touched-at Array (blank Rows b) n xs at f e l = refl
+touched-at Rows (blank Array b) n xs at f e l = refl
+touched-at Rows (blank Rows b) n xs at f e l = page-at xs b at (omega (arith, f, e))
+touched-at Array (narrow Array a d) n xs at f e l = narrowed-at xs a d at l
+touched-at Array (narrow Rows a d) n xs at f e l = refl
+touched-at Rows (narrow Array a d) n xs at f e l = refl
+touched-at Rows (narrow Rows a d) n xs at f e l = narrowed-at xs a d at l
+
+touched-length : (m : Memory) (t : Touch) (xs : List ℕ) → length (touched m t xs) ≡ length xs
+touched-length m none xs = refl
+touched-length Array (blank Array b) xs = erased-length xs b
+touched-length Array (blank Rows b) xs = refl
+touched-length Rows (blank Array b) xs = refl
+touched-length Rows (blank Rows b) xs = erased-length xs b
+touched-length Array (narrow Array a d) xs = narrowed-length xs a d
+touched-length Array (narrow Rows a d) xs = refl
+touched-length Rows (narrow Array a d) xs = refl
+touched-length Rows (narrow Rows a d) xs = narrowed-length xs a d
+
+-- what the next tick of a sound record reaches
+next-fits : (o : Operation) (g : List ℕ) (n status function : ℕ) → InOrder o n status function → Fits (nextTouch o g) n
+next-fits (Program m b s k d) g n status function i = omega arith
+next-fits (Erase u b d) g n status function i =
+    let w : b + unitBytes u n ≤ memoryBytes (memoryOf u) n = leb-true _ _ (i .within) in
+    omega (arith, i .going, w)
+next-fits (Write r v) g n status function i = omega arith
+
+module _ (p : Record) (s : sound p ≡ true) where
+  fits-in : (f : Phase) → p .phase ≡ f → Fits (touchIn f (p .page)) (p .blocks)
+  fits-in Idle e = omega arith
+  fits-in (Busy o) e = next-fits o (p .page) (p .blocks) (p .status) (p .function) (busy-in-order p o e s)
+  fits-in (Suspended o) e = omega arith
+
+  touch-fits : Fits (touchOf p) (p .blocks)
+  touch-fits = fits-in (p .phase) refl
+
+-- touches, then some more
+pub bytes-append : (m : Memory) (at : ℕ) (ts us : List Touch) (x : ℕ) → byteAfterAll m at (ts ++ us) x ≡ byteAfterAll m at us (byteAfterAll m at ts x)
+bytes-append m at [] us x = refl
+bytes-append m at (t ∷ ts) us x = bytes-append m at ts us (byteAfter m at t x)
+
+-- a memory after n ticks
+pub memory-length : (m : Memory) (n : ℕ) (p : Record) (xs : List ℕ) → length (memoryAfter m n p xs) ≡ length xs
+memory-length m zero p xs = refl
+memory-length m (suc n) p xs = touched-length m (touchOf (recordAfter n p)) (memoryAfter m n p xs) ∙ memory-length m n p xs
+
+pub memory-at : (m : Memory) (n : ℕ) (p : Record) (xs : List ℕ) (at : ℕ) → sound p ≡ true → length xs ≡ memoryBytes m (p .blocks) → at < length xs
+    → getD (memoryAfter m n p xs) at 0 ≡ byteAfterAll m at (tickTouches n p) (getD xs at 0)
+memory-at m zero p xs at s e l = refl
+memory-at m (suc n) p xs at s e l =
+    let q = recordAfter n p in
+    let z = memory-length m n p xs in
+    touched-at m (touchOf q) (q .blocks) (memoryAfter m n p xs) at (touch-fits q (run-sound n p s)) (z ∙ e ∙ ap (memoryBytes m) (sym (run-size n p))) (rw z l)
+    ∙ ap (byteAfter m at (touchOf q)) (memory-at m n p xs at s e l)
+    ∙ sym (bytes-append m at (tickTouches n p) (touchOf q ∷ []) (getD xs at 0))

@@ -1,0 +1,4 @@
+pub mod Closing
+pub mod Aside
+pub mod Steps
+pub mod Theorem

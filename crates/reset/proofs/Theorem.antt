@@ -1,0 +1,123 @@
+-- Demand 3's last sentences: a part that was woken, armed and reset equals one freshly powered, from every sound record and after every history.
+use Prim.Native.Nat.{ℕ}
+use mathlib.Core.Path.{_≡_, refl, sym, ap, _∙_}
+use mathlib.Core.Bool.{Bool, true, false, cond, false≢true}
+use mathlib.Core.List.{List, [], _∷_, _++_, append-nil}
+use lib.Dec.{eqb}
+use borrow.Author.Tests.{eq-eqb}
+use Rattle.types.specs.declared.Identity.{Identity}
+use Rattle.types.specs.declared.PoweredUp.{PoweredUp}
+use Rattle.types.specs.declared.Answer.{Answer}
+use Rattle.types.specs.declared.Record.{Record}
+use Rattle.paper.specs.Operations.{Touch}
+use Rattle.paper.specs.Records.{marked, fresh}
+use Rattle.paper.specs.Reset.{wasReset}
+use Rattle.paper.specs.Soundness.{sound}
+use Rattle.paper.specs.Numbers.{powerUpNumber}
+use Rattle.paper.specs.Calls.{noIdentity, poweredUp}
+use Rattle.paper.specs.History.{Call, recordAfterCall, recordAfterCalls, history}
+use Rattle.paper.proofs.Soundness.{sound-parts}
+use Rattle.paper.proofs.Kept.{power-up-sound}
+use Rattle.reset.proofs.Closing.{wake, arm, reset, allAside, untilArmed, untilReset, closing, poweredAs, answerToReset, FreshAfter}
+use Rattle.reset.proofs.Aside.{calls-sound, calls-size, calls-identity, all-aside-alike, calls-append, history-append}
+use Rattle.reset.proofs.Steps.{woken, armed-now, reset-now, powered-as}
+
+-- a part that is awake and armed, and that 99h may be sent to
+record Armed (q : Record) : Type 0 where
+  is-sound : sound q ≡ true
+  awake : q .asleep ≡ false
+  is-armed : q .armed ≡ true
+
+module _ (w1 w2 w3 : Bool) (b c : List Call) (p : Record) where
+  abbrev atArm : Record
+  atArm = recordAfterCalls b (recordAfterCall (wake w1) p)
+
+  abbrev atReset : Record
+  atReset = recordAfterCalls (untilReset w1 w2 b c) p
+
+  armed-here : recordAfterCalls (untilArmed w1 w2 b) p ≡ recordAfterCall (arm w2) atArm
+  armed-here = calls-append b (arm w2 ∷ []) (recordAfterCall (wake w1) p)
+
+  reset-here : atReset ≡ recordAfterCalls c (recordAfterCalls (untilArmed w1 w2 b) p)
+  reset-here = calls-append b (arm w2 ∷ c) (recordAfterCall (wake w1) p) ∙ ap (recordAfterCalls c) (sym armed-here)
+
+  closed-here : recordAfterCalls (closing w1 w2 w3 b c) p ≡ answerToReset w3 atReset .next
+  closed-here =
+      calls-append b (arm w2 ∷ (c ++ (reset w3 ∷ []))) (recordAfterCall (wake w1) p)
+      ∙ calls-append c (reset w3 ∷ []) (recordAfterCall (arm w2) atArm)
+      ∙ ap (recordAfterCall (reset w3)) (sym (calls-append b (arm w2 ∷ c) (recordAfterCall (wake w1) p)))
+
+  -- ABh, 66h and 99h reach no stored byte
+  only-between : history (closing w1 w2 w3 b c) p ≡ history b (recordAfterCall (wake w1) p) ++ history c (recordAfterCalls (untilArmed w1 w2 b) p)
+  only-between =
+      history-append b (arm w2 ∷ (c ++ (reset w3 ∷ []))) (recordAfterCall (wake w1) p)
+      ∙ ap (λ (ts : List Touch). history b (recordAfterCall (wake w1) p) ++ ts)
+      (history-append c (reset w3 ∷ []) (recordAfterCall (arm w2) atArm) ∙ append-nil (history c (recordAfterCall (arm w2) atArm)) ∙ ap (history c) (sym armed-here))
+
+  module _ (s : sound p ≡ true) (hb : allAside b (recordAfterCall (wake w1) p) ≡ true) (hc : allAside c (recordAfterCalls (untilArmed w1 w2 b) p) ≡ true) where
+    arm-sound : sound atArm ≡ true
+    arm-sound = calls-sound (wake w1 ∷ b) p s
+
+    arm-awake : atArm .asleep ≡ false
+    arm-awake = all-aside-alike b (recordAfterCall (wake w1) p) hb .asleep ∙ woken p s w1
+
+    armed-as : recordAfterCalls (untilArmed w1 w2 b) p ≡ marked atArm true
+    armed-as = armed-here ∙ armed-now atArm arm-sound w2 arm-awake
+
+    ready : Armed atReset
+    ready =
+        let l = all-aside-alike c (recordAfterCalls (untilArmed w1 w2 b) p) hc in
+        record {
+          is-sound = calls-sound (untilReset w1 w2 b c) p s;
+          awake = ap (λ (q : Record). q .asleep) reset-here ∙ l .asleep ∙ ap (λ (q : Record). q .asleep) armed-as ∙ arm-awake;
+          is-armed = ap (λ (q : Record). q .armed) reset-here ∙ l .armed ∙ ap (λ (q : Record). q .armed) armed-as;
+        }
+
+    answer : answerToReset w3 atReset ≡ record { next = wasReset atReset; number = 0; first = 1 }
+    answer = reset-now atReset (ready .is-sound) w3 (ready .awake) (ready .is-armed)
+
+    powered : (n : ℕ) (id : Identity) → p .blocks ≡ n → p .identity ≡ id → poweredAs n id atReset ≡ record { next = wasReset atReset; number = 0 }
+    powered n id en ei =
+        let m : atReset .blocks ≡ n = calls-size (untilReset w1 w2 b c) p ∙ en in
+        let i : atReset .identity ≡ id = calls-identity (untilReset w1 w2 b c) p ∙ ei in
+        ap (λ (k : ℕ). poweredAs k id atReset) (sym m)
+        ∙ ap (λ (j : Identity). poweredAs (atReset .blocks) j atReset) (sym i)
+        ∙ powered-as (atReset .blocks) (atReset .identity) (atReset .status) (atReset .function) (sound-parts atReset (ready .is-sound) .size)
+
+    fresh-as : (n : ℕ) (id : Identity) → p .blocks ≡ n → p .identity ≡ id → FreshAfter n id w1 w2 w3 b c p
+    fresh-as n id en ei =
+        record {
+          executed = ap (λ (t : Answer). t .number) answer;
+          unrefused = ap (λ (t : PoweredUp). t .number) (powered n id en ei);
+          equal = closed-here ∙ ap (λ (t : Answer). t .next) answer ∙ sym (ap (λ (t : PoweredUp). t .next) (powered n id en ei));
+          reached = only-between;
+        }
+
+-- from every sound record, whatever its phase, asleep or awake
+pub wake-arm-reset : (p : Record) (w1 w2 w3 : Bool) (b c : List Call) → sound p ≡ true
+    → allAside b (recordAfterCall (wake w1) p) ≡ true → allAside c (recordAfterCalls (untilArmed w1 w2 b) p) ≡ true
+    → FreshAfter (p .blocks) (p .identity) w1 w2 w3 b c p
+wake-arm-reset p w1 w2 w3 b c s hb hc = fresh-as w1 w2 w3 b c p s hb hc (p .blocks) (p .identity) refl refl
+
+-- a power-up that was not refused
+module _ (n : ℕ) (id : Identity) (status function : ℕ) where
+  powered-by : (t : Bool) → eqb (powerUpNumber n status function) 0 ≡ t
+      → cond {A = PoweredUp} t (record { next = fresh n id status function; number = 0 }) (record { next = fresh 1 noIdentity 0 0; number = powerUpNumber n status function }) .number ≡ 0
+      → cond {A = PoweredUp} t (record { next = fresh n id status function; number = 0 }) (record { next = fresh 1 noIdentity 0 0; number = powerUpNumber n status function }) .next ≡ fresh n id status function
+  powered-by true e h = refl
+  powered-by false e h = absurd (false≢true (sym e ∙ eq-eqb _ _ h))
+
+  powered-fresh : poweredUp n id status function .number ≡ 0 → poweredUp n id status function .next ≡ fresh n id status function
+  unfolding poweredUp
+  powered-fresh = powered-by (eqb (powerUpNumber n status function) 0) refl
+
+  -- after every list of calls a from a power-up that was not refused on
+  pub reset-after-history : (a : List Call) (w1 w2 w3 : Bool) (b c : List Call) → poweredUp n id status function .number ≡ 0
+      → let p = recordAfterCalls a (poweredUp n id status function .next) in
+      allAside b (recordAfterCall (wake w1) p) ≡ true → allAside c (recordAfterCalls (untilArmed w1 w2 b) p) ≡ true
+      → FreshAfter n id w1 w2 w3 b c p
+  reset-after-history a w1 w2 w3 b c h hb hc =
+      let o = poweredUp n id status function .next in
+      fresh-as w1 w2 w3 b c (recordAfterCalls a o) (calls-sound a o (power-up-sound n id status function)) hb hc n id
+      (calls-size a o ∙ ap (λ (q : Record). q .blocks) (powered-fresh h))
+      (calls-identity a o ∙ ap (λ (q : Record). q .identity) (powered-fresh h))
