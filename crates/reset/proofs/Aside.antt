@@ -22,7 +22,7 @@ use Rattle.paper.specs.Calls.{transacted, ticked}
 use Rattle.paper.specs.History.{Call, transaction, ticks, recordAfterCall, recordAfterCalls, callTouches, history, standsAside}
 use Rattle.paper.proofs.Kept.{run-sound}
 use Rattle.paper.proofs.TransactionKept.{transaction-sound, transaction-size, transaction-identity}
-use Rattle.reset.proofs.Closing.{allAside}
+use Rattle.reset.specs.Closing.{allAside}
 
 -- a part of the same size, identity and marks
 pub record Alike (p q : Record) : Type 0 where

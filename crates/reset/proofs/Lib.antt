@@ -1,4 +1,3 @@
-pub mod Closing
 pub mod Aside
 pub mod Steps
 pub mod Theorem

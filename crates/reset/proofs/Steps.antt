@@ -24,7 +24,7 @@ use Rattle.paper.specs.Calls.{poweredUp}
 use Rattle.paper.specs.History.{recordAfterCall}
 use Rattle.paper.proofs.Soundness.{sound-parts}
 use Rattle.paper.proofs.Answers.{executes, ignores, arm-number, reset-number}
-use Rattle.reset.proofs.Closing.{wake, arm, answerToReset}
+use Rattle.reset.specs.Closing.{wake, arm, answerToReset}
 
 -- ABh is executed, but on a busy part ignored with 22
 wake-number : (p : Record) (wp busy : Bool) → isBusy (p .phase) ≡ busy → commandNumber (columns Wake) p (0xAB ∷ []) wp ≡ unless (not busy) 22

@@ -18,7 +18,7 @@ use Rattle.paper.specs.Calls.{noIdentity, poweredUp}
 use Rattle.paper.specs.History.{Call, recordAfterCall, recordAfterCalls, history}
 use Rattle.paper.proofs.Soundness.{sound-parts}
 use Rattle.paper.proofs.Kept.{power-up-sound}
-use Rattle.reset.proofs.Closing.{wake, arm, reset, allAside, untilArmed, untilReset, closing, poweredAs, answerToReset, FreshAfter}
+use Rattle.reset.specs.Closing.{wake, arm, reset, allAside, untilArmed, untilReset, closing, poweredAs, answerToReset, FreshAfter}
 use Rattle.reset.proofs.Aside.{calls-sound, calls-size, calls-identity, all-aside-alike, calls-append, history-append}
 use Rattle.reset.proofs.Steps.{woken, armed-now, reset-now, powered-as}
 
