@@ -1,0 +1,652 @@
+/* Yawlspar's reference model: see reference.h. The order below is that of the specification. */
+#include "reference.h"
+
+/* ---- The part on the bench ---- */
+
+static bool size_is_good(uint32_t size)
+{
+    return size == 1 || size == 4 || size == 8 || size == 16;
+}
+
+/* Bytes in the array; asked of good sizes only. */
+static uint32_t array_bytes(uint32_t size)
+{
+    return size * REF_BLOCK;
+}
+
+static unsigned bp_code(uint8_t status)
+{
+    return (status >> 2) & 15u;
+}
+
+/* Protection: is the block of the address, which is inside the part, protected? */
+static bool address_protected(uint32_t size, uint8_t status, uint32_t address)
+{
+    unsigned code = bp_code(status);
+    uint32_t block = address / REF_BLOCK;
+    uint32_t many;
+
+    if (code == 0 || code == 15)
+        return false;
+    if (code <= 7) {
+        many = (uint32_t)1 << (code - 1);
+        if (many > size)
+            many = size;
+        return block >= size - many; /* the top blocks */
+    }
+    many = (uint32_t)1 << (14 - code);
+    if (many > size)
+        many = size;
+    return block < many; /* the bottom blocks */
+}
+
+/* IRL0 is function bit 4, IRL3 is function bit 7. */
+static bool row_locked(uint8_t function, uint32_t row)
+{
+    return ((function >> (4 + row)) & 1u) != 0;
+}
+
+static uint32_t unit_bytes(uint32_t size, uint8_t kind)
+{
+    switch (kind) {
+    case SER:
+        return 4096;
+    case BER32:
+        return 32768;
+    case BER64:
+        return 65536;
+    default: /* CER */
+        return array_bytes(size);
+    }
+}
+
+static uint32_t ticks_in_all(uint32_t size, const struct operation *op)
+{
+    switch (op->kind) {
+    case PP:
+    case ROW_PROGRAM:
+        return op->count;
+    case SER:
+        return 16;
+    case BER32:
+        return 128;
+    case BER64:
+        return 256;
+    case CER:
+        return 256 * size;
+    default: /* row erase, register writes */
+        return 1;
+    }
+}
+
+static bool can_be_suspended(uint8_t kind)
+{
+    return kind == PP || kind == SER || kind == BER32 || kind == BER64;
+}
+
+/* What 01 asks of the operation of a busy or suspended part. */
+static bool operation_is_sound(const struct part *part)
+{
+    const struct operation *op = &part->op;
+
+    switch (op->kind) {
+    case PP:
+        if (op->base % REF_PAGE != 0 || op->base >= array_bytes(part->size))
+            return false;
+        if (address_protected(part->size, part->status, op->base))
+            return false;
+        if (op->count < 1 || op->count > 256 || op->start >= 256)
+            return false;
+        break;
+    case SER:
+    case BER32:
+    case BER64:
+        if (op->base % unit_bytes(part->size, op->kind) != 0)
+            return false;
+        if (op->base >= array_bytes(part->size))
+            return false;
+        if (address_protected(part->size, part->status, op->base))
+            return false;
+        break;
+    case CER:
+        if (op->base != 0 || bp_code(part->status) != 0)
+            return false;
+        break;
+    case ROW_ERASE:
+    case ROW_PROGRAM:
+        if (op->base % REF_PAGE != 0 || op->base >= REF_ROWS)
+            return false;
+        if (row_locked(part->function, op->base / REF_PAGE))
+            return false;
+        if (op->kind == ROW_PROGRAM && (op->count < 1 || op->count > 256 || op->start >= 256))
+            return false;
+        break;
+    case WRITE_STATUS:
+        if ((op->held & 0x03) != 0)
+            return false;
+        break;
+    case WRITE_FUNCTION:
+        if ((op->held & 0x0F) != 0)
+            return false;
+        break;
+    default:
+        return false;
+    }
+    return op->done < ticks_in_all(part->size, op);
+}
+
+/* "A record is sound when ..." */
+bool ref_sound(const struct part *part)
+{
+    bool busy = part->phase == BUSY;
+    bool suspended = part->phase == SUSPENDED;
+    bool esus, psus;
+    uint32_t kept = 0;
+    uint32_t i;
+
+    if (!size_is_good(part->size))
+        return false;
+    if (part->phase != IDLE && !busy && !suspended)
+        return false;
+    if (part->asleep && part->phase != IDLE)
+        return false;
+    if (busy && !part->wel)
+        return false;
+    if (suspended && part->wel)
+        return false;
+    if (suspended && !can_be_suspended(part->op.kind))
+        return false;
+    if ((busy || suspended) && !operation_is_sound(part))
+        return false;
+
+    /* stored bits that other fields define */
+    psus = suspended && part->op.kind == PP;
+    esus = suspended && part->op.kind != PP;
+    if (((part->status & 0x01) != 0) != busy)
+        return false;
+    if (((part->status & 0x02) != 0) != part->wel)
+        return false;
+    if (((part->function & 0x08) != 0) != esus)
+        return false;
+    if (((part->function & 0x04) != 0) != psus)
+        return false;
+    if ((part->function & 0x03) != 0)
+        return false;
+
+    /* page data: zeros after the kept bytes of a program, all zero otherwise */
+    if ((busy || suspended) && (part->op.kind == PP || part->op.kind == ROW_PROGRAM))
+        kept = part->op.count;
+    for (i = kept; i < REF_PAGE; i++)
+        if (part->data[i] != 0)
+            return false;
+    return true;
+}
+
+/* ---- Setting the fields that hang together ---- */
+
+static void set_wel(struct part *part, bool wel)
+{
+    part->wel = wel;
+    part->status = (uint8_t)((part->status & 0xFD) | (wel ? 0x02 : 0));
+}
+
+/* Sets the phase, and WIP, ESUS and PSUS by it; the operation is there already. */
+static void set_phase(struct part *part, uint8_t phase)
+{
+    part->phase = phase;
+    part->status = (uint8_t)((part->status & 0xFE) | (phase == BUSY ? 0x01 : 0));
+    part->function = (uint8_t)(part->function & 0xF0);
+    if (phase == SUSPENDED)
+        part->function = (uint8_t)(part->function | (part->op.kind == PP ? 0x04 : 0x08));
+}
+
+static void clear_operation(struct part *part)
+{
+    uint32_t i;
+
+    part->op.kind = NONE;
+    part->op.base = 0;
+    part->op.start = 0;
+    part->op.count = 0;
+    part->op.done = 0;
+    part->op.held = 0;
+    for (i = 0; i < REF_PAGE; i++)
+        part->data[i] = 0;
+}
+
+/* The operation is over or dropped: idle, WEL 0. */
+static void make_idle(struct part *part)
+{
+    clear_operation(part);
+    set_phase(part, IDLE);
+    set_wel(part, false);
+}
+
+/* WEL is 1 and stays so while busy. */
+static void begin(struct part *part, uint8_t kind, uint32_t base)
+{
+    clear_operation(part);
+    part->op.kind = kind;
+    part->op.base = base;
+    set_phase(part, BUSY);
+}
+
+static void begin_program(struct part *part, uint8_t kind, uint32_t base, uint32_t start,
+                          const uint8_t *sent, size_t count)
+{
+    size_t skipped = count > 256 ? count - 256 : 0; /* the last 256 count */
+    size_t i;
+
+    begin(part, kind, base);
+    part->op.start = (uint32_t)((start + skipped) % 256);
+    part->op.count = (uint32_t)(count - skipped);
+    for (i = 0; i < count - skipped; i++)
+        part->data[i] = sent[skipped + i];
+}
+
+static void begin_write(struct part *part, uint8_t kind, uint8_t held)
+{
+    begin(part, kind, 0);
+    part->op.held = held;
+}
+
+/* ---- Calls and their numbers ---- */
+
+int ref_power_up(struct part *part, uint32_t size, uint8_t m, uint8_t t, uint8_t c, uint8_t d,
+                 uint8_t status, uint8_t function)
+{
+    int answer = 0;
+
+    if (!size_is_good(size))
+        answer = 1;
+    else if ((status & 0x03) != 0 || (function & 0x0F) != 0)
+        answer = 5;
+
+    part->size = answer == 0 ? size : 1;
+    part->m = answer == 0 ? m : 0;
+    part->t = answer == 0 ? t : 0;
+    part->c = answer == 0 ? c : 0;
+    part->d = answer == 0 ? d : 0;
+    part->status = answer == 0 ? status : 0;
+    part->function = answer == 0 ? function : 0;
+    part->wel = false;
+    part->armed = false;
+    part->asleep = false;
+    part->phase = IDLE;
+    clear_operation(part);
+    return answer;
+}
+
+/* Numbers 1 and 2: what is lent. */
+static int lent_wrong(const struct part *part, size_t array_length, size_t rows_length)
+{
+    if (!size_is_good(part->size) || array_length != array_bytes(part->size))
+        return 1;
+    if (rows_length != REF_ROWS)
+        return 2;
+    return 0;
+}
+
+/* ---- Command table ---- */
+
+static bool in_the_table(uint8_t code)
+{
+    switch (code) {
+    case 0x03: case 0x0B: case 0x05: case 0x48: case 0x9F: case 0x90: case 0xAB: case 0x68:
+    case 0x06: case 0x04:
+    case 0x01: case 0x42:
+    case 0x02:
+    case 0xD7: case 0x20:
+    case 0x52: case 0xD8:
+    case 0xC7: case 0x60:
+    case 0x75: case 0xB0: case 0x7A: case 0x30:
+    case 0xB9:
+    case 0x66: case 0x99:
+    case 0x64: case 0x62:
+        return true;
+    default:
+        return false;
+    }
+}
+
+static bool is_a_read(uint8_t code)
+{
+    return code == 0x03 || code == 0x0B || code == 0x05 || code == 0x48 || code == 0x9F ||
+           code == 0x90 || code == 0xAB || code == 0x68;
+}
+
+static bool taken_while_busy(uint8_t code)
+{
+    return code == 0x05 || code == 0x48 || code == 0x75 || code == 0xB0 || code == 0x66 ||
+           code == 0x99;
+}
+
+static bool taken_while_suspended(uint8_t code)
+{
+    return is_a_read(code) || code == 0x7A || code == 0x30 || code == 0x66 || code == 0x99;
+}
+
+static bool length_is_right(uint8_t code, size_t length)
+{
+    switch (code) {
+    case 0x05: case 0x48: case 0x9F: case 0xAB:
+        return length >= 1;
+    case 0x03: case 0x90:
+        return length >= 4;
+    case 0x0B: case 0x68: case 0x02: case 0x62:
+        return length >= 5;
+    case 0x01: case 0x42:
+        return length == 2;
+    case 0xD7: case 0x20: case 0x52: case 0xD8: case 0x64:
+        return length == 4;
+    default:
+        return length == 1;
+    }
+}
+
+static bool needs_wel(uint8_t code)
+{
+    switch (code) {
+    case 0x01: case 0x42: case 0x02: case 0xD7: case 0x20: case 0x52: case 0xD8: case 0xC7:
+    case 0x60: case 0x64: case 0x62:
+        return true;
+    default:
+        return false;
+    }
+}
+
+static bool is_a_row_command(uint8_t code)
+{
+    return code == 0x68 || code == 0x64 || code == 0x62;
+}
+
+/* Row addresses, as sent: 00h, then 00h, 10h, 20h or 30h, then a byte address. */
+static bool row_address_is_valid(const uint8_t *in)
+{
+    return in[1] == 0x00 && (in[2] == 0x00 || in[2] == 0x10 || in[2] == 0x20 || in[2] == 0x30);
+}
+
+/* A: three address bytes, high byte first, modulo the array size. */
+static uint32_t address_of(const struct part *part, const uint8_t *in)
+{
+    uint32_t sent = ((uint32_t)in[1] << 16) | ((uint32_t)in[2] << 8) | (uint32_t)in[3];
+
+    return sent % array_bytes(part->size);
+}
+
+/* Number 28, for a transaction of the right length with a valid row address if it has one. */
+static bool barred(const struct part *part, bool wp_high, const uint8_t *in)
+{
+    switch (in[0]) {
+    case 0x01: /* SRWD 1, QE 0, WP# low */
+        return (part->status & 0x80) != 0 && (part->status & 0x40) == 0 && !wp_high;
+    case 0x02: case 0xD7: case 0x20: case 0x52: case 0xD8:
+        return address_protected(part->size, part->status, address_of(part, in));
+    case 0xC7: case 0x60:
+        return bp_code(part->status) != 0;
+    case 0x64: case 0x62:
+        return row_locked(part->function, in[2] / 16u);
+    default:
+        return false;
+    }
+}
+
+/* Numbers 20 to 28, the lowest that applies; 0 when the transaction is executed. */
+static int ignored_with(const struct part *part, bool wp_high, const uint8_t *in, size_t length)
+{
+    uint8_t code = in[0];
+
+    if (!in_the_table(code))
+        return 20;
+    if (part->asleep && code != 0xAB)
+        return 21;
+    if (part->phase == BUSY && !taken_while_busy(code))
+        return 22;
+    if (part->phase == SUSPENDED && !taken_while_suspended(code))
+        return 23;
+    if (!length_is_right(code, length))
+        return 24;
+    if ((code == 0x75 || code == 0xB0) &&
+        !(part->phase == BUSY && can_be_suspended(part->op.kind)))
+        return 25;
+    if ((code == 0x7A || code == 0x30) && part->phase != SUSPENDED)
+        return 25;
+    if (code == 0x99 && !part->armed)
+        return 25;
+    if (needs_wel(code) && !part->wel)
+        return 26;
+    if (is_a_row_command(code) && !row_address_is_valid(in))
+        return 27;
+    if (barred(part, wp_high, in))
+        return 28;
+    return 0;
+}
+
+int ref_transact(struct part *part, const uint8_t *array, size_t array_length, const uint8_t *rows,
+                 size_t rows_length, bool wp_high, const uint8_t *in, size_t in_length, uint8_t *out,
+                 size_t out_length, size_t *first)
+{
+    int answer;
+    uint32_t a;
+    size_t i;
+
+    *first = 0;
+    answer = lent_wrong(part, array_length, rows_length);
+    if (answer != 0)
+        return answer;
+    if (in_length == 0 || in_length > REF_MOST)
+        return 3;
+    if (out_length != in_length)
+        return 4;
+    if (!ref_sound(part))
+        return 5;
+
+    /* nothing is driven until a command drives it */
+    for (i = 0; i < out_length; i++)
+        out[i] = 0xFF;
+    *first = in_length;
+
+    answer = ignored_with(part, wp_high, in, in_length);
+    if (answer != 0) {
+        part->armed = false;
+        return answer;
+    }
+    if (in[0] == 0x99) { /* reset; it is armed */
+        make_idle(part);
+        part->asleep = false;
+        part->armed = false;
+        return 0;
+    }
+    part->armed = in[0] == 0x66;
+
+    switch (in[0]) {
+    case 0x03: /* read, from place 4 */
+    case 0x0B: { /* read with one dummy byte, from 5 */
+        size_t from = in[0] == 0x03 ? 4 : 5;
+
+        a = address_of(part, in);
+        for (i = from; i < in_length; i++) {
+            out[i] = array[a];
+            a = a + 1;
+            if (a == array_bytes(part->size)) /* on past the end to address 0 */
+                a = 0;
+        }
+        if (from < in_length)
+            *first = from;
+        break;
+    }
+    case 0x05:
+    case 0x48:
+        for (i = 1; i < in_length; i++)
+            out[i] = in[0] == 0x05 ? part->status : part->function;
+        if (in_length > 1)
+            *first = 1;
+        break;
+    case 0x9F:
+        for (i = 1; i < in_length; i++) {
+            if ((i - 1) % 3 == 0)
+                out[i] = part->m;
+            else if ((i - 1) % 3 == 1)
+                out[i] = part->t;
+            else
+                out[i] = part->c;
+        }
+        if (in_length > 1)
+            *first = 1;
+        break;
+    case 0x90: { /* bit 0 of the third address byte clear: M first, set: D first */
+        bool maker = (in[3] & 1) == 0;
+
+        for (i = 4; i < in_length; i++) {
+            out[i] = maker ? part->m : part->d;
+            maker = !maker;
+        }
+        if (in_length > 4)
+            *first = 4;
+        break;
+    }
+    case 0xAB:
+        part->asleep = false;
+        for (i = 4; i < in_length; i++)
+            out[i] = part->d;
+        if (in_length > 4)
+            *first = 4;
+        break;
+    case 0x68: { /* row read, one dummy, from 5; wraps inside the row */
+        uint32_t row = (uint32_t)(in[2] / 16) * REF_PAGE;
+        uint32_t place = in[3];
+
+        for (i = 5; i < in_length; i++) {
+            out[i] = rows[row + place];
+            place = (place + 1) % REF_PAGE;
+        }
+        if (in_length > 5)
+            *first = 5;
+        break;
+    }
+    case 0x06:
+        set_wel(part, true);
+        break;
+    case 0x04:
+        set_wel(part, false);
+        break;
+    case 0x01:
+        begin_write(part, WRITE_STATUS, in[1] & 0xFC);
+        break;
+    case 0x42:
+        begin_write(part, WRITE_FUNCTION, in[1] & 0xF0);
+        break;
+    case 0x02: /* the page of A */
+        a = address_of(part, in);
+        begin_program(part, PP, a - a % REF_PAGE, a % REF_PAGE, in + 4, in_length - 4);
+        break;
+    case 0xD7: /* the unit that holds A */
+    case 0x20:
+        a = address_of(part, in);
+        begin(part, SER, a - a % unit_bytes(part->size, SER));
+        break;
+    case 0x52:
+        a = address_of(part, in);
+        begin(part, BER32, a - a % unit_bytes(part->size, BER32));
+        break;
+    case 0xD8:
+        a = address_of(part, in);
+        begin(part, BER64, a - a % unit_bytes(part->size, BER64));
+        break;
+    case 0xC7:
+    case 0x60:
+        begin(part, CER, 0);
+        break;
+    case 0x75: /* suspend: WIP and WEL become 0, PSUS or ESUS 1 */
+    case 0xB0:
+        set_phase(part, SUSPENDED);
+        set_wel(part, false);
+        break;
+    case 0x7A: /* resume: goes on with the next tick, WEL 1 */
+    case 0x30:
+        set_phase(part, BUSY);
+        set_wel(part, true);
+        break;
+    case 0xB9:
+        part->asleep = true;
+        break;
+    case 0x66: /* armed above */
+        break;
+    case 0x64: /* the byte address is disregarded */
+        begin(part, ROW_ERASE, (uint32_t)(in[2] / 16) * REF_PAGE);
+        break;
+    case 0x62:
+        begin_program(part, ROW_PROGRAM, (uint32_t)(in[2] / 16) * REF_PAGE, in[3], in + 4,
+                      in_length - 4);
+        break;
+    default: /* no other code gets here */
+        break;
+    }
+    return 0;
+}
+
+/* ---- Ticks ---- */
+
+/* One tick of a busy part. */
+static void one_tick(struct part *part, uint8_t *array, uint8_t *rows)
+{
+    struct operation *op = &part->op;
+    uint8_t *page;
+    uint32_t i, place;
+
+    switch (op->kind) {
+    case PP: /* one kept byte: new = old AND data */
+    case ROW_PROGRAM:
+        page = (op->kind == PP ? array : rows) + op->base;
+        place = (op->start + op->done) % REF_PAGE;
+        page[place] = page[place] & part->data[op->done];
+        break;
+    case SER: /* the next page, lowest first */
+    case BER32:
+    case BER64:
+    case CER:
+        page = array + op->base + op->done * REF_PAGE;
+        for (i = 0; i < REF_PAGE; i++)
+            page[i] = 0xFF;
+        break;
+    case ROW_ERASE:
+        page = rows + op->base;
+        for (i = 0; i < REF_PAGE; i++)
+            page[i] = 0xFF;
+        break;
+    case WRITE_STATUS: /* bits 7..2; WEL and WIP follow below */
+        part->status = (uint8_t)((part->status & 0x03) | op->held);
+        break;
+    case WRITE_FUNCTION: /* sets IRL bits, never clears one */
+        part->function = part->function | op->held;
+        break;
+    default:
+        break;
+    }
+    op->done = op->done + 1;
+    if (op->done == ticks_in_all(part->size, op))
+        make_idle(part);
+}
+
+int ref_tick(struct part *part, uint8_t *array, size_t array_length, uint8_t *rows,
+             size_t rows_length, uint32_t ticks, uint32_t *worked)
+{
+    int answer;
+    uint32_t asked;
+
+    *worked = 0;
+    answer = lent_wrong(part, array_length, rows_length);
+    if (answer != 0)
+        return answer;
+    if (!ref_sound(part))
+        return 5;
+    if (ticks > REF_MOST)
+        return 6;
+    for (asked = 0; asked < ticks; asked++) {
+        if (part->phase == BUSY) {
+            one_tick(part, array, rows);
+            *worked = *worked + 1;
+        }
+    }
+    return 0;
+}

@@ -1,0 +1,70 @@
+/* Yawlspar's reference model of the part on the bench, written from the specification 01-scope alone.
+ * It shares no table, helper or header with any other code. */
+#ifndef REFERENCE_H
+#define REFERENCE_H
+
+#include <stdbool.h>
+#include <stddef.h>
+#include <stdint.h>
+
+#define REF_BLOCK 65536u /* bytes in a block */
+#define REF_ROWS 1024u   /* bytes in the four rows */
+#define REF_PAGE 256u    /* bytes in a page, and in a row */
+#define REF_MOST 4096u   /* most bytes in a transaction, most ticks in a call */
+
+/* "A part is idle, busy with one operation, or suspended from one." */
+enum phase { IDLE = 0, BUSY = 1, SUSPENDED = 2 };
+
+enum kind {
+    NONE = 0,       /* idle */
+    PP = 1,         /* 02h: base is the page's first address */
+    SER = 2,        /* D7h, 20h: base is the unit's first address, here and in the next three */
+    BER32 = 3,      /* 52h */
+    BER64 = 4,      /* D8h */
+    CER = 5,        /* C7h, 60h: base is 0 */
+    ROW_ERASE = 6,  /* 64h: base is the row's first place in the rows: 0, 256, 512 or 768 */
+    ROW_PROGRAM = 7, /* 62h: base as for ROW_ERASE */
+    WRITE_STATUS = 8,  /* 01h: held is its byte with bits 1..0 zero */
+    WRITE_FUNCTION = 9 /* 42h: held is its byte with bits 3..0 zero */
+};
+
+/* Fields that a kind has no use for are written as 0 and never looked at. */
+struct operation {
+    uint8_t kind;   /* enum kind */
+    uint32_t base;
+    uint32_t start; /* programs: the place in the page of the first kept byte */
+    uint32_t count; /* programs: how many bytes are kept, 1 to 256 */
+    uint32_t done;  /* ticks done */
+    uint8_t held;   /* register writes: the byte */
+};
+
+struct part {
+    uint32_t size; /* in blocks: 1, 4, 8 or 16 */
+    uint8_t m, t, c, d; /* maker, type, capacity, device */
+    uint8_t status;   /* 7 SRWD, 6 QE, 5..2 BP3..BP0, 1 WEL, 0 WIP */
+    uint8_t function; /* 7..4 IRL3..IRL0, 3 ESUS, 2 PSUS, 1..0 zero */
+    bool wel;
+    bool armed;
+    bool asleep;
+    uint8_t phase; /* enum phase */
+    struct operation op;
+    uint8_t data[REF_PAGE]; /* kept bytes in order of arrival, zeros after them */
+};
+
+/* Each call answers a number of the specification's table. */
+
+int ref_power_up(struct part *part, uint32_t size, uint8_t m, uint8_t t, uint8_t c, uint8_t d,
+                 uint8_t status, uint8_t function);
+
+bool ref_sound(const struct part *part);
+
+/* *first is the first driven place. A transaction only reads array and rows. */
+int ref_transact(struct part *part, const uint8_t *array, size_t array_length, const uint8_t *rows,
+                 size_t rows_length, bool wp_high, const uint8_t *in, size_t in_length, uint8_t *out,
+                 size_t out_length, size_t *first);
+
+/* *worked is how many ticks did work. */
+int ref_tick(struct part *part, uint8_t *array, size_t array_length, uint8_t *rows,
+             size_t rows_length, uint32_t ticks, uint32_t *worked);
+
+#endif
