@@ -1,15 +1,34 @@
-/* Yawlspar's reference bench: the program `bench` of the specification, on the reference model. */
+/* Yawlspar's reference bench, on the reference model.
+ *
+ *   reference          the program `bench` of the specification: up to 65,536 bytes of standard input
+ *                      on the 1-block part, lines of up to 64 pairs
+ *   reference sizes    the program `bench_sizes`: up to 262,144 bytes, lines of up to 4,096 pairs, the
+ *                      whole script on a fresh part of 1, then 4, 8 and 16 blocks
+ *
+ * The exit status is 0; 1 where reading or writing fails; 2 where the arguments are others. */
 #include "reference.h"
 
 extern long read(int, void *, unsigned long);
 extern long write(int, const void *, unsigned long);
+extern int strcmp(const char *, const char *);
 
-#define INPUT_MOST 65536u
-#define PAIRS_MOST 64u
+#define INPUT_MOST 262144u
+#define BLOCKS_MOST 16u
+
+struct form {
+    size_t input_most; /* bytes that are read; those past them are not */
+    size_t pairs_most; /* pairs in a T or L line */
+    size_t sizes;      /* how many of part_sizes the script is run on */
+};
+
+static const struct form one_size = {65536, 64, 1};
+static const struct form all_sizes = {INPUT_MOST, REF_MOST, 4};
+static const uint32_t part_sizes[] = {1, 4, 8, BLOCKS_MOST};
 
 static uint8_t input[INPUT_MOST];
-static uint8_t array[REF_BLOCK];
+static uint8_t array[BLOCKS_MOST * REF_BLOCK];
 static uint8_t rows[REF_ROWS];
+static uint8_t in[REF_MOST], out[REF_MOST];
 static struct part part;
 
 /* ---- Output ---- */
@@ -65,7 +84,22 @@ static void put_pair(uint8_t byte)
     put(digits[byte % 16]);
 }
 
+/* Tells what went wrong on standard error; gives the exit status. */
+static int complain(const char *what, int status)
+{
+    size_t length = 0;
+
+    while (what[length] != 0)
+        length++;
+    return write(2, what, length) < 0 ? 1 : status;
+}
+
 /* ---- Lines ---- */
+
+static size_t array_length(void)
+{
+    return (size_t)part.size * REF_BLOCK;
+}
 
 /* The value of an upper-case hex digit, or -1. */
 static int hex_digit(uint8_t c)
@@ -77,30 +111,40 @@ static int hex_digit(uint8_t c)
     return -1;
 }
 
-/* `T` or `L`, a space, 1 to 64 upper-case hex pairs. False where the line is not of this form. */
-static bool transaction_line(const uint8_t *line, size_t length)
+/* Takes the pairs of a T or L line into `in`. Gives how many, or 0 where the line is not of this form:
+ * `T` or `L`, a space, 1 to pairs_most upper-case hex pairs. */
+static size_t take_pairs(const uint8_t *line, size_t length, size_t pairs_most)
 {
-    uint8_t in[PAIRS_MOST], out[PAIRS_MOST];
-    size_t pairs, i, first;
-    int answer;
+    size_t pairs, i;
 
     if (length < 4 || length % 2 != 0)
-        return false;
+        return 0;
     if ((line[0] != 'T' && line[0] != 'L') || line[1] != ' ')
-        return false;
+        return 0;
     pairs = (length - 2) / 2;
-    if (pairs > PAIRS_MOST)
-        return false;
+    if (pairs > pairs_most)
+        return 0;
     for (i = 0; i < pairs; i++) {
         int high = hex_digit(line[2 + 2 * i]);
         int low = hex_digit(line[3 + 2 * i]);
 
         if (high < 0 || low < 0)
-            return false;
+            return 0;
         in[i] = (uint8_t)(high * 16 + low);
-        out[i] = 0xFF;
     }
-    answer = ref_transact(&part, array, sizeof array, rows, sizeof rows, line[0] == 'T', in, pairs,
+    return pairs;
+}
+
+/* False where the line is not of the form of take_pairs. */
+static bool transaction_line(const uint8_t *line, size_t length, size_t pairs_most)
+{
+    size_t pairs = take_pairs(line, length, pairs_most);
+    size_t i, first;
+    int answer;
+
+    if (pairs == 0)
+        return false;
+    answer = ref_transact(&part, array, array_length(), rows, sizeof rows, line[0] == 'T', in, pairs,
                           out, pairs, &first);
     put_number((uint32_t)answer);
     put(' ');
@@ -129,7 +173,7 @@ static bool tick_line(const uint8_t *line, size_t length)
             return false;
         ticks = ticks * 10 + (uint32_t)(line[i] - '0');
     }
-    answer = ref_tick(&part, array, sizeof array, rows, sizeof rows, ticks, &worked);
+    answer = ref_tick(&part, array, array_length(), rows, sizeof rows, ticks, &worked);
     put_number((uint32_t)answer);
     put(' ');
     put_number(worked);
@@ -137,39 +181,75 @@ static bool tick_line(const uint8_t *line, size_t length)
     return true;
 }
 
-int main(void)
-{
-    size_t length = 0, at, i;
+/* ---- The script ---- */
 
-    while (length < INPUT_MOST) { /* input past 65,536 bytes is not read */
-        long got = read(0, input + length, INPUT_MOST - length);
+/* Reads up to `most` bytes, in whatever pieces they come. Gives how many, or -1 where reading fails. */
+static long take_input(size_t most)
+{
+    size_t length = 0;
+
+    while (length < most) {
+        long got = read(0, input + length, most - length);
 
         if (got < 0)
-            return 1;
+            return -1;
         if (got == 0)
             break;
         length += (size_t)got;
     }
+    return (long)length;
+}
+
+/* A fresh part: array and rows FFh, registers 0. */
+static bool fresh_part(uint32_t size)
+{
+    size_t i;
 
     for (i = 0; i < sizeof array; i++)
         array[i] = 0xFF;
     for (i = 0; i < sizeof rows; i++)
         rows[i] = 0xFF;
-    if (ref_power_up(&part, 1, 0x11, 0x22, 0x33, 0x44, 0, 0) != 0)
-        return 1;
+    return ref_power_up(&part, size, 0x11, 0x22, 0x33, 0x44, 0, 0) == 0;
+}
 
-    at = 0;
+static void run_script(size_t length, size_t pairs_most)
+{
+    size_t at = 0;
+
     while (at < length) {
         size_t end = at;
 
         while (end < length && input[end] != '\n')
             end++;
-        if (!transaction_line(input + at, end - at) && !tick_line(input + at, end - at)) {
+        if (!transaction_line(input + at, end - at, pairs_most) && !tick_line(input + at, end - at)) {
             put('?');
             put('\n');
         }
         at = end + 1; /* past the LF, or past the end */
     }
+}
+
+static int run_form(const struct form *form)
+{
+    long length = take_input(form->input_most);
+    size_t i;
+
+    if (length < 0)
+        return complain("reference: standard input can't be read\n", 1);
+    for (i = 0; i < form->sizes; i++) {
+        if (!fresh_part(part_sizes[i]))
+            return complain("reference: power-up is refused\n", 1);
+        run_script((size_t)length, form->pairs_most);
+    }
     flush();
-    return failed ? 1 : 0;
+    return failed ? complain("reference: standard output can't be written\n", 1) : 0;
+}
+
+int main(int argc, char **argv)
+{
+    if (argc == 1)
+        return run_form(&one_size);
+    if (argc == 2 && strcmp(argv[1], "sizes") == 0)
+        return run_form(&all_sizes);
+    return complain("usage: reference [sizes], with the script on standard input\n", 2);
 }
