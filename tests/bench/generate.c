@@ -136,6 +136,15 @@ static uint32_t any_address(void)
     return below(1u << 24);
 }
 
+/* The last page of a part of one of the sizes. */
+static uint32_t last_page(void)
+{
+    static const uint8_t sizes[] = {1, 4, 8, 16};
+    uint32_t blocks = form->blocks == 1 ? 1 : pick_byte(sizes, COUNT(sizes));
+
+    return blocks * BLOCK - PAGE;
+}
+
 static void begin_chapter(void)
 {
     size_t i;
@@ -144,6 +153,10 @@ static void begin_chapter(void)
     hot[0] = below(form->blocks * BLOCK) & ~(PAGE - 1);
     for (i = 1; i < HOT_PAGES; i++)
         hot[i] = one_in(2) ? hot[0] ^ (PAGE << below(8)) : any_address() & ~(PAGE - 1);
+    if (one_in(3)) { /* reads run on from the last page to the first */
+        hot[1] = 0;
+        hot[2] = last_page();
+    }
     strange_one_in = mood == STUMBLING ? 5 : between(15, 60);
     low_one_in = one_in(3) ? 3 : 20;
 }
@@ -296,9 +309,10 @@ static const uint16_t border_places[] = {0x0000, 0x0001, 0x00FF, 0x0100, 0x0FFF,
 
 static uint32_t border_address(void)
 {
+    uint32_t block = one_in(3) ? form->blocks - 1 : below(form->blocks);
     uint32_t place = border_places[below(COUNT(border_places))];
 
-    return below(form->blocks) * BLOCK + place;
+    return block * BLOCK + place;
 }
 
 static uint32_t hot_address(void)
@@ -352,11 +366,11 @@ static uint32_t data_length(void)
 
     if (form->pairs_most < MESSAGE_MOST)
         return one_in(3) ? between(1, 60) : between(1, 12);
-    if (one_in(50))
+    if (one_in(200))
         return 4092;
-    if (one_in(20))
+    if (one_in(40))
         return between(1, 1000);
-    return one_in(3) ? long_ones[below(COUNT(long_ones))] : between(1, 20);
+    return one_in(8) ? long_ones[below(COUNT(long_ones))] : between(1, 20);
 }
 
 /* Bytes with many ones, so that a page takes several programs. */
@@ -384,7 +398,7 @@ static void read_at(uint32_t from)
 {
     uint32_t count = form->pairs_most < MESSAGE_MOST ? between(1, 20) : between(1, 40);
 
-    if (form->pairs_most == MESSAGE_MOST && one_in(12))
+    if (form->pairs_most == MESSAGE_MOST && one_in(30))
         count = between(200, 600);
     start(one_in(2) ? 0x03 : 0x0B);
     add_address(from);
@@ -735,7 +749,7 @@ static void wrong_length(void)
     well_formed(pick_byte(codes, COUNT(codes)));
     right = message_length;
     if (one_in(2) && right > 1)
-        message_length = 1 + below(right < 5 ? (uint32_t)right - 1 : 4);
+        message_length = right > 4 && one_in(2) ? 4 : 1 + below(right < 5 ? (uint32_t)right - 1 : 4);
     else
         add_any(between(1, 3));
     send();
@@ -780,22 +794,21 @@ static void unknown_code(void)
 
 static void any_miss(void)
 {
-    switch (below(6)) {
+    switch (below(8)) {
     case 0:
-    case 1:
-        wrong_length();
-        break;
-    case 2:
         wrong_row();
         break;
-    case 3:
+    case 1:
         not_enabled();
         break;
-    case 4:
+    case 2:
         while_busy();
         break;
-    default:
+    case 3:
         unknown_code();
+        break;
+    default:
+        wrong_length();
         break;
     }
 }
