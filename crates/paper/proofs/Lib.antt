@@ -15,3 +15,4 @@ pub mod KeptBytes
 pub mod Begun
 pub mod TransactionKept
 pub mod Answers
+pub mod CallKept

@@ -18,8 +18,9 @@ use Rattle.paper.specs.Calls.{noIdentity, poweredUp}
 use Rattle.paper.specs.History.{Call, recordAfterCall, recordAfterCalls, history}
 use Rattle.paper.proofs.Soundness.{sound-parts}
 use Rattle.paper.proofs.Kept.{power-up-sound}
+use Rattle.paper.proofs.CallKept.{calls-sound, calls-size}
 use Rattle.reset.specs.Closing.{wake, arm, reset, allAside, untilArmed, untilReset, closing, poweredAs, answerToReset, FreshAfter}
-use Rattle.reset.proofs.Aside.{calls-sound, calls-size, calls-identity, all-aside-alike, calls-append, history-append}
+use Rattle.reset.proofs.Aside.{calls-identity, all-aside-alike, calls-append, history-append}
 use Rattle.reset.proofs.Steps.{woken, armed-now, reset-now, powered-as}
 
 -- a part that is awake and armed, and that 99h may be sent to
