@@ -3,3 +3,4 @@ pub mod Told
 pub mod Shielded
 pub mod FromPowerUp
 pub mod Contracts
+pub mod Locked

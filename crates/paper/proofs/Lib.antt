@@ -16,3 +16,4 @@ pub mod Begun
 pub mod TransactionKept
 pub mod Answers
 pub mod CallKept
+pub mod LocksKept

@@ -33,12 +33,12 @@ code-stored st low h = omega arith
 sixteenfold : (k : ℕ) → 2 ^ suc (suc (suc (suc k))) ≡ 16 * 2 ^ k
 sixteenfold k = rw (pow-succ' 2 (suc (suc (suc k))), pow-succ' 2 (suc (suc k)), pow-succ' 2 (suc k), pow-succ' 2 k) (omega arith)
 
-high-half : (x k : ℕ) → x / 2 ^ (4 + k) ≡ x / 16 / 2 ^ k
+pub high-half : (x k : ℕ) → x / 2 ^ (4 + k) ≡ x / 16 / 2 ^ k
 high-half x k =
     let a : 4 + k ≡ suc (suc (suc (suc k))) = omega arith in
     ap (λ (t : ℕ). x / t) (ap (λ (t : ℕ). 2 ^ t) a ∙ sixteenfold k) ∙ sym (div-div-eq-div-mul x 16 (2 ^ k))
 
-lock-stored : (fn low k : ℕ) → low < 16 → locked (held Function fn + low) k ≡ locked fn k
+pub lock-stored : (fn low k : ℕ) → low < 16 → locked (held Function fn + low) k ≡ locked fn k
 unfolding locked
 lock-stored fn low k h =
     let s : (held Function fn + low) / 16 ≡ fn / 16 = omega arith in
