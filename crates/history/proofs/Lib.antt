@@ -4,3 +4,4 @@ pub mod Shielded
 pub mod FromPowerUp
 pub mod Contracts
 pub mod Locked
+pub mod Course
