@@ -5,7 +5,6 @@ use mathlib.Core.Bool.{Bool, true, false}
 use mathlib.Core.List.{List, [], _∷_, _++_}
 use lib.ListN.{length}
 use lib.Dec.{eqb}
-use Rattle.types.specs.declared.Memory.{Memory}
 use Rattle.types.specs.declared.Memory.the-variants.{Array, Rows}
 use Rattle.types.specs.declared.Record.{Record}
 use Rattle.types.specs.declared.Answer.{Answer}
@@ -14,27 +13,16 @@ use Rattle.words.specs.Logic.{whenZero}
 use Rattle.paper.specs.Sizes.{arrayBytes, rowsBytes}
 use Rattle.paper.specs.Operations.{Touch}
 use Rattle.paper.specs.Numbers.{tickNumber}
-use Rattle.paper.specs.Calls.{transacted, ticked, tickedMemory}
+use Rattle.paper.specs.Calls.{ticked}
 use Rattle.paper.specs.History.{Call, transaction, ticks, recordAfterCall, tickTouches, callTouches, history}
 use Rattle.paper.proofs.CallKept.{call-size}
 use Rattle.history.specs.Run.{Run, done, sends, waits}
-use Rattle.history.specs.Course.{Step, sent, waited, reachedBy, course, courseOf, reached}
-use Rattle.history.proofs.Touches.{memory-length}
+use Rattle.history.specs.Course.{Step, sent, waited, reachedBy, course, courseOf, endOf, reached}
+use Rattle.history.proofs.Touches.{ticked-length}
 
--- a tick call keeps the length of each memory
-module _ (m : Memory) (p : Record) (a r n : ℕ) (xs : List ℕ) where
-  length-as : (t : Bool) → eqb (tickNumber p a r n) 0 ≡ t → length (tickedMemory m p a r n xs) ≡ length xs
-  unfolding tickedMemory
-  length-as true e = rw e (memory-length m n p xs)
-  length-as false e = rw e refl
-
-  pub ticked-length : length (tickedMemory m p a r n xs) ≡ length xs
-  ticked-length = length-as (eqb (tickNumber p a r n) 0) refl
-
--- the lengths that calls are told by, of other records and memories that are the same
-course-as : (cs : List Call) {p p′ : Record} {a a′ r r′ : ℕ} → p ≡ p′ → a ≡ a′ → r ≡ r′ → courseOf cs p a r ≡ courseOf cs p′ a′ r′
-course-as cs {p} {p′} {a} {a′} {r} {r′} e f g =
-    ap (λ (x : Record). courseOf cs x a r) e ∙ ap (λ (x : ℕ). courseOf cs p′ x r) f ∙ ap (λ (x : ℕ). courseOf cs p′ a′ x) g
+-- memories of the same lengths tell the same course
+course-as : (cs : List Call) (p : Record) {a a′ r r′ : ℕ} → a ≡ a′ → r ≡ r′ → courseOf cs p a r ≡ courseOf cs p a′ r′
+course-as cs p {a} {a′} {r} {r′} e f = ap (λ (x : ℕ). courseOf cs p x r) e ∙ ap (λ (x : ℕ). courseOf cs p a′ x) f
 
 pub course-told : {cs : List Call} {p q : Record} {xs rs ys ts : List ℕ} (run : Run p xs rs cs q ys ts) → course run ≡ courseOf cs p (length xs) (length rs)
 course-told done = refl
@@ -44,13 +32,21 @@ course-told (sends {p} {q} {xs} {rs} {ys} {ts} {wp} {i} {o} {cs} w h run) =
 course-told (waits {p} {q} {xs} {rs} {xs′} {rs′} {ys} {ts} {n} {cs} w h hx hr run) =
     let f : length xs′ ≡ length xs = ap (λ (b : List ℕ). length b) hx ∙ ticked-length Array p (length xs) (length rs) n xs in
     let g : length rs′ ≡ length rs = ap (λ (b : List ℕ). length b) hr ∙ ticked-length Rows p (length xs) (length rs) n rs in
-    ap (λ (ss : List Step). waited w (reachedBy w n p) ∷ ss) (course-told run ∙ course-as cs refl f g)
+    ap (λ (ss : List Step). waited w (reachedBy w n p) ∷ ss) (course-told run ∙ course-as cs (w .next) f g)
     ∙ ap (λ (x : Ticked). waited x (reachedBy x n p) ∷ courseOf cs (x .next) (length xs) (length rs)) h
 
--- two runs of the same calls from the same record, over memories of the same lengths and any contents, take the same course
+run-ends : {cs : List Call} {p q : Record} {xs rs ys ts : List ℕ} (run : Run p xs rs cs q ys ts) → q ≡ endOf p (course run)
+run-ends done = refl
+run-ends (sends w h run) = run-ends run
+run-ends (waits w h hx hr run) = run-ends run
+
+-- two runs of the same calls from the same record, over memories of the same lengths and any contents, take the same course and end with the same record
 pub course-forgets-contents : {cs : List Call} {p q q′ : Record} {xs rs ys ts xs′ rs′ ys′ ts′ : List ℕ}
-    (f : Run p xs rs cs q ys ts) (g : Run p xs′ rs′ cs q′ ys′ ts′) → length xs ≡ length xs′ → length rs ≡ length rs′ → course f ≡ course g
-course-forgets-contents {cs} {p} f g a r = course-told f ∙ course-as cs refl a r ∙ sym (course-told g)
+    (f : Run p xs rs cs q ys ts) (g : Run p xs′ rs′ cs q′ ys′ ts′) → length xs ≡ length xs′ → length rs ≡ length rs′
+    → (course f ≡ course g) × (q ≡ q′)
+course-forgets-contents {cs} {p} f g a r =
+    let e : course f ≡ course g = course-told f ∙ course-as cs p a r ∙ sym (course-told g) in
+    (e, run-ends f ∙ ap (endOf p) e ∙ sym (run-ends g))
 
 -- on the part's own memory, what the steps reached is the history
 module _ (p : Record) (n a r : ℕ) where

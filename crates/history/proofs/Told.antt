@@ -17,7 +17,7 @@ use Rattle.paper.specs.Calls.{tickedMemory}
 use Rattle.paper.specs.History.{Call, transaction, ticks, recordAfterCall, recordAfterCalls, callTouches, history, byteAfterAll}
 use Rattle.paper.proofs.CallKept.{call-sound, call-size}
 use Rattle.history.specs.Run.{Run, done, sends, waits}
-use Rattle.history.proofs.Touches.{bytes-append, memory-length, memory-at}
+use Rattle.history.proofs.Touches.{bytes-append, memory-at, ticked-length}
 
 -- a tick call on a part's own memory, refused or not
 module _ (p : Record) (n : ℕ) where
@@ -25,11 +25,6 @@ module _ (p : Record) (n : ℕ) where
   after-ticks m xs = tickedMemory m p (arrayBytes (p .blocks)) rowsBytes n xs
 
   module _ (m : Memory) where
-    ticks-length : (xs : List ℕ) (t : Bool) → eqb (tickNumber p (arrayBytes (p .blocks)) rowsBytes n) 0 ≡ t → length (after-ticks m xs) ≡ length xs
-    unfolding tickedMemory
-    ticks-length xs true e = rw e (memory-length m n p xs)
-    ticks-length xs false e = rw e refl
-
     ticks-at : (xs : List ℕ) (t : Bool) → eqb (tickNumber p (arrayBytes (p .blocks)) rowsBytes n) 0 ≡ t → sound p ≡ true → length xs ≡ memoryBytes m (p .blocks) → (at : ℕ) → at < length xs
         → getD (after-ticks m xs) at 0 ≡ byteAfterAll m at (callTouches (ticks n) p) (getD xs at 0)
     unfolding tickedMemory
@@ -74,8 +69,8 @@ run-told (waits {p} {q} {xs} {rs} {xs′} {rs′} {ys} {ts} {n} {cs} w h hx hr r
     let y : rs′ ≡ after-ticks p n Rows rs = rw (a, r) at hr in
     let z : w .next .blocks ≡ p .blocks = ap (λ (b : Record). b .blocks) e ∙ call-size (ticks n) p in
     let k : sound (w .next) ≡ true = ap sound e ∙ call-sound (ticks n) p s in
-    let lx : length xs′ ≡ length xs = ap (λ (l : List ℕ). length l) x ∙ ticks-length p n Array xs _ refl in
-    let lr : length rs′ ≡ length rs = ap (λ (l : List ℕ). length l) y ∙ ticks-length p n Rows rs _ refl in
+    let lx : length xs′ ≡ length xs = ap (λ (l : List ℕ). length l) x ∙ ticked-length Array p (arrayBytes (p .blocks)) rowsBytes n xs in
+    let lr : length rs′ ≡ length rs = ap (λ (l : List ℕ). length l) y ∙ ticked-length Rows p (arrayBytes (p .blocks)) rowsBytes n rs in
     let t = moved e (run-told run k (lx ∙ rw z a) (lr ∙ r)) in
     record {
       next = t .next;

@@ -38,3 +38,9 @@ abbrev pub reached : List Step → List Touch
 reached [] = []
 reached (sent a ∷ ss) = reached ss
 reached (waited t us ∷ ss) = us ++ reached ss
+
+-- the record at the end of a course that began with the record p
+abbrev pub endOf : Record → List Step → Record
+endOf p [] = p
+endOf p (sent a ∷ ss) = endOf (a .next) ss
+endOf p (waited t us ∷ ss) = endOf (t .next) ss
