@@ -1,38 +1,23 @@
 -- Demand 3 from power-up on: a part is powered up, unrefused, and sent any calls over its own memory. The record is then the one that the calls tell, every stored byte is what the history says, and a byte that was protected or locked throughout holds its starting value.
 use Prim.Native.Nat.{ℕ, _<_}
-use mathlib.Core.Path.{_≡_, refl}
-use mathlib.Core.Bool.{Bool, true, false, cond}
+use mathlib.Core.Path.{_≡_}
+use mathlib.Core.Bool.{true}
 use mathlib.Core.List.{List}
 use lib.ListN.{length, getD}
-use lib.Dec.{eqb}
-use borrow.Author.Tests.{eqb-false}
 use Rattle.types.specs.declared.Memory.the-variants.{Array, Rows}
 use Rattle.types.specs.declared.Identity.{Identity}
 use Rattle.types.specs.declared.Record.{Record}
-use Rattle.types.specs.declared.PoweredUp.{PoweredUp}
 use Rattle.paper.specs.Sizes.{arrayBytes, rowsBytes}
-use Rattle.paper.specs.Records.{fresh}
 use Rattle.paper.specs.Soundness.{sound}
-use Rattle.paper.specs.Numbers.{powerUpNumber}
-use Rattle.paper.specs.Calls.{noIdentity, poweredUp}
+use Rattle.paper.specs.Calls.{poweredUp}
 use Rattle.paper.specs.History.{Call, recordAfterCalls, historyOf, byteAfterAll, shieldedThroughout}
-use Rattle.paper.proofs.Kept.{power-up-sound}
+use Rattle.paper.proofs.Kept.{power-up-sound, powered-fresh}
 use Rattle.history.specs.Run.{Run}
 use Rattle.history.proofs.Told.{run-told}
 use Rattle.history.proofs.Shielded.{protected-kept, locked-kept}
 
--- a part that was powered up, unrefused, has the size that was asked
+-- a part that was powered up, unrefused
 module _ (n : ℕ) (id : Identity) (status function : ℕ) where
-  powered-as : (t : Bool) → eqb (powerUpNumber n status function) 0 ≡ t
-      → cond {A = PoweredUp} t (record { next = fresh n id status function; number = 0 }) (record { next = fresh 1 noIdentity 0 0; number = powerUpNumber n status function }) .number ≡ 0
-      → cond {A = PoweredUp} t (record { next = fresh n id status function; number = 0 }) (record { next = fresh 1 noIdentity 0 0; number = powerUpNumber n status function }) .next .blocks ≡ n
-  powered-as true e z = refl
-  powered-as false e z = absurd (eqb-false _ _ e z)
-
-  powered-size : poweredUp n id status function .number ≡ 0 → poweredUp n id status function .next .blocks ≡ n
-  unfolding poweredUp
-  powered-size = powered-as (eqb (powerUpNumber n status function) 0) refl
-
   -- what any calls leave in the memory of a part that was powered up, unrefused
   pub record FromPowerUp (cs : List Call) (xs rs : List ℕ) (q : Record) (ys ts : List ℕ) : Type 0 where
     pub next : q ≡ recordAfterCalls cs (poweredUp n id status function .next)
@@ -48,6 +33,6 @@ module _ (n : ℕ) (id : Identity) (status function : ℕ) where
       → Run (poweredUp n id status function .next) xs rs cs q ys ts → FromPowerUp cs xs rs q ys ts
   history-told {cs} {q} {xs} {rs} {ys} {ts} z a r run =
       let s = power-up-sound n id status function in
-      let b : length xs ≡ arrayBytes (poweredUp n id status function .next .blocks) = rw (powered-size z) a in
+      let b : length xs ≡ arrayBytes (poweredUp n id status function .next .blocks) = rw (powered-fresh n id status function z) a in
       let t = run-told run s b r in
       record { next = t .next; next-sound = t .next-sound; array-length = t .array-length; rows-length = t .rows-length; array = t .array; rows = t .rows; protected-kept = protected-kept run s b r; locked-kept = locked-kept run s b r }

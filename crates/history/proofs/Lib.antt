@@ -3,3 +3,5 @@ pub mod Told
 pub mod Shielded
 pub mod FromPowerUp
 pub mod Contracts
+pub mod Locked
+pub mod Course

@@ -30,10 +30,10 @@ use Rattle.paper.specs.Numbers.{tickNumber}
 use Rattle.paper.specs.History.{Call, transaction, ticks, recordAfterCall, tickTouches, callTouches, history, byteAfter, byteAfterAll, shielded, shieldedThroughout}
 use Rattle.paper.proofs.Soundness.{InOrder, busy-in-order}
 use Rattle.paper.proofs.Kept.{run-sound}
-use Rattle.paper.proofs.TransactionKept.{transaction-sound}
+use Rattle.paper.proofs.CallKept.{call-sound}
 use Rattle.history.specs.Run.{Run}
 use Rattle.history.proofs.Touches.{bytes-append}
-use Rattle.history.proofs.Told.{ticks-sound, run-told}
+use Rattle.history.proofs.Told.{run-told}
 
 and-false : (a : Bool) → (a and false) ≡ false
 unfolding _and_
@@ -103,11 +103,6 @@ module _ (at n status function : ℕ) where
   next-spares m (Program w b s k d) g x i shut = ap (λ (t : Bool). cond t (narrowedByte x (getD g d 0)) x) (spares m w (eqb at (b + pagePlace s d)) (program-free w b s k d i) shut)
   next-spares m (Erase u b d) g x i shut = ap (λ (t : Bool). cond t erasedByte x) (spares m (memoryOf u) (leb (b + d * pageBytes) at and ltb at (b + d * pageBytes + pageBytes)) (erase-free u b d i) shut)
   next-spares m (Write r v) g x i shut = refl
-
--- a call keeps a record sound
-call-sound : (c : Call) (p : Record) → sound p ≡ true → sound (recordAfterCall c p) ≡ true
-call-sound (transaction wp i o) p s = transaction-sound p (arrayBytes (p .blocks)) rowsBytes wp i o s
-call-sound (ticks n) p s = ticks-sound p n s
 
 module _ (m : Memory) (at : ℕ) where
   -- while a part is busy, the place is shielded

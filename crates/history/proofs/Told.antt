@@ -1,7 +1,7 @@
 -- For every run of calls from a sound record: the record after is the one that the calls tell, it is sound and of the same size, and every stored byte is what the history says.
 use Prim.Native.Nat.{ℕ, _<_}
 use mathlib.Core.Path.{_≡_, refl, sym, ap, subst, _∙_}
-use mathlib.Core.Bool.{Bool, true, false, cond}
+use mathlib.Core.Bool.{Bool, true, false}
 use mathlib.Core.List.{List, _∷_}
 use lib.ListN.{length, getD}
 use lib.Dec.{eqb}
@@ -13,41 +13,18 @@ use Rattle.types.specs.declared.Ticked.{Ticked}
 use Rattle.paper.specs.Sizes.{arrayBytes, rowsBytes, memoryBytes}
 use Rattle.paper.specs.Soundness.{sound}
 use Rattle.paper.specs.Numbers.{tickNumber}
-use Rattle.paper.specs.Ticks.{recordAfter, workingTicks}
-use Rattle.paper.specs.Calls.{ticked, tickedMemory}
+use Rattle.paper.specs.Calls.{tickedMemory}
 use Rattle.paper.specs.History.{Call, transaction, ticks, recordAfterCall, recordAfterCalls, callTouches, history, byteAfterAll}
-use Rattle.paper.proofs.Kept.{run-sound, run-size}
-use Rattle.paper.proofs.TransactionKept.{transaction-sound, transaction-size}
+use Rattle.paper.proofs.CallKept.{call-sound, call-size}
 use Rattle.history.specs.Run.{Run, done, sends, waits}
-use Rattle.history.proofs.Touches.{bytes-append, memory-length, memory-at}
+use Rattle.history.proofs.Touches.{bytes-append, memory-at, ticked-length}
 
 -- a tick call on a part's own memory, refused or not
 module _ (p : Record) (n : ℕ) where
   abbrev after-ticks : Memory → List ℕ → List ℕ
   after-ticks m xs = tickedMemory m p (arrayBytes (p .blocks)) rowsBytes n xs
 
-  -- what holds of the record before, and of the one after n ticks, holds of the record after the call
-  module _ (P : Record → Type 0) (same : P p) (ran : P (recordAfter n p)) where
-    ticks-as : (k : ℕ) (t : Bool) → P (cond {A = Ticked} t (record { next = recordAfter n p; number = 0; done = workingTicks n p }) (record { next = p; number = k; done = 0 }) .next)
-    ticks-as k true = ran
-    ticks-as k false = same
-
-    after-call : P (recordAfterCall (ticks n) p)
-    unfolding ticked
-    after-call = ticks-as (tickNumber p (arrayBytes (p .blocks)) rowsBytes n) (eqb (tickNumber p (arrayBytes (p .blocks)) rowsBytes n) 0)
-
-  pub ticks-sound : sound p ≡ true → sound (recordAfterCall (ticks n) p) ≡ true
-  ticks-sound s = after-call (λ (q : Record). sound q ≡ true) s (run-sound n p s)
-
-  ticks-size : recordAfterCall (ticks n) p .blocks ≡ p .blocks
-  ticks-size = after-call (λ (q : Record). q .blocks ≡ p .blocks) refl (run-size n p)
-
   module _ (m : Memory) where
-    ticks-length : (xs : List ℕ) (t : Bool) → eqb (tickNumber p (arrayBytes (p .blocks)) rowsBytes n) 0 ≡ t → length (after-ticks m xs) ≡ length xs
-    unfolding tickedMemory
-    ticks-length xs true e = rw e (memory-length m n p xs)
-    ticks-length xs false e = rw e refl
-
     ticks-at : (xs : List ℕ) (t : Bool) → eqb (tickNumber p (arrayBytes (p .blocks)) rowsBytes n) 0 ≡ t → sound p ≡ true → length xs ≡ memoryBytes m (p .blocks) → (at : ℕ) → at < length xs
         → getD (after-ticks m xs) at 0 ≡ byteAfterAll m at (callTouches (ticks n) p) (getD xs at 0)
     unfolding tickedMemory
@@ -82,23 +59,23 @@ run-told done s a r =
     record { next = refl; next-sound = s; size = refl; array-length = refl; rows-length = refl; array = λ at l. refl; rows = λ at l. refl }
 run-told (sends {p} {q} {xs} {rs} {ys} {ts} {wp} {i} {o} {cs} w h run) s a r =
     let e : w .next ≡ recordAfterCall (transaction wp i o) p = rw (a, r) at (ap (λ (b : Answer). b .next) h) in
-    let z : w .next .blocks ≡ p .blocks = ap (λ (b : Record). b .blocks) e ∙ transaction-size p (arrayBytes (p .blocks)) rowsBytes wp i o in
-    let k : sound (w .next) ≡ true = ap sound e ∙ transaction-sound p (arrayBytes (p .blocks)) rowsBytes wp i o s in
+    let z : w .next .blocks ≡ p .blocks = ap (λ (b : Record). b .blocks) e ∙ call-size (transaction wp i o) p in
+    let k : sound (w .next) ≡ true = ap sound e ∙ call-sound (transaction wp i o) p s in
     let t = moved e (run-told run k (rw z a) r) in
-    record { next = t .next; next-sound = t .next-sound; size = t .size ∙ transaction-size p (arrayBytes (p .blocks)) rowsBytes wp i o; array-length = t .array-length; rows-length = t .rows-length; array = t .array; rows = t .rows }
+    record { next = t .next; next-sound = t .next-sound; size = t .size ∙ call-size (transaction wp i o) p; array-length = t .array-length; rows-length = t .rows-length; array = t .array; rows = t .rows }
 run-told (waits {p} {q} {xs} {rs} {xs′} {rs′} {ys} {ts} {n} {cs} w h hx hr run) s a r =
     let e : w .next ≡ recordAfterCall (ticks n) p = rw (a, r) at (ap (λ (b : Ticked). b .next) h) in
     let x : xs′ ≡ after-ticks p n Array xs = rw (a, r) at hx in
     let y : rs′ ≡ after-ticks p n Rows rs = rw (a, r) at hr in
-    let z : w .next .blocks ≡ p .blocks = ap (λ (b : Record). b .blocks) e ∙ ticks-size p n in
-    let k : sound (w .next) ≡ true = ap sound e ∙ ticks-sound p n s in
-    let lx : length xs′ ≡ length xs = ap (λ (l : List ℕ). length l) x ∙ ticks-length p n Array xs _ refl in
-    let lr : length rs′ ≡ length rs = ap (λ (l : List ℕ). length l) y ∙ ticks-length p n Rows rs _ refl in
+    let z : w .next .blocks ≡ p .blocks = ap (λ (b : Record). b .blocks) e ∙ call-size (ticks n) p in
+    let k : sound (w .next) ≡ true = ap sound e ∙ call-sound (ticks n) p s in
+    let lx : length xs′ ≡ length xs = ap (λ (l : List ℕ). length l) x ∙ ticked-length Array p (arrayBytes (p .blocks)) rowsBytes n xs in
+    let lr : length rs′ ≡ length rs = ap (λ (l : List ℕ). length l) y ∙ ticked-length Rows p (arrayBytes (p .blocks)) rowsBytes n rs in
     let t = moved e (run-told run k (lx ∙ rw z a) (lr ∙ r)) in
     record {
       next = t .next;
       next-sound = t .next-sound;
-      size = t .size ∙ ticks-size p n;
+      size = t .size ∙ call-size (ticks n) p;
       array-length = t .array-length ∙ lx;
       rows-length = t .rows-length ∙ lr;
       array = one-more p n Array cs xs xs′ ys x s a lx (t .array);

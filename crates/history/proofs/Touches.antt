@@ -22,6 +22,8 @@ use Rattle.paper.specs.Erase.{memoryOf, unitBytes, erasedByte, pageErased}
 use Rattle.paper.specs.Operations.{Touch, none, blank, narrow, nextTouch, touched}
 use Rattle.paper.specs.Soundness.{sound}
 use Rattle.paper.specs.Ticks.{recordAfter, touchIn, touchOf, memoryAfter}
+use Rattle.paper.specs.Numbers.{tickNumber}
+use Rattle.paper.specs.Calls.{tickedMemory}
 use Rattle.paper.specs.History.{tickTouches, byteAfter, byteAfterAll}
 use Rattle.paper.proofs.Pages.{erased-length, narrowed-length}
 use Rattle.paper.proofs.Soundness.{InOrder, busy-in-order}
@@ -140,6 +142,16 @@ bytes-append m at (t ∷ ts) us x = bytes-append m at ts us (byteAfter m at t x)
 pub memory-length : (m : Memory) (n : ℕ) (p : Record) (xs : List ℕ) → length (memoryAfter m n p xs) ≡ length xs
 memory-length m zero p xs = refl
 memory-length m (suc n) p xs = touched-length m (touchOf (recordAfter n p)) (memoryAfter m n p xs) ∙ memory-length m n p xs
+
+-- and after a tick call, refused or not
+module _ (m : Memory) (p : Record) (a r n : ℕ) (xs : List ℕ) where
+  length-as : (t : Bool) → eqb (tickNumber p a r n) 0 ≡ t → length (tickedMemory m p a r n xs) ≡ length xs
+  unfolding tickedMemory
+  length-as true e = rw e (memory-length m n p xs)
+  length-as false e = rw e refl
+
+  pub ticked-length : length (tickedMemory m p a r n xs) ≡ length xs
+  ticked-length = length-as (eqb (tickNumber p a r n) 0) refl
 
 pub memory-at : (m : Memory) (n : ℕ) (p : Record) (xs : List ℕ) (at : ℕ) → sound p ≡ true → length xs ≡ memoryBytes m (p .blocks) → at < length xs
     → getD (memoryAfter m n p xs) at 0 ≡ byteAfterAll m at (tickTouches n p) (getD xs at 0)

@@ -1,11 +1,11 @@
--- What power-up and ticks keep: the record that power-up gives is sound, and ticks keep a record sound and its size; at most as many ticks do work as are asked.
+-- What power-up and ticks keep: the record that power-up gives is sound and, not refused, as asked; ticks keep a record sound and its size; at most as many ticks do work as are asked.
 use Prim.Native.Nat.{ℕ, zero, suc, _+_, _≤_, _<_}
 use mathlib.Core.Path.{_≡_, refl, ap, _∙_}
 use mathlib.Core.Bool.{Bool, true, false, cond}
 use native.Mathlib.Omega.{arith}
 use lib.ListN.{drop}
 use lib.Dec.{eqb, ltb}
-use borrow.Author.Tests.{eqb-true, ltb-true}
+use borrow.Author.Tests.{eqb-true, eqb-false, ltb-true}
 use Rattle.types.specs.declared.Operation.{Operation}
 use Rattle.types.specs.declared.Operation.the-variants.{Program, Erase, Write}
 use Rattle.types.specs.declared.Phase.{Phase}
@@ -48,6 +48,17 @@ module _ (n : ℕ) (id : Identity) (status function : ℕ) where
   pub power-up-sound : sound (poweredUp n id status function .next) ≡ true
   unfolding poweredUp
   power-up-sound = power-up-as (eqb (powerUpNumber n status function) 0) refl
+
+  powered-as : (t : Bool) → eqb (powerUpNumber n status function) 0 ≡ t
+      → cond {A = PoweredUp} t (record { next = fresh n id status function; number = 0 }) (record { next = fresh 1 noIdentity 0 0; number = powerUpNumber n status function }) .number ≡ 0
+      → cond {A = PoweredUp} t (record { next = fresh n id status function; number = 0 }) (record { next = fresh 1 noIdentity 0 0; number = powerUpNumber n status function }) .next ≡ fresh n id status function
+  powered-as true e h = refl
+  powered-as false e h = absurd (eqb-false _ _ e h)
+
+  -- not refused, it is of what was asked
+  pub powered-fresh : poweredUp n id status function .number ≡ 0 → poweredUp n id status function .next ≡ fresh n id status function
+  unfolding poweredUp
+  powered-fresh = powered-as (eqb (powerUpNumber n status function) 0) refl
 
 -- an operation with ticks more done that are not the last is in order, and keeps as many bytes
 module _ (t n status function : ℕ) where

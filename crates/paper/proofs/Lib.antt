@@ -15,3 +15,5 @@ pub mod KeptBytes
 pub mod Begun
 pub mod TransactionKept
 pub mod Answers
+pub mod CallKept
+pub mod LocksKept

@@ -1,10 +1,10 @@
 -- A record that `made` makes has registers that agree with its other fields, and protects and locks what its stored bits say: it is sound where its phase and page data are.
-use Prim.Native.Nat.{ℕ, suc, _+_, _*_, _/_, _%_, _^_, _<_, _≤_}
+use Prim.Native.Nat.{ℕ, _+_, _/_, _%_, _^_, _<_, _≤_}
 use mathlib.Core.Path.{_≡_, refl, sym, ap, _∙_}
 use mathlib.Core.Bool.{Bool, true, not}
 use mathlib.Core.List.{List}
 use native.Mathlib.Omega.{arith}
-use native.Mathlib.Nat.{div-div-eq-div-mul, pow-succ'}
+use lib.Pow.{shr-shr}
 use lib.Dec.{eqb}
 use borrow.Author.Tests.{eq-eqb}
 use Rattle.types.specs.declared.Memory.{Memory}
@@ -30,15 +30,10 @@ use Rattle.paper.proofs.Records.{status-low-le, function-low-le}
 pub code-stored : (st low : ℕ) → low < 4 → codeOf (held Status st + low) ≡ codeOf st
 code-stored st low h = omega arith
 
-sixteenfold : (k : ℕ) → 2 ^ suc (suc (suc (suc k))) ≡ 16 * 2 ^ k
-sixteenfold k = rw (pow-succ' 2 (suc (suc (suc k))), pow-succ' 2 (suc (suc k)), pow-succ' 2 (suc k), pow-succ' 2 k) (omega arith)
+pub high-half : (x k : ℕ) → x / 2 ^ (4 + k) ≡ x / 16 / 2 ^ k
+high-half x k = sym (shr-shr x 4 k)
 
-high-half : (x k : ℕ) → x / 2 ^ (4 + k) ≡ x / 16 / 2 ^ k
-high-half x k =
-    let a : 4 + k ≡ suc (suc (suc (suc k))) = omega arith in
-    ap (λ (t : ℕ). x / t) (ap (λ (t : ℕ). 2 ^ t) a ∙ sixteenfold k) ∙ sym (div-div-eq-div-mul x 16 (2 ^ k))
-
-lock-stored : (fn low k : ℕ) → low < 16 → locked (held Function fn + low) k ≡ locked fn k
+pub lock-stored : (fn low k : ℕ) → low < 16 → locked (held Function fn + low) k ≡ locked fn k
 unfolding locked
 lock-stored fn low k h =
     let s : (held Function fn + low) / 16 ≡ fn / 16 = omega arith in

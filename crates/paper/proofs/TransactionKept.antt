@@ -57,7 +57,7 @@ module _ (P : Record → Type 0) (p : Record) (wp : Bool) (i : List ℕ) (same :
   refused-or-not n true = after-answer (decoded (getD i 0 0))
   refused-or-not n false = same
 
-  after-transaction : (a r o : ℕ) → P (transacted p a r wp i o .next)
+  pub after-transaction : (a r o : ℕ) → P (transacted p a r wp i o .next)
   unfolding transacted
   after-transaction a r o = refused-or-not (transactionRefusal p a r (length i) o) (eqb (transactionRefusal p a r (length i) o) 0)
 

@@ -1,4 +1,4 @@
--- What a list of calls keeps: soundness, size and identity, and where each call is ticks or a refused transaction both marks. Lists are joined, with what they reach.
+-- What a list of calls keeps beside soundness and size: the identity, and where each call is ticks or a refused transaction both marks. Lists are joined, with what they reach.
 use Prim.Native.Nat.{ℕ, zero, suc, _+_}
 use mathlib.Core.Path.{_≡_, refl, sym, ap, subst⁻¹, _∙_}
 use mathlib.Core.Bool.{Bool, true, false, cond}
@@ -10,39 +10,36 @@ use Rattle.types.specs.declared.Operation.{Operation}
 use Rattle.types.specs.declared.Phase.{Phase}
 use Rattle.types.specs.declared.Phase.the-variants.{Idle, Busy, Suspended}
 use Rattle.types.specs.declared.Record.{Record}
-use Rattle.types.specs.declared.Ticked.{Ticked}
 use Rattle.words.proofs.Tests.{and-l, and-r}
 use Rattle.paper.specs.Sizes.{arrayBytes, rowsBytes}
 use Rattle.paper.specs.Records.{goingOn}
 use Rattle.paper.specs.Operations.{Touch, ticksInAll, ticksDone, advancedBy}
-use Rattle.paper.specs.Soundness.{sound}
-use Rattle.paper.specs.Numbers.{transactionRefusal, tickNumber}
-use Rattle.paper.specs.Ticks.{finished, worked, tickedIn, recordAfter, workingTicks}
-use Rattle.paper.specs.Calls.{transacted, ticked}
+use Rattle.paper.specs.Numbers.{transactionRefusal}
+use Rattle.paper.specs.Ticks.{finished, worked, tickedIn, recordAfter}
+use Rattle.paper.specs.Calls.{transacted}
 use Rattle.paper.specs.History.{Call, transaction, ticks, recordAfterCall, recordAfterCalls, callTouches, history, standsAside}
-use Rattle.paper.proofs.Kept.{run-sound}
-use Rattle.paper.proofs.TransactionKept.{transaction-sound, transaction-size, transaction-identity}
+use Rattle.paper.proofs.CallKept.{after-tick-call}
+use Rattle.paper.proofs.TransactionKept.{transaction-identity}
 use Rattle.reset.specs.Closing.{allAside}
 
--- a part of the same size, identity and marks
+-- a part of the same identity and marks
 pub record Alike (p q : Record) : Type 0 where
-  pub size : q .blocks ≡ p .blocks
   pub identity : q .identity ≡ p .identity
   pub armed : q .armed ≡ p .armed
   pub asleep : q .asleep ≡ p .asleep
 
 alike : (p : Record) → Alike p p
-alike p = record { size = refl; identity = refl; armed = refl; asleep = refl }
+alike p = record { identity = refl; armed = refl; asleep = refl }
 
 alike-on : {p q r : Record} → Alike p q → Alike q r → Alike p r
 alike-on a b =
-    record { size = b .size ∙ a .size; identity = b .identity ∙ a .identity; armed = b .armed ∙ a .armed; asleep = b .asleep ∙ a .asleep }
+    record { identity = b .identity ∙ a .identity; armed = b .armed ∙ a .armed; asleep = b .asleep ∙ a .asleep }
 
 -- ticks
 module _ (p : Record) where
   worked-alike : (o : Operation) (t : Bool) → Alike p (cond t (goingOn p (advancedBy 1 o)) (finished p o))
-  worked-alike o true = record { size = refl; identity = refl; armed = refl; asleep = refl }
-  worked-alike o false = record { size = refl; identity = refl; armed = refl; asleep = refl }
+  worked-alike o true = record { identity = refl; armed = refl; asleep = refl }
+  worked-alike o false = record { identity = refl; armed = refl; asleep = refl }
 
   ticked-alike : (f : Phase) → Alike p (tickedIn p f)
   unfolding worked
@@ -56,23 +53,8 @@ run-alike (suc n) p = alike-on (run-alike n p) (ticked-alike (recordAfter n p) (
 
 -- a tick call, refused or not
 module _ (p : Record) where
-  ticks-as : (n number : ℕ) (t : Bool)
-      → Alike p (cond {A = Ticked} t (record { next = recordAfter n p; number = 0; done = workingTicks n p }) (record { next = p; number = number; done = 0 }) .next)
-  ticks-as n number true = run-alike n p
-  ticks-as n number false = alike p
-
   ticks-alike : (n : ℕ) → Alike p (recordAfterCall (ticks n) p)
-  unfolding ticked
-  ticks-alike n = let k = tickNumber p (arrayBytes (p .blocks)) rowsBytes n in ticks-as n k (eqb k 0)
-
-  sound-as : (n number : ℕ) (t : Bool) → sound p ≡ true
-      → sound (cond {A = Ticked} t (record { next = recordAfter n p; number = 0; done = workingTicks n p }) (record { next = p; number = number; done = 0 }) .next) ≡ true
-  sound-as n number true s = run-sound n p s
-  sound-as n number false s = s
-
-  ticks-sound : (n : ℕ) → sound p ≡ true → sound (recordAfterCall (ticks n) p) ≡ true
-  unfolding ticked
-  ticks-sound n s = let k = tickNumber p (arrayBytes (p .blocks)) rowsBytes n in sound-as n k (eqb k 0) s
+  ticks-alike n = after-tick-call (Alike p) p n (alike p) (run-alike n p) (arrayBytes (p .blocks)) rowsBytes
 
   -- a call that stands aside: a refused transaction changes nothing
   refused-next : (wp : Bool) (i : List ℕ) (o : ℕ) → eqb (transactionRefusal p (arrayBytes (p .blocks)) rowsBytes (length i) o) 0 ≡ false
@@ -84,28 +66,12 @@ module _ (p : Record) where
   aside-alike (transaction wp i o) h = subst⁻¹ (Alike p) (refused-next wp i o (not-true _ h)) (alike p)
   aside-alike (ticks n) h = ticks-alike n
 
--- every call keeps a record sound, and its size and identity
-call-sound : (c : Call) (p : Record) → sound p ≡ true → sound (recordAfterCall c p) ≡ true
-call-sound (transaction wp i o) p s = transaction-sound p (arrayBytes (p .blocks)) rowsBytes wp i o s
-call-sound (ticks n) p s = ticks-sound p n s
-
-call-size : (c : Call) (p : Record) → recordAfterCall c p .blocks ≡ p .blocks
-call-size (transaction wp i o) p = transaction-size p (arrayBytes (p .blocks)) rowsBytes wp i o
-call-size (ticks n) p = ticks-alike p n .size
-
+-- every call keeps the identity
 call-identity : (c : Call) (p : Record) → recordAfterCall c p .identity ≡ p .identity
 call-identity (transaction wp i o) p = transaction-identity p (arrayBytes (p .blocks)) rowsBytes wp i o
 call-identity (ticks n) p = ticks-alike p n .identity
 
--- so do all
-pub calls-sound : (cs : List Call) (p : Record) → sound p ≡ true → sound (recordAfterCalls cs p) ≡ true
-calls-sound [] p s = s
-calls-sound (c ∷ cs) p s = calls-sound cs (recordAfterCall c p) (call-sound c p s)
-
-pub calls-size : (cs : List Call) (p : Record) → recordAfterCalls cs p .blocks ≡ p .blocks
-calls-size [] p = refl
-calls-size (c ∷ cs) p = calls-size cs (recordAfterCall c p) ∙ call-size c p
-
+-- so do all calls
 pub calls-identity : (cs : List Call) (p : Record) → recordAfterCalls cs p .identity ≡ p .identity
 calls-identity [] p = refl
 calls-identity (c ∷ cs) p = calls-identity cs (recordAfterCall c p) ∙ call-identity c p

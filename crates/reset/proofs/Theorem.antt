@@ -1,25 +1,23 @@
 -- Demand 3's last sentences: a part that was woken, armed and reset equals one freshly powered, from every sound record and after every history.
 use Prim.Native.Nat.{ℕ}
 use mathlib.Core.Path.{_≡_, refl, sym, ap, _∙_}
-use mathlib.Core.Bool.{Bool, true, false, cond, false≢true}
+use mathlib.Core.Bool.{Bool, true, false}
 use mathlib.Core.List.{List, [], _∷_, _++_, append-nil}
-use lib.Dec.{eqb}
-use borrow.Author.Tests.{eq-eqb}
 use Rattle.types.specs.declared.Identity.{Identity}
 use Rattle.types.specs.declared.PoweredUp.{PoweredUp}
 use Rattle.types.specs.declared.Answer.{Answer}
 use Rattle.types.specs.declared.Record.{Record}
 use Rattle.paper.specs.Operations.{Touch}
-use Rattle.paper.specs.Records.{marked, fresh}
+use Rattle.paper.specs.Records.{marked}
 use Rattle.paper.specs.Reset.{wasReset}
 use Rattle.paper.specs.Soundness.{sound}
-use Rattle.paper.specs.Numbers.{powerUpNumber}
-use Rattle.paper.specs.Calls.{noIdentity, poweredUp}
+use Rattle.paper.specs.Calls.{poweredUp}
 use Rattle.paper.specs.History.{Call, recordAfterCall, recordAfterCalls, history}
 use Rattle.paper.proofs.Soundness.{sound-parts}
-use Rattle.paper.proofs.Kept.{power-up-sound}
+use Rattle.paper.proofs.Kept.{power-up-sound, powered-fresh}
+use Rattle.paper.proofs.CallKept.{calls-sound, calls-size}
 use Rattle.reset.specs.Closing.{wake, arm, reset, allAside, untilArmed, untilReset, closing, poweredAs, answerToReset, FreshAfter}
-use Rattle.reset.proofs.Aside.{calls-sound, calls-size, calls-identity, all-aside-alike, calls-append, history-append}
+use Rattle.reset.proofs.Aside.{calls-identity, all-aside-alike, calls-append, history-append}
 use Rattle.reset.proofs.Steps.{woken, armed-now, reset-now, powered-as}
 
 -- a part that is awake and armed, and that 99h may be sent to
@@ -99,19 +97,9 @@ pub wake-arm-reset : (p : Record) (w1 w2 w3 : Bool) (b c : List Call) → sound 
     → FreshAfter (p .blocks) (p .identity) w1 w2 w3 b c p
 wake-arm-reset p w1 w2 w3 b c s hb hc = fresh-as w1 w2 w3 b c p s hb hc (p .blocks) (p .identity) refl refl
 
--- a power-up that was not refused
+-- from a power-up that was not refused on
 module _ (n : ℕ) (id : Identity) (status function : ℕ) where
-  powered-by : (t : Bool) → eqb (powerUpNumber n status function) 0 ≡ t
-      → cond {A = PoweredUp} t (record { next = fresh n id status function; number = 0 }) (record { next = fresh 1 noIdentity 0 0; number = powerUpNumber n status function }) .number ≡ 0
-      → cond {A = PoweredUp} t (record { next = fresh n id status function; number = 0 }) (record { next = fresh 1 noIdentity 0 0; number = powerUpNumber n status function }) .next ≡ fresh n id status function
-  powered-by true e h = refl
-  powered-by false e h = absurd (false≢true (sym e ∙ eq-eqb _ _ h))
-
-  powered-fresh : poweredUp n id status function .number ≡ 0 → poweredUp n id status function .next ≡ fresh n id status function
-  unfolding poweredUp
-  powered-fresh = powered-by (eqb (powerUpNumber n status function) 0) refl
-
-  -- after every list of calls a from a power-up that was not refused on
+  -- after every list of calls a
   pub reset-after-history : (a : List Call) (w1 w2 w3 : Bool) (b c : List Call) → poweredUp n id status function .number ≡ 0
       → let p = recordAfterCalls a (poweredUp n id status function .next) in
       allAside b (recordAfterCall (wake w1) p) ≡ true → allAside c (recordAfterCalls (untilArmed w1 w2 b) p) ≡ true
@@ -119,5 +107,5 @@ module _ (n : ℕ) (id : Identity) (status function : ℕ) where
   reset-after-history a w1 w2 w3 b c h hb hc =
       let o = poweredUp n id status function .next in
       fresh-as w1 w2 w3 b c (recordAfterCalls a o) (calls-sound a o (power-up-sound n id status function)) hb hc n id
-      (calls-size a o ∙ ap (λ (q : Record). q .blocks) (powered-fresh h))
-      (calls-identity a o ∙ ap (λ (q : Record). q .identity) (powered-fresh h))
+      (calls-size a o ∙ ap (λ (q : Record). q .blocks) (powered-fresh n id status function h))
+      (calls-identity a o ∙ ap (λ (q : Record). q .identity) (powered-fresh n id status function h))

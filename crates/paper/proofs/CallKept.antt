@@ -1,0 +1,47 @@
+-- What every call keeps, whether it is refused, ignored or executed: a sound record stays sound, and a part keeps its size.
+use Prim.Native.Nat.{ℕ}
+use mathlib.Core.Path.{_≡_, refl, _∙_}
+use mathlib.Core.Bool.{Bool, true, false, cond}
+use mathlib.Core.List.{List, [], _∷_}
+use lib.Dec.{eqb}
+use Rattle.types.specs.declared.Record.{Record}
+use Rattle.types.specs.declared.Ticked.{Ticked}
+use Rattle.paper.specs.Sizes.{arrayBytes, rowsBytes}
+use Rattle.paper.specs.Soundness.{sound}
+use Rattle.paper.specs.Numbers.{tickNumber}
+use Rattle.paper.specs.Ticks.{recordAfter, workingTicks}
+use Rattle.paper.specs.Calls.{ticked}
+use Rattle.paper.specs.History.{Call, transaction, ticks, recordAfterCall, recordAfterCalls}
+use Rattle.paper.proofs.Kept.{run-sound, run-size}
+use Rattle.paper.proofs.TransactionKept.{transaction-sound, transaction-size}
+
+-- what holds of the record before, and of the one after n ticks, holds of the record after a tick call
+module _ (P : Record → Type 0) (p : Record) (n : ℕ) (same : P p) (ran : P (recordAfter n p)) where
+  ran-or-not : (number : ℕ) (t : Bool)
+      → P (cond {A = Ticked} t (record { next = recordAfter n p; number = 0; done = workingTicks n p }) (record { next = p; number = number; done = 0 }) .next)
+  ran-or-not number true = ran
+  ran-or-not number false = same
+
+  pub after-tick-call : (a r : ℕ) → P (ticked p a r n .next)
+  unfolding ticked
+  after-tick-call a r = ran-or-not (tickNumber p a r n) (eqb (tickNumber p a r n) 0)
+
+-- a call on the part's own memory
+pub call-sound : (c : Call) (p : Record) → sound p ≡ true → sound (recordAfterCall c p) ≡ true
+call-sound (transaction wp i o) p s = transaction-sound p (arrayBytes (p .blocks)) rowsBytes wp i o s
+call-sound (ticks n) p s =
+    after-tick-call (λ (q : Record). sound q ≡ true) p n s (run-sound n p s) (arrayBytes (p .blocks)) rowsBytes
+
+pub call-size : (c : Call) (p : Record) → recordAfterCall c p .blocks ≡ p .blocks
+call-size (transaction wp i o) p = transaction-size p (arrayBytes (p .blocks)) rowsBytes wp i o
+call-size (ticks n) p =
+    after-tick-call (λ (q : Record). q .blocks ≡ p .blocks) p n refl (run-size n p) (arrayBytes (p .blocks)) rowsBytes
+
+-- and a list of calls
+pub calls-sound : (cs : List Call) (p : Record) → sound p ≡ true → sound (recordAfterCalls cs p) ≡ true
+calls-sound [] p s = s
+calls-sound (c ∷ cs) p s = calls-sound cs (recordAfterCall c p) (call-sound c p s)
+
+pub calls-size : (cs : List Call) (p : Record) → recordAfterCalls cs p .blocks ≡ p .blocks
+calls-size [] p = refl
+calls-size (c ∷ cs) p = calls-size cs (recordAfterCall c p) ∙ call-size c p
