@@ -125,9 +125,10 @@ taken : (bs : List ℕ) → holds bs ≡ true → recordIn bs ≡ held (fieldsIn
 unfolding recordIn
 taken bs e = rw e
 
-missing : (bs : List ℕ) → holds bs ≡ false → recordIn bs .ok ≡ false
+ok-as : (bs : List ℕ) (t : Bool) → holds bs ≡ t → recordIn bs .ok ≡ t
 unfolding recordIn nothing
-missing bs e = rw e
+ok-as bs true e = rw e
+ok-as bs false e = rw e
 
 whole : (bs : List ℕ) → holds bs ≡ true → recordBytes (fieldsIn bs) ≡ bs
 unfolding holds recordBytes fieldsIn
@@ -137,7 +138,7 @@ whole bs e =
 
 exact-as : (bs : List ℕ) (p : Record) (t : Bool) → holds bs ≡ t → recordIn bs ≡ held p → bs ≡ recordBytes p
 exact-as bs p true e h = sym (whole bs e) ∙ ap (λ (x : Held). recordBytes (x .part)) (sym (taken bs e) ∙ h)
-exact-as bs p false e h = absurd (false≢true (sym (missing bs e) ∙ ap (λ (x : Held). x .ok) h))
+exact-as bs p false e h = absurd (false≢true (sym (ok-as bs false e) ∙ ap (λ (x : Held). x .ok) h))
 
 -- bytes that are read as a record are its bytes
 pub exact : (bs : List ℕ) (p : Record) → recordIn bs ≡ held p → bs ≡ recordBytes p
@@ -146,3 +147,15 @@ exact bs p h = exact-as bs p (holds bs) refl h
 -- no two strings of bytes hold one record
 pub one-image : (xs ys : List ℕ) (p : Record) → recordIn xs ≡ held p → recordIn ys ≡ held p → xs ≡ ys
 one-image xs ys p h k = agree (exact xs p h) (exact ys p k)
+
+-- bytes that hold a record are as many as it has, and its own
+module _ (bs : List ℕ) (h : recordIn bs .ok ≡ true) where
+  holding : holds bs ≡ true
+  holding = sym (ok-as bs (holds bs) refl) ∙ h
+
+  pub held-length : length bs ≡ 294
+  unfolding holds
+  held-length = eqb-true _ _ (and-l _ _ holding)
+
+  pub held-bytes : recordBytes (recordIn bs .part) ≡ bs
+  held-bytes = ap (λ (x : Held). recordBytes (x .part)) (taken bs holding) ∙ whole bs holding
