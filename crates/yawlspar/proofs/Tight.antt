@@ -1,9 +1,21 @@
--- Two results that a contract of this crate allows are equal: the answer, the record's bytes, and each other lent byte.
+-- Two results that a contract of this crate allows are equal: the answer, and of the calls the record's bytes and each other lent byte.
 use denote.Ref.{now}
 use Rattle.words.proofs.Allowed.{OneResult, OneExit, agree}
+use Rattle.yawlspar.proofs.numbers.yawlspar_protection_number.Reads as protection-number
+use Rattle.yawlspar.proofs.numbers.yawlspar_protected.Reads as protected
+use Rattle.yawlspar.proofs.numbers.yawlspar_page_place.Reads as page-place
 use Rattle.yawlspar.proofs.yawlspar_power_up.Reads as power-up
 use Rattle.yawlspar.proofs.yawlspar_transact.Reads as transact
 use Rattle.yawlspar.proofs.yawlspar_tick.Reads as tick
+
+pub protection-number-one : OneResult protection-number.Learnt
+protection-number-one κ a x y s t p q = agree p q
+
+pub protected-one : OneResult protected.Learnt
+protected-one κ a x y s t p q = agree p q
+
+pub page-place-one : OneResult page-place.Learnt
+page-place-one κ a x y s t p q = agree p q
 
 pub power-up-one : OneResult power-up.Learnt
 power-up-one κ a x y s t p q = agree (p .0) (q .0)

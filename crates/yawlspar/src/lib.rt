@@ -1,5 +1,7 @@
-// The model for C: the three calls on a record that is kept in bytes. include/yawlspar.h declares them.
-// Each reads the record, makes the call, and writes the next record back.
+// The model for C, which include/yawlspar.h declares: the three calls on a record that is kept in bytes,
+// and the functions on numbers. A call reads the record, is made, and writes the next record back.
+pub mod numbers;
+
 ghost use mathlib.Core.Path.{_≡_};
 ghost use Prim.Native.Nat.{_≤_};
 ghost use lib.ListN.{length};

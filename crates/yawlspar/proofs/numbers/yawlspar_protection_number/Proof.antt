@@ -1,8 +1,8 @@
--- `cbench::yawlspar_protection_number` meets its contract: it joins the two tests in the paper's order.
+-- `yawlspar::numbers::yawlspar_protection_number` meets its contract: it joins the two tests in the paper's order.
 use borrow.Author.Needs.{needs}
 use Rattle.paper.specs.CBench.{protectionNumber}
-use Rattle.cbench.proofs.yawlspar_protection_number.Statement.{statement}
-use Rattle.cbench.proofs.yawlspar_protection_number.Tie as tie
+use Rattle.yawlspar.proofs.numbers.yawlspar_protection_number.Statement.{statement}
+use Rattle.yawlspar.proofs.numbers.yawlspar_protection_number.Tie as tie
 
 size-ok-requires : tie.Need-size-ok-requires
 size-ok-requires c κs = search needs

@@ -1,10 +1,10 @@
--- `cbench::yawlspar_page_place` meets its contract: the two tests are the definition's, and the place is the page's.
+-- `yawlspar::numbers::yawlspar_page_place` meets its contract: the two tests are the definition's, and the place is the page's.
 use borrow.Author.Tests.{lt-ltb, le-ltb}
 use borrow.Author.Needs.{needs}
 use Rattle.paper.specs.CBench.{placeAnswer}
 use Rattle.words.specs.Logic.{_and_}
-use Rattle.cbench.proofs.yawlspar_page_place.Statement.{statement}
-use Rattle.cbench.proofs.yawlspar_page_place.Tie as tie
+use Rattle.yawlspar.proofs.numbers.yawlspar_page_place.Statement.{statement}
+use Rattle.yawlspar.proofs.numbers.yawlspar_page_place.Tie as tie
 
 returns : tie.Need-returns
 unfolding placeAnswer _and_

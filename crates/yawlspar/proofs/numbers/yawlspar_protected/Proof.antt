@@ -1,12 +1,12 @@
--- `cbench::yawlspar_protected` meets its contract: where the number is 0 the size and the code fit, and the block decides.
+-- `yawlspar::numbers::yawlspar_protected` meets its contract: where the number is 0 the size and the code fit, and the block decides.
 use mathlib.Core.Path.{sym, _∙_}
 use native.Mathlib.Omega.{arith}
 use borrow.Author.Tests.{eq-eqb, ne-eqb}
 use borrow.Author.Needs.{needs}
 use Rattle.paper.proofs.CBench.{answerable}
 use Rattle.paper.specs.CBench.{protectedAnswer}
-use Rattle.cbench.proofs.yawlspar_protected.Statement.{statement}
-use Rattle.cbench.proofs.yawlspar_protected.Tie as tie
+use Rattle.yawlspar.proofs.numbers.yawlspar_protected.Statement.{statement}
+use Rattle.yawlspar.proofs.numbers.yawlspar_protected.Tie as tie
 
 yawlspar-protection-number-requires : tie.Need-yawlspar-protection-number-requires
 yawlspar-protection-number-requires c κs = search needs

@@ -1,4 +1,4 @@
-// The C bench's functions on numbers. include/yawlspar.h declares them for C.
+// The C bench's functions on numbers.
 ghost use mathlib.Core.Path.{_≡_};
 ghost use Rattle.paper.specs.CBench.{protectionNumber, protectedAnswer, placeAnswer};
 
