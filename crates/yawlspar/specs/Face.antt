@@ -7,7 +7,6 @@ use lib.ListN.{length}
 use Rattle.types.specs.declared.Memory.{Memory}
 use Rattle.types.specs.declared.Identity.{Identity}
 use Rattle.types.specs.declared.Record.{Record}
-use Rattle.types.specs.declared.PoweredUp.{PoweredUp}
 use Rattle.types.specs.declared.Answer.{Answer}
 use Rattle.types.specs.declared.Ticked.{Ticked}
 use Rattle.words.specs.Logic.{_and_, unless, _orElse_, whenZero}

@@ -55,7 +55,9 @@ shared-slice-read-t20 c = search needs
 
 returns : tie.Need-returns
 unfolding cellsIn
-returns c = let bs = now (c .before .before .before .before .before .before .before .before .before .before .args .bytes) in rw (c .before .before .before .high-first3 .ensures, c .before .before .before .before .before .high-first2 .ensures, c .before .before .before .before .before .before .before .high-first .ensures, take-few 8 (drop 14 bs) (omega arith), take-few 8 (drop 22 bs) (omega arith), take-few 8 (drop 30 bs) (omega arith))
+returns c =
+    let bs = now (c .before .before .before .before .before .before .before .before .before .before .args .bytes) in
+    rw (c .before .before .before .high-first3 .ensures, c .before .before .before .before .before .high-first2 .ensures, c .before .before .before .before .before .before .before .high-first .ensures, take-few 8 (drop 14 bs) (omega arith), take-few 8 (drop 22 bs) (omega arith), take-few 8 (drop 30 bs) (omega arith))
 
 pub cells-in-spec : {M : Type 1} → statement M
 cells-in-spec =

@@ -23,7 +23,10 @@ high-first-requires : tie.Need-high-first-requires
 high-first-requires c κs = search needs
 
 cast-blocks : tie.Need-cast-blocks
-cast-blocks c = let bs = now (c .before .before .before .args .bytes) in let byte : (i : ℕ) → getD bs i 0 < 256 = λ i. omega (arith, c .before .before .shared-slice-known .given i) in omega (arith, rw (take-few 2 bs (omega arith)) at (c .high-first .ensures), high-first-fits bs byte 2 (omega (arith, c .before .before .before .pre)))
+cast-blocks c =
+    let bs = now (c .before .before .before .args .bytes) in
+    let byte : (i : ℕ) → getD bs i 0 < 256 = λ i. omega (arith, c .before .before .shared-slice-known .given i) in
+    omega (arith, rw (take-few 2 bs (omega arith)) at (c .high-first .ensures), high-first-fits bs byte 2 (omega (arith, c .before .before .before .pre)))
 
 shared-slice-read-t13 : tie.Need-shared-slice-read-t13
 shared-slice-read-t13 c = search needs
@@ -63,7 +66,9 @@ shared-slice-read-t27 c = search needs
 
 returns : tie.Need-returns
 unfolding fieldsIn
-returns c = let bs = now (c .before .before .before .before .before .before .before .before .before .before .before .before .before .before .before .args .bytes) in rw (c .before .before .before .before .before .page-in .ensures, c .before .before .before .before .before .before .phase-of .ensures, c .before .before .before .before .before .before .before .cells-in .ensures, c .before .before .before .before .before .before .before .before .before .before .before .before .high-first .ensures, take-few 2 bs (omega arith))
+returns c =
+    let bs = now (c .before .before .before .before .before .before .before .before .before .before .before .before .before .before .before .args .bytes) in
+    rw (c .before .before .before .before .before .page-in .ensures, c .before .before .before .before .before .before .phase-of .ensures, c .before .before .before .before .before .before .before .cells-in .ensures, c .before .before .before .before .before .before .before .before .before .before .before .before .high-first .ensures, take-few 2 bs (omega arith))
 
 pub fields-in-spec : {M : Type 1} → statement M
 fields-in-spec =

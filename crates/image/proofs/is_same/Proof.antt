@@ -37,10 +37,16 @@ loop-less : tie.Need-loop-less Inv-loop μ-loop
 loop-less c = omega arith
 
 loop-again : tie.Need-loop-again Inv-loop μ-loop
-loop-again c = let l = c .before .before .before .before .loop in let s = c .before .before .before .before .before .before .before in (rw (c .both .ensures, add-one) (same-more (now (s .args .a)) (now (s .args .b)) (l .same) (l .i) (omega arith) (omega (arith, s .pre)) ∙ l .inv .0), omega arith)
+loop-again c =
+    let l = c .before .before .before .before .loop in
+    let s = c .before .before .before .before .before .before .before in
+    (rw (c .both .ensures, add-one) (same-more (now (s .args .a)) (now (s .args .b)) (l .same) (l .i) (omega arith) (omega (arith, s .pre)) ∙ l .inv .0), omega arith)
 
 returns : tie.Need-returns Inv-loop μ-loop
-returns c = let l = c .before .loop in let s = c .before .before .before .before in sym (same-end (now (s .args .a)) (now (s .args .b)) (l .same) (l .i) (omega arith) (omega (arith, s .pre))) ∙ l .inv .0
+returns c =
+    let l = c .before .loop in
+    let s = c .before .before .before .before in
+    sym (same-end (now (s .args .a)) (now (s .args .b)) (l .same) (l .i) (omega arith) (omega (arith, s .pre))) ∙ l .inv .0
 
 pub is-same-spec : {M : Type 1} → statement M
 is-same-spec =

@@ -21,7 +21,9 @@ returns-2 c = rw (c .before .match .keys2, c .operation-of .ensures)
 
 returns-3 : tie.Need-returns-3
 unfolding phaseOf
-returns-3 c = let r = c .before .match .rest in rw (ne-eqb _ _ (r .0 .1), ne-eqb _ _ (r .1), c .operation-of2 .ensures)
+returns-3 c =
+    let r = c .before .match .rest in
+    rw (ne-eqb _ _ (r .0 .1), ne-eqb _ _ (r .1), c .operation-of2 .ensures)
 
 pub phase-of-spec : {M : Type 1} → statement M
 phase-of-spec =

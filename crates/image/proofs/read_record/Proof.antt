@@ -37,14 +37,18 @@ is-same-requires c κs = search needs
 
 returns-2 : tie.Need-returns-2
 unfolding recordIn
-returns-2 c = let h = holds-as (now (c .before .before .before .before .before .before .before .before .args .bytes)) _ _ _ (c .before .before .before .before .before .before .if1 .left) (c .before .before .before .before .before .fields-in .ensures) (c .before .before .before .before .header-of .ensures) (c .before .is-same .ensures) in rw (h ∙ c .if2 .taken, c .before .before .before .before .before .fields-in .ensures)
+returns-2 c =
+    let h = holds-as (now (c .before .before .before .before .before .before .before .before .args .bytes)) _ _ _ (c .before .before .before .before .before .before .if1 .left) (c .before .before .before .before .before .fields-in .ensures) (c .before .before .before .before .header-of .ensures) (c .before .is-same .ensures) in
+    rw (h ∙ c .if2 .taken, c .before .before .before .before .before .fields-in .ensures)
 
 none-requires-2 : tie.Need-none-requires-2
 none-requires-2 c κs = search needs
 
 returns-3 : tie.Need-returns-3
 unfolding recordIn
-returns-3 c = let h = holds-as (now (c .before .before .before .before .before .before .before .before .before .args .bytes)) _ _ _ (c .before .before .before .before .before .before .before .if1 .left) (c .before .before .before .before .before .before .fields-in .ensures) (c .before .before .before .before .before .header-of .ensures) (c .before .before .is-same .ensures) in rw (h ∙ c .before .if2 .left) (c .none2 .ensures)
+returns-3 c =
+    let h = holds-as (now (c .before .before .before .before .before .before .before .before .before .args .bytes)) _ _ _ (c .before .before .before .before .before .before .before .if1 .left) (c .before .before .before .before .before .before .fields-in .ensures) (c .before .before .before .before .before .header-of .ensures) (c .before .before .is-same .ensures) in
+    rw (h ∙ c .before .if2 .left) (c .none2 .ensures)
 
 pub read-record-spec : {M : Type 1} → statement M
 read-record-spec =

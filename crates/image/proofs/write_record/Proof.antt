@@ -35,14 +35,23 @@ part-copy-end : tie.Need-part-copy-end
 part-copy-end c = search needs
 
 copy-requires-2 : tie.Need-copy-requires-2
-copy-requires-2 c κs = let s = c .before .before .before .before .before .before .before .before .before .before .before in let h = c .before .before .before .before .before .before .before .before .header-of in let ld : length (s .args .part .page) ≡ 256 = search needs in room (now (s .args .bytes)) (h .result) (s .args .part .page) (c .before .before .before .before .copy .last .1 .0) (c .before .before .before .before .before .before .before .before .before .if1 .left) (ap length (h .ensures) ∙ header-length _ _) ld (c .before .before .before .before .copy .ensures .1)
+copy-requires-2 c κs =
+    let s = c .before .before .before .before .before .before .before .before .before .before .before in
+    let h = c .before .before .before .before .before .before .before .before .header-of in
+    let ld : length (s .args .part .page) ≡ 256 = search needs in
+    room (now (s .args .bytes)) (h .result) (s .args .part .page) (c .before .before .before .before .copy .last .1 .0) (c .before .before .before .before .before .before .before .before .before .if1 .left) (ap length (h .ensures) ∙ header-length _ _) ld (c .before .before .before .before .copy .ensures .1)
 
 same-length : tie.Need-same-length
 same-length c = search needs
 
 returns-2 : tie.Need-returns-2
 unfolding written recordBytes
-returns-2 c = let s = c .before .before .before .before .before .before .before .before .before .before .before .before .before .before in let h = c .before .before .before .before .before .before .before .before .before .before .before .header-of in let ld : length (s .args .part .page) ≡ 256 = search needs in let l = c .before .before .before .before .before .before .before .before .before .before .before .before .if1 .left in rw (eq-eqb _ _ l, ← h .ensures) (laid-out (now (s .args .bytes)) (h .result) (s .args .part .page) (c .before .before .before .before .before .before .before .copy .last .1 .0) l (ap length (h .ensures) ∙ header-length _ _) ld (c .before .before .before .before .before .before .before .copy .ensures .1) (c .before .before .copy2 .last .1 .0) (c .before .before .copy2 .ensures .1))
+returns-2 c =
+    let s = c .before .before .before .before .before .before .before .before .before .before .before .before .before .before in
+    let h = c .before .before .before .before .before .before .before .before .before .before .before .header-of in
+    let ld : length (s .args .part .page) ≡ 256 = search needs in
+    let l = c .before .before .before .before .before .before .before .before .before .before .before .before .if1 .left in
+    rw (eq-eqb _ _ l, ← h .ensures) (laid-out (now (s .args .bytes)) (h .result) (s .args .part .page) (c .before .before .before .before .before .before .before .copy .last .1 .0) l (ap length (h .ensures) ∙ header-length _ _) ld (c .before .before .before .before .before .before .before .copy .ensures .1) (c .before .before .copy2 .last .1 .0) (c .before .before .copy2 .ensures .1))
 
 pub write-record-spec : {M : Type 1} → statement M
 write-record-spec =

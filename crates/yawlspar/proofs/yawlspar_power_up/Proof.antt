@@ -15,7 +15,11 @@ cast-result : tie.Need-cast-result
 cast-result c = search needs
 
 returns : tie.Need-returns
-returns c = let a = c .before .before .before .args in let g = c .before .given-number in let e = given-number (a .blocks) (a .maker) (a .kind) (a .capacity) (a .device) (a .status) (a .function) (now (a .bytes)) (g .result) (g .ensures) (c .if1 .taken) in (omega (arith, e), no-image (a .blocks) (a .maker) (a .kind) (a .capacity) (a .device) (a .status) (a .function) (now (a .bytes)) (g .result) (g .ensures) _ e (c .if1 .taken))
+returns c =
+    let a = c .before .before .before .args in
+    let g = c .before .given-number in
+    let e = given-number (a .blocks) (a .maker) (a .kind) (a .capacity) (a .device) (a .status) (a .function) (now (a .bytes)) (g .result) (g .ensures) (c .if1 .taken) in
+    (omega (arith, e), no-image (a .blocks) (a .maker) (a .kind) (a .capacity) (a .device) (a .status) (a .function) (now (a .bytes)) (g .result) (g .ensures) _ e (c .if1 .taken))
 
 cast-power-up : tie.Need-cast-power-up
 cast-power-up c = omega (arith, given _ _ _ _ _ _ _ _ (sym (c .before .given-number .ensures) ∙ c .if1 .left))
@@ -45,7 +49,12 @@ cast-result-2 : tie.Need-cast-result-2
 cast-result-2 c = search needs
 
 returns-2 : tie.Need-returns-2
-returns-2 c = let a = c .before .before .before .before .before .before .before .args in let g = c .before .before .before .before .before .given-number in let u = c .before .before .before .power-up in let e = own-number (a .blocks) (a .maker) (a .kind) (a .capacity) (a .device) (a .status) (a .function) (now (a .bytes)) (g .result) (g .ensures) (u .result) (c .before .before .before .before .if1 .left) (u .ensures) in (omega (arith, e), no-image (a .blocks) (a .maker) (a .kind) (a .capacity) (a .device) (a .status) (a .function) (now (a .bytes)) (g .result) (g .ensures) _ e (c .before .if2 .taken))
+returns-2 c =
+    let a = c .before .before .before .before .before .before .before .args in
+    let g = c .before .before .before .before .before .given-number in
+    let u = c .before .before .before .power-up in
+    let e = own-number (a .blocks) (a .maker) (a .kind) (a .capacity) (a .device) (a .status) (a .function) (now (a .bytes)) (g .result) (g .ensures) (u .result) (c .before .before .before .before .if1 .left) (u .ensures) in
+    (omega (arith, e), no-image (a .blocks) (a .maker) (a .kind) (a .capacity) (a .device) (a .status) (a .function) (now (a .bytes)) (g .result) (g .ensures) _ e (c .before .if2 .taken))
 
 write-record-requires : tie.Need-write-record-requires
 write-record-requires c κs = search needs
@@ -54,7 +63,14 @@ same-length : tie.Need-same-length
 same-length c = search needs
 
 returns-3 : tie.Need-returns-3
-returns-3 c = let a = c .before .before .before .before .before .before .before .before .before .before .before .args in let g = c .before .before .before .before .before .before .before .before .before .given-number in let u = c .before .before .before .before .before .before .before .power-up in let z = c .before .before .before .before .before .before .before .before .if1 .left in let o = c .before .before .before .before .before .if2 .left in let e = own-number (a .blocks) (a .maker) (a .kind) (a .capacity) (a .device) (a .status) (a .function) (now (a .bytes)) (g .result) (g .ensures) (u .result) z (u .ensures) in (omega (arith, e, o), c .before .before .write-record .ensures ∙ written-in _ _ (given _ _ _ _ _ _ _ _ (sym (g .ensures) ∙ z) .whole) ∙ own-image (a .blocks) (a .maker) (a .kind) (a .capacity) (a .device) (a .status) (a .function) (now (a .bytes)) (g .result) (g .ensures) (u .result) z (u .ensures) o)
+returns-3 c =
+    let a = c .before .before .before .before .before .before .before .before .before .before .before .args in
+    let g = c .before .before .before .before .before .before .before .before .before .given-number in
+    let u = c .before .before .before .before .before .before .before .power-up in
+    let z = c .before .before .before .before .before .before .before .before .if1 .left in
+    let o = c .before .before .before .before .before .if2 .left in
+    let e = own-number (a .blocks) (a .maker) (a .kind) (a .capacity) (a .device) (a .status) (a .function) (now (a .bytes)) (g .result) (g .ensures) (u .result) z (u .ensures) in
+    (omega (arith, e, o), c .before .before .write-record .ensures ∙ written-in _ _ (given _ _ _ _ _ _ _ _ (sym (g .ensures) ∙ z) .whole) ∙ own-image (a .blocks) (a .maker) (a .kind) (a .capacity) (a .device) (a .status) (a .function) (now (a .bytes)) (g .result) (g .ensures) (u .result) z (u .ensures) o)
 
 pub yawlspar-power-up-spec : {M : Type 1} → statement M
 yawlspar-power-up-spec =

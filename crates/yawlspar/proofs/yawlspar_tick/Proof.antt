@@ -14,7 +14,10 @@ same-length : tie.Need-same-length
 same-length c = search needs
 
 returns : tie.Need-returns
-returns c = let h = c .before .before .read-record in let n = not-true _ (c .if1 .taken) in (rw (← h .ensures) (unheld-tick-answer (h .result) _ _ _ n), (rw (← h .ensures) (unheld-tick-image (h .result) _ _ _ _ n), (rw (← h .ensures) (unheld-memory (h .result) _ _ _ _ _ n), rw (← h .ensures) (unheld-memory (h .result) _ _ _ _ _ n))))
+returns c =
+    let h = c .before .before .read-record in
+    let n = not-true _ (c .if1 .taken) in
+    (rw (← h .ensures) (unheld-tick-answer (h .result) _ _ _ n), (rw (← h .ensures) (unheld-tick-image (h .result) _ _ _ _ n), (rw (← h .ensures) (unheld-memory (h .result) _ _ _ _ _ n), rw (← h .ensures) (unheld-memory (h .result) _ _ _ _ _ n))))
 
 tick-requires : tie.Need-tick-requires
 tick-requires c κs = search needs
@@ -35,7 +38,11 @@ same-length-4 : tie.Need-same-length-4
 same-length-4 c = search needs
 
 returns-2 : tie.Need-returns-2
-returns-2 c = let h = c .before .before .before .before .before .before .before .before .before .before .before .before .before .before .before .before .read-record in let n = not-false _ (c .before .before .before .before .before .before .before .before .before .before .before .before .before .before .if1 .left) in let t = c .before .before .before .before .before .before .before .before .before .before .tick in (rw (← h .ensures) (c .pack .ensures ∙ tick-answer (h .result) _ _ _ (t .result) n (t .ensures .0)), (rw (← h .ensures) (c .before .before .before .write-record .ensures ∙ next-written (h .result) _ _ (h .ensures) n ∙ tick-image (h .result) _ _ _ (t .result) n (t .ensures .0) _), (rw (← h .ensures) (t .ensures .1 .0 ∙ tick-memory (h .result) _ _ _ _ _ n), rw (← h .ensures) (t .ensures .1 .1 ∙ tick-memory (h .result) _ _ _ _ _ n))))
+returns-2 c =
+    let h = c .before .before .before .before .before .before .before .before .before .before .before .before .before .before .before .before .read-record in
+    let n = not-false _ (c .before .before .before .before .before .before .before .before .before .before .before .before .before .before .if1 .left) in
+    let t = c .before .before .before .before .before .before .before .before .before .before .tick in
+    (rw (← h .ensures) (c .pack .ensures ∙ tick-answer (h .result) _ _ _ (t .result) n (t .ensures .0)), (rw (← h .ensures) (c .before .before .before .write-record .ensures ∙ next-written (h .result) _ _ (h .ensures) n ∙ tick-image (h .result) _ _ _ (t .result) n (t .ensures .0) _), (rw (← h .ensures) (t .ensures .1 .0 ∙ tick-memory (h .result) _ _ _ _ _ n), rw (← h .ensures) (t .ensures .1 .1 ∙ tick-memory (h .result) _ _ _ _ _ n))))
 
 pub yawlspar-tick-spec : {M : Type 1} → statement M
 yawlspar-tick-spec =
