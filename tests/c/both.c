@@ -165,6 +165,7 @@ void begin_run(const char *name, uint64_t seed, uint32_t blocks)
     run_calls = 0;
     run_blocks = blocks;
     memset(&part, 0, sizeof part);
+    memset(message, 0, sizeof message);
     make_side(&model, 0, seed);
     make_side(&reference, 1, seed);
     fill(model.array, blocks * REF_BLOCK, &chance);
@@ -249,10 +250,11 @@ static void same_reached(const struct call *call, const struct part *before, uin
     same(call, "array", model.array, reference.array, (long)from, length, array_length());
 }
 
-/* Larger arrays are compared whole more rarely, so that each size costs the same. */
-static bool whole_is_due(void)
+/* The array is compared whole after each refusal. Else larger arrays are more rarely, so that each size costs
+ * the same. */
+static bool whole_is_due(uint64_t expected)
 {
-    return calls % run_blocks == 0;
+    return is_refusal(expected) || run_calls % run_blocks == 0;
 }
 
 static void compare_memory(const struct call *call, const struct part *before, uint64_t expected)
@@ -260,7 +262,7 @@ static void compare_memory(const struct call *call, const struct part *before, u
     same_but_array(call);
     if (call->kind == TICK && YAWLSPAR_TICKS(expected) > 0)
         same_reached(call, before, YAWLSPAR_TICKS(expected));
-    if (whole_is_due())
+    if (whole_is_due(expected))
         same_array(call);
     else
         same_guards(call, "array", model.array, reference.array, array_length());
@@ -422,7 +424,7 @@ static void prepare_side(const struct side *side, const struct call *call)
 {
     memcpy(side->input, message, call->input);
     set_guard(side->input + call->input);
-    memset(side->output, (int)(calls % 251), call->output);
+    memset(side->output, (int)(run_calls % 251), call->output);
     set_guard(side->output + call->output);
 }
 

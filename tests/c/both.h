@@ -50,8 +50,8 @@ extern uint8_t message[MESSAGE_ROOM];
 /* How many calls were made of the model and compared. */
 extern uint64_t calls;
 
-/* Begins a run of calls: fresh array and rows, made of the seed, and junk for a record. `name` says in a
- * report what run it is. */
+/* Begins a run of calls: array and rows made of the seed, and junk for a record. A run does the same whatever ran
+ * before it. `name` says in a report what run it is. */
 void begin_run(const char *name, uint64_t seed, uint32_t blocks);
 
 /* Asks for no ticks, and compares all memory. */
