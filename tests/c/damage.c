@@ -224,16 +224,16 @@ static void some_bytes_changed(uint32_t times)
 
 static void length_is_wrong(size_t length)
 {
-    struct call calls_of_all[] = {transaction(2), some_tick(1)};
+    struct call both_calls[] = {transaction(2), some_tick(1)};
     size_t i;
 
-    for (i = 0; i < COUNT(calls_of_all); i++) {
+    for (i = 0; i < COUNT(both_calls); i++) {
         uint64_t result;
 
-        calls_of_all[i].record = length;
-        result = try_call(&calls_of_all[i]);
+        both_calls[i].record = length;
+        result = try_call(&both_calls[i]);
         if (result != 5)
-            fail(&calls_of_all[i], "the result for a record of another length", 5, result);
+            fail(&both_calls[i], "the result for a record of another length", 5, result);
     }
 }
 
@@ -301,6 +301,7 @@ static const struct state states[] = {
 static void reach(const struct state *state)
 {
     struct call call = fitting(POWER_UP);
+    uint64_t number;
     size_t i;
 
     call.maker = 0x9D;
@@ -313,8 +314,9 @@ static void reach(const struct state *state)
     for (i = 0; i < COUNT(state->sent) && state->sent[i].length > 0; i++) {
         memcpy(message, state->sent[i].bytes, state->sent[i].length);
         call = transaction(state->sent[i].length);
-        if (YAWLSPAR_NUMBER(step(&call)) != 0)
-            fail(&call, "the number on the way to a state", 0, 1);
+        number = YAWLSPAR_NUMBER(step(&call));
+        if (number != 0)
+            fail(&call, "the number on the way to a state", 0, number);
         if (i == 1) {
             call = some_tick(state->ticks);
             step(&call);

@@ -18,7 +18,7 @@ static void result_is(const struct call *call, uint64_t number, uint64_t above)
         fail(call, "the number above the low 8 bits", above, YAWLSPAR_PLACE(got));
 }
 
-static void refused(const struct call *call, uint64_t number)
+static void number_is(const struct call *call, uint64_t number)
 {
     result_is(call, number, 0);
 }
@@ -47,11 +47,11 @@ static void power_up_sizes(void)
         struct call call = fitting(POWER_UP);
 
         call.blocks = no_sizes[i];
-        refused(&call, 1);
+        number_is(&call, 1);
         call.status = 0x03; /* and 5 */
         call.maker = 256;
         call.record = 0;
-        refused(&call, 1);
+        number_is(&call, 1);
     }
 }
 
@@ -64,8 +64,8 @@ static void power_up_registers(void)
 
         status.status = value;
         function.function = value;
-        refused(&status, value % 4 == 0 ? 0 : 5);
-        refused(&function, value % 16 == 0 ? 0 : 5);
+        number_is(&status, value % 4 == 0 ? 0 : 5);
+        number_is(&function, value % 16 == 0 ? 0 : 5);
     }
 }
 
@@ -77,17 +77,17 @@ static void power_up_numbers_that_fit_no_byte(void)
         struct call good = fitting(POWER_UP), call;
 
         call = good, call.maker = no_bytes[i];
-        refused(&call, 5);
+        number_is(&call, 5);
         call = good, call.type = no_bytes[i];
-        refused(&call, 5);
+        number_is(&call, 5);
         call = good, call.capacity = no_bytes[i];
-        refused(&call, 5);
+        number_is(&call, 5);
         call = good, call.device = no_bytes[i];
-        refused(&call, 5);
+        number_is(&call, 5);
         call = good, call.status = no_bytes[i];
-        refused(&call, 5);
+        number_is(&call, 5);
         call = good, call.function = no_bytes[i];
-        refused(&call, 5);
+        number_is(&call, 5);
     }
 }
 
@@ -102,7 +102,7 @@ static void power_up_numbers(void)
         struct call call = fitting(POWER_UP);
 
         call.record = no_records[i];
-        refused(&call, 5);
+        number_is(&call, 5);
     }
 }
 
@@ -163,12 +163,12 @@ static void other_arrays(struct call call)
     for (i = 0; i < COUNT(sizes); i++) {
         call.array = sizes[i] * REF_BLOCK;
         if (call.array != right)
-            refused(&call, 1);
+            number_is(&call, 1);
     }
     call.array = right - 1;
-    refused(&call, 1);
+    number_is(&call, 1);
     call.array = 0;
-    refused(&call, 1);
+    number_is(&call, 1);
 }
 
 /* Bytes of another length hold no record: that is 5, whatever else is wrong. */
@@ -180,12 +180,12 @@ static void transact_without_record(void)
         struct call call = status_read();
 
         call.record = no_records[i];
-        refused(&call, 5);
+        number_is(&call, 5);
         call.array = 1;
         call.rows = 1;
         call.input = 0;
         call.wp_high = 2;
-        refused(&call, 5);
+        number_is(&call, 5);
     }
 }
 
@@ -221,7 +221,7 @@ static void tick_table(void)
         call.array += tick_rows[i].array_over;
         call.rows = tick_rows[i].rows;
         call.ticks = tick_rows[i].ticks;
-        refused(&call, tick_rows[i].number);
+        number_is(&call, tick_rows[i].number);
     }
 }
 
@@ -234,12 +234,12 @@ static void tick_without_record(void)
 
         call.record = no_records[i];
         call.ticks = 1;
-        refused(&call, 5);
+        number_is(&call, 5);
         call.ticks = 4097;
-        refused(&call, 5);
+        number_is(&call, 5);
         call.array = 1;
         call.rows = 1;
-        refused(&call, 5);
+        number_is(&call, 5);
     }
 }
 
@@ -323,9 +323,9 @@ static void on_size(uint32_t blocks)
 
     begin_run("directed calls", blocks, blocks);
     no_record = status_read(); /* junk is no record */
-    refused(&no_record, 5);
+    number_is(&no_record, 5);
     no_record = fitting(TICK);
-    refused(&no_record, 5);
+    number_is(&no_record, 5);
     power_up_numbers();
     powered(blocks);
     transact_numbers();

@@ -298,8 +298,7 @@ static void add_address(uint32_t address)
     add((uint8_t)address);
 }
 
-/* Gives the number. */
-static uint64_t send_at(uint64_t level)
+static void send_at(uint64_t level)
 {
     struct call call;
 
@@ -307,12 +306,12 @@ static uint64_t send_at(uint64_t level)
     call = fitting(TRANSACT);
     call.input = call.output = length;
     call.wp_high = level;
-    return YAWLSPAR_NUMBER(step(&call));
+    step(&call);
 }
 
-static uint64_t send(void)
+static void send(void)
 {
-    return send_at(one_in(low_one_in) ? 0 : 1);
+    send_at(one_in(low_one_in) ? 0 : 1);
 }
 
 static void send_code(uint8_t code)
