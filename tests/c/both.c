@@ -235,34 +235,18 @@ void same_record(const struct call *call)
     same_buffer(call, "record", model.record, reference.record, call->record, YAWLSPAR_RECORD_BYTES);
 }
 
-/* The pages of the array that a tick call reached, by the reference's record before it. */
-static void same_reached(const struct call *call, const struct part *before, uint64_t worked)
+/* The array is compared whole after each refusal and after ticks that did work. After other calls larger arrays
+ * are compared more rarely, so that each size costs the same. */
+static bool whole_is_due(const struct call *call, uint64_t expected)
 {
-    const struct operation *op = &before->op;
-    size_t from = op->base, length = REF_PAGE;
-
-    if (op->kind == ROW_ERASE || op->kind == ROW_PROGRAM || op->kind >= WRITE_STATUS)
-        return;
-    if (op->kind != PP) {
-        from += (size_t)op->done * REF_PAGE;
-        length = worked * REF_PAGE;
-    }
-    same(call, "array", model.array, reference.array, (long)from, length, array_length());
+    return is_refusal(expected) || (call->kind == TICK && YAWLSPAR_TICKS(expected) > 0) ||
+           run_calls % run_blocks == 0;
 }
 
-/* The array is compared whole after each refusal. Else larger arrays are more rarely, so that each size costs
- * the same. */
-static bool whole_is_due(uint64_t expected)
-{
-    return is_refusal(expected) || run_calls % run_blocks == 0;
-}
-
-static void compare_memory(const struct call *call, const struct part *before, uint64_t expected)
+static void compare_memory(const struct call *call, uint64_t expected)
 {
     same_but_array(call);
-    if (call->kind == TICK && YAWLSPAR_TICKS(expected) > 0)
-        same_reached(call, before, YAWLSPAR_TICKS(expected));
-    if (whole_is_due(expected))
+    if (whole_is_due(call, expected))
         same_array(call);
     else
         same_guards(call, "array", model.array, reference.array, array_length());
@@ -446,7 +430,7 @@ uint64_t step(const struct call *call)
     got = call_model(&model, call);
     if (got != expected)
         fail_result(call, expected, got);
-    compare_memory(call, &before, expected);
+    compare_memory(call, expected);
     compare_record(call, &before, expected);
     return got;
 }
