@@ -1,17 +1,19 @@
 /*
- * Yawlspar for C: three functions of the model of an ISSI IS25 serial flash.
+ * Yawlspar for C: the model of an ISSI IS25 serial flash.
  *
- * Link with target/staticlib/libcbench.a, the archive that `rt staticlib cbench` writes. It is for
+ * Link with target/staticlib/libyawlspar.a, the archive that `rt staticlib yawlspar` writes. It is for
  * x86-64 programs. The functions in it were compiled from proved code.
  *
- * Each function is defined for every value of every argument: it has no precondition, it always
- * returns, and arguments that make no sense are answered by a number that is named below. No
- * function takes a pointer, and none keeps or shares any state, so that each may be called from any
- * thread at any time. The same arguments always have the same result.
+ * Each function always returns, and is defined for every value of every number: what makes no sense is
+ * answered by a number that is named below. All that is asked of a caller is that each pointer is valid
+ * for the length that is passed with it, and that nothing overlaps a buffer that is written. No function
+ * keeps or shares any state, so that each may be called from any thread, on buffers of its own. The same
+ * arguments and bytes always have the same result.
  */
 #ifndef YAWLSPAR_H
 #define YAWLSPAR_H
 
+#include <stddef.h>
 #include <stdint.h>
 
 #ifdef __cplusplus
@@ -61,6 +63,85 @@ uint64_t yawlspar_protected(uint64_t code, uint64_t blocks, uint64_t address);
  * of 256 or more, or an index of 4,092 or more, the result is 256, which is no place in a page.
  */
 uint64_t yawlspar_page_place(uint64_t start, uint64_t index);
+
+/*
+ * The three calls. A part's state is a record of YAWLSPAR_RECORD_BYTES bytes that the caller keeps;
+ * yawlspar_power_up makes it, and the other two read it and write the next one back. Copying the bytes
+ * copies the part. The array, blocks * 65536 bytes, and the four information rows, 1,024 bytes, are the
+ * caller's too.
+ *
+ * The result r of a call is two numbers in one: YAWLSPAR_NUMBER(r), the answer, 0 for a call that was
+ * executed, and above it the place or the count that is named at the call. Where several numbers apply,
+ * the lowest is the answer. A call that is refused, with 1 to 6, leaves every byte of every buffer as it
+ * was, and the number above is 0.
+ */
+#define YAWLSPAR_RECORD_BYTES 294
+#define YAWLSPAR_NUMBER(r) ((r) & 255)
+#define YAWLSPAR_PLACE(r) ((r) >> 8)
+#define YAWLSPAR_TICKS(r) ((r) >> 8)
+
+/*
+ * Power-up: makes the record of a part that is idle and awake.
+ *
+ *   record                          record_len bytes, which are written
+ *   blocks                          the size of the array in blocks: 1, 4, 8 or 16
+ *   maker, type, capacity, device   the identity bytes
+ *   status, function                the registers; status bits 1..0 and function bits 3..0 are zero
+ *
+ * The number is
+ *   0  if the record was written;
+ *   1  if blocks is not 1, 4, 8 or 16;
+ *   5  if record_len is not YAWLSPAR_RECORD_BYTES, if one of the six other numbers is above 255, or if
+ *      a register bit is set that has to be zero.
+ */
+uint64_t yawlspar_power_up(uint8_t *record, size_t record_len, uint64_t blocks, uint64_t maker,
+                           uint64_t type, uint64_t capacity, uint64_t device, uint64_t status,
+                           uint64_t function);
+
+/*
+ * A transaction: the input bytes go in on one line while the output bytes come out on the other.
+ *
+ *   record   the part's record; the next one is written over it
+ *   array    the part's array
+ *   rows     the four information rows
+ *   wp_high  1 if the pin WP# is high, 0 if it is low
+ *   input    1 to 4,096 bytes
+ *   output   as many bytes, all of which are written; places that the part does not drive hold FFh
+ *
+ * The number is
+ *   0  if the command was executed;
+ *   1  if the array's length is not that of the record's size, or that size is none;
+ *   2  if rows_len is not 1,024;
+ *   3  if input_len is 0 or above 4,096;
+ *   4  if output_len is not input_len;
+ *   5  if the bytes hold no record, the record is not sound, or wp_high is neither 0 nor 1;
+ *   20 to 28  if the part ignored the transaction: the output is FFh all over.
+ * Where the bytes hold no record there is no size to judge, and the number is 5 whatever else is wrong.
+ * YAWLSPAR_PLACE is the first driven place of the output, or input_len where nothing is driven.
+ */
+uint64_t yawlspar_transact(uint8_t *record, size_t record_len, const uint8_t *array, size_t array_len,
+                           const uint8_t *rows, size_t rows_len, uint64_t wp_high, const uint8_t *input,
+                           size_t input_len, uint8_t *output, size_t output_len);
+
+/*
+ * Time passes: so many ticks of a running program, erase or register write.
+ *
+ *   record   the part's record; the next one is written over it
+ *   array    the part's array, which an operation may write
+ *   rows     the four information rows, which an operation may write
+ *   ticks    0 to 4,096
+ *
+ * The number is
+ *   0  if the ticks were run;
+ *   1  if the array's length is not that of the record's size, or that size is none;
+ *   2  if rows_len is not 1,024;
+ *   5  if the bytes hold no record, or the record is not sound;
+ *   6  if ticks is above 4,096.
+ * Where the bytes hold no record the number is 5 whatever else is wrong. YAWLSPAR_TICKS is how many of
+ * the ticks did work.
+ */
+uint64_t yawlspar_tick(uint8_t *record, size_t record_len, uint8_t *array, size_t array_len,
+                       uint8_t *rows, size_t rows_len, uint64_t ticks);
 
 #ifdef __cplusplus
 }

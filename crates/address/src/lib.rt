@@ -1,7 +1,7 @@
 // Addresses as sent: bytes, high byte first.
 ghost use mathlib.Core.Path.{_≡_};
-ghost use Prim.Native.Nat.{_≤_, min};
-ghost use lib.ListN.{length};
+ghost use Prim.Native.Nat.{min};
+ghost use lib.ListN.{take};
 ghost use Rattle.paper.specs.Address.{highFirst, addressBytes};
 
 fn wide(byte: u8) -> usize
@@ -10,14 +10,14 @@ fn wide(byte: u8) -> usize
     byte as usize
 }
 
-// The number that at most eight bytes are, high byte first.
-fn high_first(bytes: &[u8]) -> usize
-    requires { ⌜ length (now bytes) ≤ 8 ⌝ }
-    ensures { λ r. ⌜ r ≡ highFirst (now (bytes .entry)) ⌝ }
+// The number that bytes are, high byte first. Of more than eight the first eight are read.
+pub fn high_first(bytes: &[u8]) -> usize
+    ensures { λ r. ⌜ r ≡ highFirst (take 8 (now (bytes .entry))) ⌝ }
 {
+    let end = words::lesser(8, bytes.len());
     let mut number: usize = 0;
     let mut i = 0;
-    while i < bytes.len() {
+    while i < end {
         number = number * 256 + wide(bytes[i]);
         i += 1;
     }

@@ -17,3 +17,4 @@ pub mod Suspend
 pub mod Reset
 pub mod History
 pub mod CBench
+pub mod Bench

@@ -125,8 +125,8 @@ fn answer_to(
     }
 }
 
-// The refusals 1 to 5, in the paper's order.
-fn refusal(part: Record, array: usize, rows: usize, n: usize, o: usize) -> u8
+// The refusals 1 to 5, in the paper's order; 0 where a transaction is not refused.
+pub fn refusal(part: Record, array: usize, rows: usize, n: usize, o: usize) -> u8
     ensures { λ r. ⌜ r ≡ transactionRefusal part array rows n o ⌝ }
 {
     let size = refusals::size_number(part.blocks, array);

@@ -179,3 +179,10 @@ pub struct Ticked {
     pub number: u8,
     pub done: usize,
 }
+
+// What a line of the bench says: a transaction, with WP# high where it is true; so many ticks; or neither.
+pub enum Line {
+    Transaction(bool),
+    Ticks(usize),
+    Neither,
+}

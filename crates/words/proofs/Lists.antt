@@ -20,6 +20,14 @@ take-min (suc k) (x ∷ xs) =
     let e : min (suc k) (suc (length xs)) ≡ suc (min k (length xs)) = omega arith in
     rw e (ap (λ (t : List ℕ). x ∷ t) (take-min k xs))
 
+-- and to drop more drops all
+pub drop-min : (k : ℕ) (l : List ℕ) → drop (min k (length l)) l ≡ drop k l
+drop-min zero l = let e : min 0 (length l) ≡ 0 = omega arith in rw e
+drop-min (suc k) [] = let e : min (suc k) 0 ≡ 0 = omega arith in rw e
+drop-min (suc k) (x ∷ xs) =
+    let e : min (suc k) (suc (length xs)) ≡ suc (min k (length xs)) = omega arith in
+    rw e (drop-min k xs)
+
 pub length-upTo : (n : ℕ) (f : ℕ → ℕ) → length (upTo n f) ≡ n
 length-upTo zero f = refl
 length-upTo (suc n) f = simp (length-append, length-upTo n f) (omega arith)

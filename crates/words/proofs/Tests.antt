@@ -23,6 +23,16 @@ pub and-in : {a b : Bool} → a ≡ true → b ≡ true → (a and b) ≡ true
 unfolding _and_
 and-in {a} {b} p q = rw (p, q)
 
+pub and-assoc : (a b c : Bool) → (a and b and c) ≡ ((a and b) and c)
+unfolding _and_
+and-assoc true b c = refl
+and-assoc false b c = refl
+
+pub and-true : (a : Bool) → (a and true) ≡ a
+unfolding _and_
+and-true true = refl
+and-true false = refl
+
 pub or-cases : (a b : Bool) → (a or b) ≡ true → (a ≡ true) ⊎ (b ≡ true)
 unfolding _or_
 or-cases true b e = inl refl

@@ -11,16 +11,7 @@ use lib.Seq.{drop-cons}
 use borrow.Author.Tests.{eqb-true, eqb-false, ne-eqb}
 use Rattle.words.specs.Logic.{_and_}
 use Rattle.words.specs.Lists.{allZero}
-
-and-assoc : (a b c : Bool) → (a and b and c) ≡ ((a and b) and c)
-unfolding _and_
-and-assoc true b c = refl
-and-assoc false b c = refl
-
-and-true : (a : Bool) → (a and true) ≡ a
-unfolding _and_
-and-true true = refl
-and-true false = refl
+use Rattle.words.proofs.Tests.{and-assoc, and-true}
 
 or-zero-as : (a b : ℕ) (t : Bool) → eqb a 0 ≡ t → eqb (bitOr a b) 0 ≡ (t and eqb b 0)
 unfolding _and_

@@ -23,3 +23,8 @@ driven s at o from = cond (eqb (length s) 0) o (take from o ++ upTo (length o - 
 abbrev pub allZero : List ℕ → Bool
 allZero [] = true
 allZero (x ∷ xs) = eqb x 0 and allZero xs
+
+-- every byte passes a test
+abbrev pub every : (ℕ → Bool) → List ℕ → Bool
+every f [] = true
+every f (x ∷ xs) = f x and every f xs

@@ -2,8 +2,8 @@
 use Prim.Native.Nat.{_+_, _-_, _≤_, min}
 use mathlib.Core.Path.{_≡_, _∙_}
 use native.Mathlib.Omega.{arith}
-use lib.Seq.{take-nil}
-use lib.ListN.{length, drop, length-drop, drop-of-length-le}
+use lib.Seq.{take-nil, take-all, length-take-le}
+use lib.ListN.{length, take, drop, length-drop, drop-of-length-le}
 use denote.Ref.{now}
 use borrow.Author.Needs.{needs}
 use Rattle.paper.specs.Address.{highFirst}
@@ -48,7 +48,9 @@ returns-2 c =
     let l2 = c .before .before .lesser2 in
     let e : 1 + l2 .result - 1 ≡ min (min (a .count) 8) (length (drop 1 xs)) =
     rw length-drop (omega (arith, l2 .ensures, c .before .before .before .lesser .ensures)) in
-    c .high-first .ensures ∙ rw (e, take-min)
+    let t : take 8 (take (min (min (a .count) 8) (length (drop 1 xs))) (drop 1 xs)) ≡ take (min (min (a .count) 8) (length (drop 1 xs))) (drop 1 xs) =
+    take-all 8 _ (rw (length-take-le (min (min (a .count) 8) (length (drop 1 xs))) (drop 1 xs) (omega arith)) (omega arith)) in
+    c .high-first .ensures ∙ rw (e, t, take-min)
 
 pub address-sent-spec : {M : Type 1} → statement M
 address-sent-spec =

@@ -1,0 +1,21 @@
+-- `bench_lines::digits_ok` meets its contract: the tests are the definition.
+use Rattle.paper.specs.Bench.{digitsOk}
+use borrow.Author.Needs.{needs}
+use Rattle.bench_lines.proofs.digits_ok.Statement.{statement}
+use Rattle.bench_lines.proofs.digits_ok.Tie as tie
+
+all-digits-requires : tie.Need-all-digits-requires
+all-digits-requires c κs = search needs
+
+both-requires : tie.Need-both-requires
+both-requires c κs = search needs
+
+both-requires-2 : tie.Need-both-requires-2
+both-requires-2 c κs = search needs
+
+returns : tie.Need-returns
+unfolding digitsOk
+returns c = cc
+
+pub digits-ok-spec : {M : Type 1} → statement M
+digits-ok-spec = tie.close (tie.spec all-digits-requires both-requires both-requires-2 returns)

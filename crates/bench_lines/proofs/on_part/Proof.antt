@@ -1,0 +1,50 @@
+-- `bench_lines::on_part` meets its contract: the part is powered up on memory of FFh, and the lines are run.
+use Rattle.bench_lines.proofs.Course.{bench-board}
+use Rattle.paper.specs.Bench.{Board}
+use lib.ListN.{length}
+use mathlib.Core.Path.{ap}
+use denote.Ref.{now}
+use borrow.Author.Needs.{needs}
+use Rattle.bench_lines.proofs.on_part.Statement.{statement}
+use Rattle.bench_lines.proofs.on_part.Tie as tie
+
+blank-requires : tie.Need-blank-requires
+blank-requires c κs = search needs
+
+blank-requires-2 : tie.Need-blank-requires-2
+blank-requires-2 c κs = search needs
+
+power-up-requires : tie.Need-power-up-requires
+power-up-requires c κs = search needs
+
+run-requires : tie.Need-run-requires
+run-requires c κs = search needs
+
+same-length : tie.Need-same-length
+same-length c = search needs
+
+same-length-2 : tie.Need-same-length-2
+same-length-2 c = search needs
+
+same-length-3 : tie.Need-same-length-3
+same-length-3 c = search needs
+
+returns : tie.Need-returns
+returns c =
+    let a = c .before .before .before .before .before .before .before .before .before .before .before .before .before .before .before .before .before .before .before .before .before .before .before .before .args in
+    let e = bench-board (a .blocks) (c .before .before .before .before .before .before .before .before .before .before .before .power-up .result) (c .before .before .before .before .before .before .before .before .before .before .before .before .before .before .before .before .before .before .blank .last .0) (c .before .before .before .before .before .before .before .before .before .before .before .before .before .before .blank2 .last .0) (length (now (a .array))) (length (now (a .rows))) (c .before .before .before .before .before .before .before .before .before .before .before .power-up .ensures) (c .before .before .before .before .before .before .before .before .before .before .before .before .before .before .before .before .before .before .blank .ensures) (c .before .before .before .before .before .before .before .before .before .before .before .before .before .before .blank2 .ensures) in
+    let g = rw e at (c .before .before .before .before .before .before .run .ensures) in
+    (ap (λ (d : Board). d .array) (g .0), (ap (λ (d : Board). d .rows) (g .0), g .1))
+
+pub on-part-spec : {M : Type 1} → statement M
+on-part-spec =
+    tie.close
+    (tie.spec
+    blank-requires
+    blank-requires-2
+    power-up-requires
+    run-requires
+    same-length
+    same-length-2
+    same-length-3
+    returns)

@@ -1,0 +1,49 @@
+-- `bench_lines::put_decimal` meets its contract: the digits are printed one after another.
+use Rattle.paper.specs.Bench.{decimal}
+use Rattle.bench_lines.proofs.Text.{prints-then}
+use borrow.Author.Needs.{needs}
+use Rattle.bench_lines.proofs.put_decimal.Statement.{statement}
+use Rattle.bench_lines.proofs.put_decimal.Tie as tie
+
+put-leading-requires : tie.Need-put-leading-requires
+put-leading-requires c κs = search needs
+
+put-leading-requires-2 : tie.Need-put-leading-requires-2
+put-leading-requires-2 c κs = search needs
+
+put-leading-requires-3 : tie.Need-put-leading-requires-3
+put-leading-requires-3 c κs = search needs
+
+put-leading-requires-4 : tie.Need-put-leading-requires-4
+put-leading-requires-4 c κs = search needs
+
+cast-put : tie.Need-cast-put
+cast-put c = search needs
+
+add-put : tie.Need-add-put
+add-put c = search needs
+
+put-requires : tie.Need-put-requires
+put-requires c κs = search needs
+
+same-length : tie.Need-same-length
+same-length c = search needs
+
+returns : tie.Need-returns
+unfolding decimal
+returns c =
+    prints-then (prints-then (prints-then (prints-then (c .before .before .before .before .before .before .before .before .before .before .before .before .before .before .before .before .before .before .put-leading .ensures) (c .before .before .before .before .before .before .before .before .before .before .before .before .before .before .put-leading2 .ensures)) (c .before .before .before .before .before .before .before .before .before .before .put-leading3 .ensures)) (c .before .before .before .before .before .before .put-leading4 .ensures)) (c .before .before .put .ensures)
+
+pub put-decimal-spec : {M : Type 1} → statement M
+put-decimal-spec =
+    tie.close
+    (tie.spec
+    put-leading-requires
+    put-leading-requires-2
+    put-leading-requires-3
+    put-leading-requires-4
+    cast-put
+    add-put
+    put-requires
+    same-length
+    returns)

@@ -1,0 +1,107 @@
+-- `bench_lines::run` meets its contract. The loop's invariant: what the lines that are left leave and print is what all lines do (`Goes`).
+use Rattle.bench_lines.proofs.Course.{Goes, goes-start, goes-on, goes-end, line-end}
+use Rattle.paper.specs.Bench.{boardOf}
+use lib.ListN.{length}
+use mathlib.Core.Path.{_≡_, refl, _∙_}
+use Prim.Native.Nat.{_-_}
+use denote.Ref.{now}
+use borrow.Author.Needs.{needs}
+use native.Mathlib.Omega.{arith}
+use Rattle.bench_lines.proofs.run.Statement.{statement}
+use Rattle.bench_lines.proofs.run.Tie as tie
+
+abbrev Inv-loop : tie.InvT-loop
+Inv-loop array₀ rows₀ most input output₀ few sent₀ back₀ next₀ printed₀ from₀ array rows output sent back next printed from =
+    Goes few input (boardOf next₀ array₀ rows₀) output₀ from (boardOf next array rows) output printed × (length array ≡ length array₀) × (length rows ≡ length rows₀) × (length sent ≡ length sent₀) × (length back ≡ length back₀)
+
+abbrev μ-loop : tie.MeasureT-loop
+μ-loop array₀ rows₀ most input output₀ few sent₀ back₀ next₀ printed₀ from₀ array rows output sent back next printed from =
+    length input - from
+
+lesser-requires : tie.Need-lesser-requires Inv-loop μ-loop
+lesser-requires c κs = search needs
+
+room-requires : tie.Need-room-requires Inv-loop μ-loop
+room-requires c κs = search needs
+
+slice-aggregate-sent : tie.Need-slice-aggregate-sent Inv-loop μ-loop
+slice-aggregate-sent c = search needs
+
+room-requires-2 : tie.Need-room-requires-2 Inv-loop μ-loop
+room-requires-2 c κs = search needs
+
+slice-aggregate-back : tie.Need-slice-aggregate-back Inv-loop μ-loop
+slice-aggregate-back c = search needs
+
+loop-holds : tie.Need-loop-holds Inv-loop μ-loop
+loop-holds c = (goes-start _ _ _ _, refl, refl, refl, refl)
+
+find-requires : tie.Need-find-requires Inv-loop μ-loop
+find-requires c κs = search needs
+
+sub-run-line : tie.Need-sub-run-line Inv-loop μ-loop
+sub-run-line c = search needs
+
+part-run-line-start : tie.Need-part-run-line-start Inv-loop μ-loop
+part-run-line-start c = search needs
+
+part-run-line-end : tie.Need-part-run-line-end Inv-loop μ-loop
+part-run-line-end c = search needs
+
+run-line-requires : tie.Need-run-line-requires Inv-loop μ-loop
+run-line-requires c κs = search needs
+
+after-requires : tie.Need-after-requires Inv-loop μ-loop
+after-requires c κs = search needs
+
+loop-less : tie.Need-loop-less Inv-loop μ-loop
+loop-less c =
+    omega (arith, c .after .ensures, c .before .before .before .before .before .before .before .before .before .before .before .before .before .before .before .before .before .before .before .find .ensures, c .before .before .before .before .before .before .before .before .before .before .before .before .before .before .before .before .before .before .before .before .loop-test .taken)
+
+loop-again : tie.Need-loop-again Inv-loop μ-loop
+loop-again c =
+    let l = c .before .before .before .before .before .before .before .before .before .before .before .before .before .before .before .before .before .before .before .before .before .loop in
+    let s = c .before .before .before .before .before .before .before .before .before .before .before .before .before .before .before .before .before .before .before .before .before .before .before .before .before .before .before .before .before .before .before in
+    let input = now (s .args .input) in
+    let e = line-end input (l .from) (c .before .before .before .before .before .before .before .before .before .before .before .before .before .before .before .before .before .before .before .find .result) (c .before .before .before .before .before .before .before .before .before .before .before .before .before .before .before .before .before .before .before .find .ensures .0) in
+    (rw (c .after .ensures) (goes-on _ _ _ _ _ _ _ _ (l .inv .0) (c .before .before .before .before .before .before .before .before .before .before .before .before .before .before .before .before .before .before .before .find .result) _ _ _ (c .before .before .before .before .before .before .before .before .before .before .before .before .before .before .before .before .before .before .before .before .loop-test .taken) e (c .before .before .before .before .before .before .before .before .before .before .before .before .run-line .ensures .0) (c .before .before .before .before .before .before .before .before .before .before .before .before .run-line .ensures .1)), c .before .before .before .before .before .before .before .before .before .before .before .array .given ∙ l .inv .1, c .before .before .before .before .before .before .before .before .before .rows .given ∙ l .inv .2, c .before .before .before .before .before .before .before .sent2 .given ∙ l .inv .3, c .before .before .before .before .before .back2 .given ∙ l .inv .4)
+
+same-length : tie.Need-same-length Inv-loop μ-loop
+same-length c = c .before .before .before .loop .inv .1
+
+same-length-2 : tie.Need-same-length-2 Inv-loop μ-loop
+same-length-2 c = c .before .before .before .loop .inv .2
+
+same-length-3 : tie.Need-same-length-3 Inv-loop μ-loop
+same-length-3 c = c .before .before .before .loop .inv .0 .same
+
+returns : tie.Need-returns Inv-loop μ-loop
+returns c =
+    let l = c .before .before .before .loop in
+    let g = goes-end _ _ _ _ _ _ _ _ (l .inv .0) (omega arith) in
+    rw (← c .before .before .before .before .before .before .before .before .lesser .ensures) g
+
+pub run-spec : {M : Type 1} → statement M
+run-spec =
+    tie.close
+    (tie.spec
+    Inv-loop
+    μ-loop
+    lesser-requires
+    room-requires
+    slice-aggregate-sent
+    room-requires-2
+    slice-aggregate-back
+    loop-holds
+    find-requires
+    sub-run-line
+    part-run-line-start
+    part-run-line-end
+    run-line-requires
+    after-requires
+    loop-less
+    loop-again
+    same-length
+    same-length-2
+    same-length-3
+    returns)

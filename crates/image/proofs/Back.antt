@@ -1,0 +1,161 @@
+-- A record's bytes are read as that record, and bytes that are read as a record are its bytes.
+use Prim.Native.Nat.{ℕ, zero, suc, _+_, _*_, _/_, _%_, _^_, _<_}
+use mathlib.Core.Path.{_≡_, refl, sym, ap, _∙_}
+use mathlib.Core.Bool.{Bool, true, false, false≢true}
+use mathlib.Core.List.{List, [], _∷_, _++_}
+use native.Mathlib.Omega.{arith}
+use lib.Dec.{eqb}
+use lib.Pow.{pow-add}
+use lib.ListN.{length, take, drop, length-append, take-append-drop}
+use lib.Seq.{take-all, take-at, take-append-seam, getD-append-seam}
+use borrow.Author.Tests.{eq-eqb, eqb-true}
+use Rattle.types.specs.declared.Memory.the-variants.{Array, Rows}
+use Rattle.types.specs.declared.EraseUnit.the-variants.{Sector, Block32, Block64, Chip, Row}
+use Rattle.types.specs.declared.Register.the-variants.{Status, Function}
+use Rattle.types.specs.declared.Operation.{Operation}
+use Rattle.types.specs.declared.Operation.the-variants.{Program, Erase, Write}
+use Rattle.types.specs.declared.Phase.{Phase}
+use Rattle.types.specs.declared.Phase.the-variants.{Idle, Busy, Suspended}
+use Rattle.types.specs.declared.Identity.{Identity}
+use Rattle.types.specs.declared.Record.{Record}
+use Rattle.words.specs.Logic.{_and_, bit}
+use Rattle.words.proofs.Tests.{and-l, and-r}
+use Rattle.words.proofs.Allowed.{agree}
+use Rattle.paper.specs.Address.{highFirst}
+use Rattle.paper.proofs.Addresses.{high-first-none, high-first-more}
+use Rattle.image.specs.declared.Cells.{Cells}
+use Rattle.image.specs.declared.Held.{Held}
+use Rattle.image.specs.Layout.{cells, operationCells, cellsOf, bytesOf, header, recordBytes, written}
+use Rattle.image.specs.Read.{operationOf, phaseOf, sameBytes, cellsIn, fieldsIn, holds, nothing, held, recordIn, Fits}
+use Rattle.image.proofs.Laws.{header-length, holds-as}
+
+-- one byte more
+high-first-snoc : (xs : List ℕ) (b : ℕ) → highFirst (xs ++ (b ∷ [])) ≡ highFirst xs * 256 + b
+high-first-snoc xs b =
+    let l : length (xs ++ (b ∷ [])) ≡ suc (length xs) = simp length-append (omega arith) in
+    let m : highFirst (take (suc (length xs)) (xs ++ (b ∷ []))) ≡ highFirst (take (length xs) (xs ++ (b ∷ []))) * 256 + _ = high-first-more (xs ++ (b ∷ [])) (length xs) (omega arith) in
+    rw (take-all (suc (length xs)) (xs ++ (b ∷ [])) (omega arith), take-append-seam, getD-append-seam) at m
+
+-- the bytes of a number that fits them are that number
+pub number-back : (k n : ℕ) → n < 2 ^ (8 * k) → highFirst (bytesOf k n) ≡ n
+number-back zero n h = high-first-none [] ∙ omega arith
+number-back (suc k) n h =
+    let e : 8 * suc k ≡ 8 * k + 8 = omega arith in
+    let q : 2 ^ (8 * suc k) ≡ 2 ^ (8 * k) * 256 = rw (e, pow-add) in
+    high-first-snoc (bytesOf k (n / 256)) (n % 256) ∙ rw (number-back k (n / 256) (omega arith)) (omega arith)
+
+-- an operation and a phase come back from their cells, a mark from its byte
+operation-back : (f : ℕ) (o : Operation) → operationOf (operationCells f o .kind) (operationCells f o) ≡ o
+unfolding operationOf
+operation-back f (Program Array b s k d) = refl
+operation-back f (Program Rows b s k d) = refl
+operation-back f (Erase Sector b d) = refl
+operation-back f (Erase Block32 b d) = refl
+operation-back f (Erase Block64 b d) = refl
+operation-back f (Erase Chip b d) = refl
+operation-back f (Erase Row b d) = refl
+operation-back f (Write Status v) = refl
+operation-back f (Write Function v) = refl
+
+operation-phase : (f : ℕ) (o : Operation) → operationCells f o .phase ≡ f
+operation-phase f (Program m b s k d) = refl
+operation-phase f (Erase u b d) = refl
+operation-phase f (Write r v) = refl
+
+phase-back : (f : Phase) → phaseOf (cellsOf f .phase) (cellsOf f) ≡ f
+unfolding phaseOf
+phase-back Idle = refl
+phase-back (Busy o) = rw (operation-phase 1 o) (ap Busy (operation-back 1 o))
+phase-back (Suspended o) = rw (operation-phase 2 o) (ap Suspended (operation-back 2 o))
+
+mark-back : (m : Bool) → eqb (bit m) 1 ≡ m
+mark-back true = refl
+mark-back false = refl
+
+same-cells : (f k v b b′ n n′ d d′ : ℕ) → b ≡ b′ → n ≡ n′ → d ≡ d′ → cells f k v b n d ≡ cells f k v b′ n′ d′
+same-cells f k v b b′ n n′ d d′ p q r = rw (p, q, r)
+
+cells-back : (p : Record) → Fits p → cellsIn (recordBytes p) ≡ cellsOf (p .phase)
+unfolding cellsIn recordBytes header
+cells-back p h = same-cells _ _ _ _ _ _ _ _ _ (number-back 8 (cellsOf (p .phase) .base) (h .base)) (number-back 8 (cellsOf (p .phase) .count) (h .count)) (number-back 8 (cellsOf (p .phase) .done) (h .done))
+
+same-fields : (b b′ : ℕ) (i : Identity) (s g : ℕ) (w w′ a a′ z z′ : Bool) (f f′ : Phase) (d : List ℕ) → b ≡ b′ → w ≡ w′ → a ≡ a′ → z ≡ z′ → f ≡ f′
+    → _≡_ {A = Record} record { blocks = b; identity = i; status = s; function = g; wel = w; armed = a; asleep = z; phase = f; page = d } record { blocks = b′; identity = i; status = s; function = g; wel = w′; armed = a′; asleep = z′; phase = f′; page = d }
+same-fields b b′ i s g w w′ a a′ z z′ f f′ d eb ew ea ez ef = rw (eb, ew, ea, ez, ef)
+
+fields-back : (p : Record) → Fits p → fieldsIn (recordBytes p) ≡ p
+unfolding fieldsIn recordBytes header
+fields-back p h =
+    same-fields _ _ (p .identity) (p .status) (p .function) _ _ _ _ _ _ _ _ (p .page) (number-back 2 (p .blocks) (h .blocks)) (mark-back (p .wel)) (mark-back (p .armed)) (mark-back (p .asleep))
+    (ap (λ (s : Cells). phaseOf (s .phase) s) (cells-back p h) ∙ phase-back (p .phase))
+
+same-bytes : (xs : List ℕ) → sameBytes xs xs ≡ true
+unfolding _and_
+same-bytes [] = refl
+same-bytes (x ∷ xs) = rw (eq-eqb x x refl) (same-bytes xs)
+
+one-list : (xs ys : List ℕ) → sameBytes xs ys ≡ true → xs ≡ ys
+one-list [] [] e = refl
+one-list [] (y ∷ ys) e = absurd (false≢true e)
+one-list (x ∷ xs) [] e = absurd (false≢true e)
+one-list (x ∷ xs) (y ∷ ys) e = rw (eqb-true x y (and-l _ _ e), one-list xs ys (and-r _ _ e))
+
+front : (p : Record) → take 38 (recordBytes p) ≡ header p (cellsOf (p .phase))
+unfolding recordBytes
+front p = take-at (header p (cellsOf (p .phase))) (p .page) 38 (header-length p (cellsOf (p .phase)))
+
+record-length : (p : Record) → length (p .page) ≡ 256 → length (recordBytes p) ≡ 294
+unfolding recordBytes
+record-length p h = simp (length-append, header-length p (cellsOf (p .phase)), h)
+
+holds-back : (p : Record) → Fits p → holds (recordBytes p) ≡ true
+holds-back p h = holds-as (recordBytes p) (header p (cellsOf (p .phase))) p true (record-length p (h .page)) (sym (fields-back p h)) refl (sym (rw (front p) (same-bytes (header p (cellsOf (p .phase))))))
+
+-- a buffer of a record's length is written
+pub written-in : (p : Record) (bs : List ℕ) → length bs ≡ 294 → written p bs ≡ recordBytes p
+unfolding written
+written-in p bs l = rw (eq-eqb _ _ l)
+
+-- a record's bytes are read as that record
+pub read-back : (p : Record) → Fits p → recordIn (recordBytes p) ≡ held p
+unfolding recordIn
+read-back p h = rw (holds-back p h, fields-back p h)
+
+taken : (bs : List ℕ) → holds bs ≡ true → recordIn bs ≡ held (fieldsIn bs)
+unfolding recordIn
+taken bs e = rw e
+
+ok-as : (bs : List ℕ) (t : Bool) → holds bs ≡ t → recordIn bs .ok ≡ t
+unfolding recordIn nothing
+ok-as bs true e = rw e
+ok-as bs false e = rw e
+
+whole : (bs : List ℕ) → holds bs ≡ true → recordBytes (fieldsIn bs) ≡ bs
+unfolding holds recordBytes fieldsIn
+whole bs e =
+    ap (λ (x : List ℕ). x ++ drop 38 bs) (one-list (header (fieldsIn bs) (cellsOf (fieldsIn bs .phase))) (take 38 bs) (and-r _ _ e))
+    ∙ take-append-drop 38 bs
+
+exact-as : (bs : List ℕ) (p : Record) (t : Bool) → holds bs ≡ t → recordIn bs ≡ held p → bs ≡ recordBytes p
+exact-as bs p true e h = sym (whole bs e) ∙ ap (λ (x : Held). recordBytes (x .part)) (sym (taken bs e) ∙ h)
+exact-as bs p false e h = absurd (false≢true (sym (ok-as bs false e) ∙ ap (λ (x : Held). x .ok) h))
+
+-- bytes that are read as a record are its bytes
+pub exact : (bs : List ℕ) (p : Record) → recordIn bs ≡ held p → bs ≡ recordBytes p
+exact bs p h = exact-as bs p (holds bs) refl h
+
+-- no two strings of bytes hold one record
+pub one-image : (xs ys : List ℕ) (p : Record) → recordIn xs ≡ held p → recordIn ys ≡ held p → xs ≡ ys
+one-image xs ys p h k = agree (exact xs p h) (exact ys p k)
+
+-- bytes that hold a record are as many as it has, and its own
+module _ (bs : List ℕ) (h : recordIn bs .ok ≡ true) where
+  holding : holds bs ≡ true
+  holding = sym (ok-as bs (holds bs) refl) ∙ h
+
+  pub held-length : length bs ≡ 294
+  unfolding holds
+  held-length = eqb-true _ _ (and-l _ _ holding)
+
+  pub held-bytes : recordBytes (recordIn bs .part) ≡ bs
+  held-bytes = ap (λ (x : Held). recordBytes (x .part)) (taken bs holding) ∙ whole bs holding

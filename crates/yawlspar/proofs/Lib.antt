@@ -1,0 +1,4 @@
+pub mod Laws
+pub mod Face
+pub mod Refused
+pub mod Tight

@@ -1,0 +1,45 @@
+-- Two results that a contract of this crate allows are equal: the answer, and of the calls the record's bytes and each other lent byte.
+use denote.Ref.{now}
+use Rattle.words.proofs.Allowed.{OneResult, OneExit, agree}
+use Rattle.yawlspar.proofs.numbers.yawlspar_protection_number.Reads as yawlspar-protection-number
+use Rattle.yawlspar.proofs.numbers.yawlspar_protected.Reads as yawlspar-protected
+use Rattle.yawlspar.proofs.numbers.yawlspar_page_place.Reads as yawlspar-page-place
+use Rattle.yawlspar.proofs.yawlspar_power_up.Reads as yawlspar-power-up
+use Rattle.yawlspar.proofs.yawlspar_transact.Reads as yawlspar-transact
+use Rattle.yawlspar.proofs.yawlspar_tick.Reads as yawlspar-tick
+
+pub protection-number-one : OneResult yawlspar-protection-number.Learnt
+protection-number-one κ a x y s t p q = agree p q
+
+pub protected-one : OneResult yawlspar-protected.Learnt
+protected-one κ a x y s t p q = agree p q
+
+pub page-place-one : OneResult yawlspar-page-place.Learnt
+page-place-one κ a x y s t p q = agree p q
+
+pub power-up-one : OneResult yawlspar-power-up.Learnt
+power-up-one κ a x y s t p q = agree (p .0) (q .0)
+
+pub power-up-one-image : OneExit yawlspar-power-up.Learnt (λ κ s. now (s .0))
+power-up-one-image κ a x y s t p q = agree (p .1) (q .1)
+
+pub transact-one : OneResult yawlspar-transact.Learnt
+transact-one κ a x y s t p q = agree (p .0) (q .0)
+
+pub transact-one-image : OneExit yawlspar-transact.Learnt (λ κ s. now (s .0))
+transact-one-image κ a x y s t p q = agree (p .1 .0) (q .1 .0)
+
+pub transact-one-output : OneExit yawlspar-transact.Learnt (λ κ s. now (s .1 .1 .1 .1 .1 .0))
+transact-one-output κ a x y s t p q = agree (p .1 .1) (q .1 .1)
+
+pub tick-one : OneResult yawlspar-tick.Learnt
+tick-one κ a x y s t p q = agree (p .0) (q .0)
+
+pub tick-one-image : OneExit yawlspar-tick.Learnt (λ κ s. now (s .0))
+tick-one-image κ a x y s t p q = agree (p .1 .0) (q .1 .0)
+
+pub tick-one-array : OneExit yawlspar-tick.Learnt (λ κ s. now (s .1 .0))
+tick-one-array κ a x y s t p q = agree (p .1 .1 .0) (q .1 .1 .0)
+
+pub tick-one-rows : OneExit yawlspar-tick.Learnt (λ κ s. now (s .1 .1 .0))
+tick-one-rows κ a x y s t p q = agree (p .1 .1 .1) (q .1 .1 .1)

@@ -1,0 +1,144 @@
+// The model for C, which include/yawlspar.h declares: the three calls on a record that is kept in bytes,
+// and the functions on numbers. A call reads the record, is made, and writes the next record back.
+pub mod numbers;
+
+ghost use mathlib.Core.Path.{_≡_};
+ghost use Prim.Native.Nat.{_≤_};
+ghost use lib.ListN.{length};
+ghost use Rattle.types.specs.declared.Memory.the-variants.{Array, Rows};
+ghost use Rattle.image.specs.Read.{recordIn};
+ghost use Rattle.yawlspar.specs.Face.{packed, givenNumber, powerUpAnswer, powerUpImage, transactAnswer, transactImage, transactOutput, tickAnswer, tickImage, tickMemory};
+use types::Identity;
+
+// The number and the place in one.
+fn pack(number: u8, place: usize) -> u64
+    requires { ⌜ place ≤ 4096 ⌝ }
+    ensures { λ r. ⌜ r ≡ packed number place ⌝ }
+{
+    (number as u64) + 256 * (place as u64)
+}
+
+// Whether power-up can take what it is given: the size, the buffer's length, and the six bytes.
+fn given_number(
+    length: usize,
+    blocks: u64,
+    maker: u64,
+    kind: u64,
+    capacity: u64,
+    device: u64,
+    status: u64,
+    function: u64,
+) -> u8
+    ensures { λ r. ⌜ r ≡ givenNumber length blocks maker kind capacity device status function ⌝ }
+{
+    let size = words::number_unless(sizes::size_ok(blocks), 1);
+    let whole = length == 294;
+    let m = maker <= 255;
+    let t = kind <= 255;
+    let c = capacity <= 255;
+    let d = device <= 255;
+    let s = status <= 255;
+    let f = function <= 255;
+    let bytes = words::both(
+        m,
+        words::both(t, words::both(c, words::both(d, words::both(s, f)))),
+    );
+    words::or_else(size, words::number_unless(words::both(whole, bytes), 5))
+}
+
+// Power-up into a buffer of a record's length. The number is 0, 1 or 5; refused, the buffer is as it was.
+#[no_mangle]
+pub extern "C" fn yawlspar_power_up(
+    bytes: &mut [u8],
+    blocks: u64,
+    maker: u64,
+    kind: u64,
+    capacity: u64,
+    device: u64,
+    status: u64,
+    function: u64,
+) -> u64
+    ensures answer { λ r. ⌜ r ≡ powerUpAnswer (length (now (bytes .entry))) blocks maker kind capacity device status function ⌝ }
+    ensures image { λ _. ⌜ now (bytes .exit) ≡ powerUpImage blocks maker kind capacity device status function (now (bytes .entry)) ⌝ }
+{
+    let number = given_number(
+        bytes.len(),
+        blocks,
+        maker,
+        kind,
+        capacity,
+        device,
+        status,
+        function,
+    );
+    if number != 0 {
+        return number as u64;
+    }
+    let identity = Identity {
+        maker: maker as u8,
+        kind: kind as u8,
+        capacity: capacity as u8,
+        device: device as u8,
+    };
+    let up = record::power_up(blocks as u16, identity, status as u8, function as u8);
+    if up.number != 0 {
+        return up.number as u64;
+    }
+    let next = up.next;
+    image::write_record(next, bytes);
+    0
+}
+
+// A transaction. WP# is low for 0 and high for 1. The number and the first driven place; refused, with 1 to 5,
+// every buffer is as it was.
+#[no_mangle]
+pub extern "C" fn yawlspar_transact(
+    bytes: &mut [u8],
+    array: &[u8],
+    rows: &[u8],
+    wp: u64,
+    input: &[u8],
+    output: &mut [u8],
+) -> u64
+    ensures answer { λ r. ⌜ r ≡ transactAnswer (recordIn (now (bytes .entry))) (length (now (array .entry))) (length (now (rows .entry))) wp (now (input .entry)) (length (now (output .entry))) ⌝ }
+    ensures image { λ _. ⌜ now (bytes .exit) ≡ transactImage (recordIn (now (bytes .entry))) (length (now (array .entry))) (length (now (rows .entry))) wp (now (input .entry)) (length (now (output .entry))) (now (bytes .entry)) ⌝ }
+    ensures output { λ _. ⌜ now (output .exit) ≡ transactOutput (recordIn (now (bytes .entry))) (now (array .entry)) (now (rows .entry)) wp (now (input .entry)) (now (output .entry)) ⌝ }
+{
+    let held = image::read_record(bytes);
+    if !held.ok {
+        return 5;
+    }
+    let part = held.part;
+    if 1 < wp {
+        let number = transact::refusal(part, array.len(), rows.len(), input.len(), output.len());
+        return words::or_else(number, 5) as u64;
+    }
+    let answer = transact::transact(part, array, rows, wp == 1, input, output);
+    let next = answer.next;
+    image::write_record(next, bytes);
+    pack(answer.number, answer.first)
+}
+
+// So many ticks. The number and the ticks that did work; refused, with 1, 2, 5 or 6, every buffer is as it was.
+#[no_mangle]
+pub extern "C" fn yawlspar_tick(
+    bytes: &mut [u8],
+    array: &mut [u8],
+    rows: &mut [u8],
+    count: u64,
+) -> u64
+    ensures answer { λ r. ⌜ r ≡ tickAnswer (recordIn (now (bytes .entry))) (length (now (array .entry))) (length (now (rows .entry))) count ⌝ }
+    ensures image { λ _. ⌜ now (bytes .exit) ≡ tickImage (recordIn (now (bytes .entry))) (length (now (array .entry))) (length (now (rows .entry))) count (now (bytes .entry)) ⌝ }
+    ensures array { λ _. ⌜ now (array .exit) ≡ tickMemory Array (recordIn (now (bytes .entry))) (length (now (array .entry))) (length (now (rows .entry))) count (now (array .entry)) ⌝ }
+    ensures rows { λ _. ⌜ now (rows .exit) ≡ tickMemory Rows (recordIn (now (bytes .entry))) (length (now (array .entry))) (length (now (rows .entry))) count (now (rows .entry)) ⌝ }
+{
+    let held = image::read_record(bytes);
+    if !held.ok {
+        return 5;
+    }
+    let part = held.part;
+    let ticked = ticks::tick(part, array, rows, count as usize);
+    let next = ticked.next;
+    image::write_record(next, bytes);
+    pack(ticked.number, ticked.done)
+}

@@ -1,0 +1,356 @@
+/*
+ * Times the functions of yawlspar.h beside the reference model, and beside memcpy and memset where those move
+ * the same bytes. All of it runs in one process on the same memory.
+ *
+ *   perf                        print the table
+ *   perf list                   print each job's number, its sides and its name
+ *   perf run JOB SIDE TIMES     set up, do the job TIMES times on one side, and end: for counting instructions
+ *
+ * A job is a driver's errand: one call, or the calls that belong together. The sides are model, reference and
+ * bytes, which is memcpy or memset. The numbers are no test: the exit status is 0 whatever they are.
+ */
+#include <stdbool.h>
+#include <stddef.h>
+#include <stdint.h>
+
+#include "../tests/reference/reference.h"
+#include "yawlspar.h"
+
+extern int printf(const char *format, ...) __attribute__((format(printf, 1, 2)));
+extern void exit(int status) __attribute__((noreturn));
+extern int strcmp(const char *, const char *);
+extern long strtol(const char *text, char **end, int base);
+extern void *memcpy(void *, const void *, unsigned long);
+extern void *memset(void *, int, unsigned long);
+
+struct timespec {
+    long seconds, nanoseconds;
+};
+
+extern int clock_gettime(int clock, struct timespec *time);
+
+#define COUNT(list) (sizeof(list) / sizeof((list)[0]))
+#define CLOCK_PROCESS_CPUTIME_ID 2 /* what else the machine does does not count */
+#define LEAST_NANOSECONDS 200000000.0
+#define ROUNDS 3
+#define BLOCKS_MOST 16u
+
+static uint8_t record[YAWLSPAR_RECORD_BYTES];
+static struct part part;
+static uint8_t array[BLOCKS_MOST * REF_BLOCK], rows[REF_ROWS];
+static uint8_t input[REF_MOST], output[REF_MOST];
+static size_t array_length;
+
+/* ---- Both models ---- */
+
+static void must_be(uint64_t got, uint64_t expected)
+{
+    if (got != expected) {
+        printf("perf: a call answered %llu, not %llu\n", (unsigned long long)got, (unsigned long long)expected);
+        exit(1);
+    }
+}
+
+static void set_up(uint32_t blocks)
+{
+    array_length = (size_t)blocks * REF_BLOCK;
+    memset(array, 0xFF, sizeof array);
+    memset(rows, 0xFF, sizeof rows);
+    memset(input, 0xFF, sizeof input);
+    must_be(yawlspar_power_up(record, sizeof record, blocks, 0x9D, 0x60, 0x14, 0x13, 0, 0), 0);
+    must_be((uint64_t)ref_power_up(&part, blocks, 0x9D, 0x60, 0x14, 0x13, 0, 0), 0);
+}
+
+static uint64_t model_transact(size_t length)
+{
+    return YAWLSPAR_NUMBER(yawlspar_transact(record, sizeof record, array, array_length, rows, sizeof rows, 1, input,
+                                             length, output, length));
+}
+
+static uint64_t reference_transact(size_t length)
+{
+    size_t first;
+
+    return (uint64_t)ref_transact(&part, array, array_length, rows, sizeof rows, true, input, length, output, length,
+                                  &first);
+}
+
+static uint64_t model_tick(uint32_t ticks)
+{
+    return YAWLSPAR_TICKS(yawlspar_tick(record, sizeof record, array, array_length, rows, sizeof rows, ticks));
+}
+
+static uint64_t reference_tick(uint32_t ticks)
+{
+    uint32_t worked;
+
+    ref_tick(&part, array, array_length, rows, sizeof rows, ticks, &worked);
+    return worked;
+}
+
+struct one_model {
+    uint64_t (*transact)(size_t length);
+    uint64_t (*tick)(uint32_t ticks);
+};
+
+static const struct one_model the_model = {model_transact, model_tick};
+static const struct one_model the_reference = {reference_transact, reference_tick};
+
+/* ---- Jobs ---- */
+
+static void put(uint8_t code, uint32_t address)
+{
+    input[0] = code;
+    input[1] = (uint8_t)(address >> 16);
+    input[2] = (uint8_t)(address >> 8);
+    input[3] = (uint8_t)address;
+}
+
+static void status_job(const struct one_model *on)
+{
+    input[0] = 0x05;
+    must_be(on->transact(2), 0);
+}
+
+static void ignored_job(const struct one_model *on)
+{
+    input[0] = 0xFF; /* in no row of the command table */
+    must_be(on->transact(1), 20);
+}
+
+static void read_job(const struct one_model *on)
+{
+    put(0x03, 0x001234);
+    must_be(on->transact(4096), 0);
+}
+
+static void write_job(const struct one_model *on, size_t length, uint32_t ticks)
+{
+    uint8_t code = input[0];
+
+    input[0] = 0x06;
+    must_be(on->transact(1), 0);
+    input[0] = code;
+    must_be(on->transact(length), 0);
+    must_be(on->tick(ticks), ticks);
+}
+
+static void program_job(const struct one_model *on)
+{
+    put(0x02, 0x001200);
+    write_job(on, 260, 256);
+}
+
+static void sector_job(const struct one_model *on)
+{
+    put(0xD7, 0x002000);
+    write_job(on, 4, 16);
+}
+
+static void chip_job(const struct one_model *on)
+{
+    input[0] = 0xC7;
+    write_job(on, 1, 4096);
+}
+
+/* The calls go through pointers, so that the compiler cannot leave one out. */
+static void *(*volatile copy)(void *, const void *, unsigned long) = memcpy;
+static void *(*volatile fill)(void *, int, unsigned long) = memset;
+
+static void read_bytes(void)
+{
+    copy(output, array + 0x001234, 4092);
+}
+
+static void sector_bytes(void)
+{
+    fill(array + 0x002000, 0xFF, 4096);
+}
+
+static void chip_bytes(void)
+{
+    fill(array, 0xFF, sizeof array);
+}
+
+struct job {
+    const char *name;
+    uint32_t blocks;
+    uint32_t bytes; /* read, programmed or erased by one job */
+    void (*on)(const struct one_model *);
+    void (*bytes_alone)(void); /* or none */
+};
+
+static const struct job jobs[] = {
+    {"05h of 2 bytes, 1 block", 1, 1, status_job, NULL},
+    {"05h of 2 bytes, 16 blocks", 16, 1, status_job, NULL},
+    {"ignored, 1 byte, 16 blocks", 16, 0, ignored_job, NULL},
+    {"03h of 4,096 bytes, 16 blocks", 16, 4092, read_job, read_bytes},
+    {"06h, 02h, 256 ticks, 16 blocks", 16, 256, program_job, NULL},
+    {"06h, D7h, 16 ticks, 16 blocks", 16, 4096, sector_job, sector_bytes},
+    {"06h, C7h, 4,096 ticks, 16 blocks", 16, 1048576, chip_job, chip_bytes},
+};
+
+enum side { MODEL, REFERENCE, BYTES };
+
+static void do_job(const struct job *job, enum side side, long times)
+{
+    for (; times > 0; times--) {
+        if (side == BYTES)
+            job->bytes_alone();
+        else
+            job->on(side == MODEL ? &the_model : &the_reference);
+    }
+}
+
+/* ---- Times ---- */
+
+static double now(void)
+{
+    struct timespec time;
+
+    clock_gettime(CLOCK_PROCESS_CPUTIME_ID, &time);
+    return (double)time.seconds * 1e9 + (double)time.nanoseconds;
+}
+
+static double nanoseconds_of(const struct job *job, enum side side, long times)
+{
+    double before = now();
+
+    do_job(job, side, times);
+    return now() - before;
+}
+
+/* How often a job is done for the clock to tell. */
+static long enough_times(const struct job *job, enum side side)
+{
+    long times = 1;
+
+    while (nanoseconds_of(job, side, times) < LEAST_NANOSECONDS)
+        times *= 2;
+    return times;
+}
+
+/* The best of some rounds, in nanoseconds a job. */
+static double time_of(const struct job *job, enum side side)
+{
+    double best = 0;
+    long times;
+    int round;
+
+    if (side == BYTES && job->bytes_alone == NULL)
+        return 0;
+    times = enough_times(job, side);
+    for (round = 0; round < ROUNDS; round++) {
+        double one = nanoseconds_of(job, side, times) / (double)times;
+
+        if (round == 0 || one < best)
+            best = one;
+    }
+    return best;
+}
+
+/* ---- Output ---- */
+
+static void print_ratio(double model, double other)
+{
+    if (other > 0)
+        printf(" %9.2f", model / other);
+    else
+        printf(" %9s", "-");
+}
+
+static void print_rate(double bytes, double nanoseconds)
+{
+    if (bytes > 0 && nanoseconds > 0)
+        printf(" %9.1f", bytes * 1000 / nanoseconds);
+    else
+        printf(" %9s", "-");
+}
+
+static void print_job(const struct job *job)
+{
+    double model, reference, bytes;
+
+    set_up(job->blocks);
+    model = time_of(job, MODEL);
+    reference = time_of(job, REFERENCE);
+    bytes = time_of(job, BYTES);
+    printf("%-34s %11.0f %11.0f", job->name, 1e9 / model, 1e9 / reference);
+    print_rate(job->bytes, model);
+    print_rate(job->bytes, reference);
+    print_rate(job->bytes, bytes);
+    print_ratio(model, reference);
+    print_ratio(model, bytes);
+    printf("\n");
+}
+
+static void print_table(void)
+{
+    size_t i;
+
+    printf("%-34s %23s %29s %19s\n", "", "jobs per second", "Mbyte per second", "model's time by");
+    printf("%-34s %11s %11s %9s %9s %9s %9s %9s\n", "job", "model", "reference", "model", "reference", "bytes",
+           "reference", "bytes");
+    for (i = 0; i < COUNT(jobs); i++)
+        print_job(&jobs[i]);
+}
+
+static void print_list(void)
+{
+    size_t i;
+
+    for (i = 0; i < COUNT(jobs); i++)
+        printf("%zu %s %s\n", i, jobs[i].bytes_alone == NULL ? "model,reference" : "model,reference,bytes",
+               jobs[i].name);
+}
+
+/* ---- Arguments ---- */
+
+static bool number_of(const char *text, long most, long *number)
+{
+    char *end;
+
+    *number = strtol(text, &end, 10);
+    return end != text && *end == 0 && *number >= 0 && *number <= most;
+}
+
+static bool side_of(const char *text, enum side *side)
+{
+    static const char *const names[] = {"model", "reference", "bytes"};
+    size_t i;
+
+    for (i = 0; i < COUNT(names); i++)
+        if (strcmp(text, names[i]) == 0) {
+            *side = (enum side)i;
+            return true;
+        }
+    return false;
+}
+
+static bool run_one(char **arguments)
+{
+    enum side side;
+    long job, times;
+
+    if (!number_of(arguments[0], COUNT(jobs) - 1, &job) || !side_of(arguments[1], &side) ||
+        !number_of(arguments[2], 1000000000, &times))
+        return false;
+    if (side == BYTES && jobs[job].bytes_alone == NULL)
+        return false;
+    set_up(jobs[job].blocks);
+    do_job(&jobs[job], side, times);
+    return true;
+}
+
+int main(int argc, char **argv)
+{
+    if (argc == 1)
+        print_table();
+    else if (argc == 2 && strcmp(argv[1], "list") == 0)
+        print_list();
+    else if (argc != 5 || strcmp(argv[1], "run") != 0 || !run_one(argv + 2)) {
+        printf("usage: perf | perf list | perf run JOB SIDE TIMES\n");
+        return 2;
+    }
+    return 0;
+}

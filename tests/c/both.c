@@ -1,0 +1,444 @@
+/* The two models in step: see both.h. */
+#include "both.h"
+
+#include "chance.h"
+
+extern int printf(const char *format, ...) __attribute__((format(printf, 1, 2)));
+extern void exit(int status) __attribute__((noreturn));
+extern int memcmp(const void *, const void *, unsigned long);
+extern void *memcpy(void *, const void *, unsigned long);
+extern void *memset(void *, int, unsigned long);
+
+#define GUARD 64u
+#define SKEWS 16u /* a buffer may begin at any place modulo 16 */
+#define AROUND (2u * GUARD + SKEWS)
+
+struct side model, reference;
+struct part part;
+uint8_t message[MESSAGE_ROOM];
+uint64_t calls;
+
+static const char *run_name;
+static uint64_t run_seed, run_calls;
+static uint32_t run_blocks;
+
+/* ---- Reports ---- */
+
+static void tell_power_up(const struct call *call)
+{
+    printf("yawlspar_power_up(record of %zu, blocks %llu, maker %llu, type %llu, capacity %llu, device %llu, "
+           "status 0x%llX, function 0x%llX)\n",
+           call->record, (unsigned long long)call->blocks, (unsigned long long)call->maker,
+           (unsigned long long)call->type, (unsigned long long)call->capacity,
+           (unsigned long long)call->device, (unsigned long long)call->status,
+           (unsigned long long)call->function);
+}
+
+static void tell_transact(const struct call *call)
+{
+    size_t shown = call->input < 24 ? call->input : 24, i;
+
+    printf("yawlspar_transact(record of %zu, array of %zu, rows of %zu, wp_high %llu, input of %zu:", call->record,
+           call->array, call->rows, (unsigned long long)call->wp_high, call->input);
+    for (i = 0; i < shown; i++)
+        printf(" %02X", message[i]);
+    printf("%s, output of %zu)\n", shown < call->input ? " .." : "", call->output);
+}
+
+static void tell_tick(const struct call *call)
+{
+    printf("yawlspar_tick(record of %zu, array of %zu, rows of %zu, ticks %llu)\n", call->record, call->array,
+           call->rows, (unsigned long long)call->ticks);
+}
+
+static void tell(const struct call *call)
+{
+    printf("whole: %s, seed %llu, %u blocks, call %llu:\n  ", run_name, (unsigned long long)run_seed,
+           (unsigned)run_blocks, (unsigned long long)run_calls);
+    switch (call->kind) {
+    case POWER_UP:
+        tell_power_up(call);
+        break;
+    case TRANSACT:
+        tell_transact(call);
+        break;
+    default:
+        tell_tick(call);
+        break;
+    }
+}
+
+static void end_differing(void) __attribute__((noreturn));
+
+static void end_differing(void)
+{
+    printf("whole: %llu calls compared, 1 difference\n", (unsigned long long)calls);
+    exit(1);
+}
+
+void fail(const struct call *call, const char *what, uint64_t expected, uint64_t got)
+{
+    tell(call);
+    printf("  %s: expected %llu, got %llu\n", what, (unsigned long long)expected, (unsigned long long)got);
+    end_differing();
+}
+
+static void fail_result(const struct call *call, uint64_t expected, uint64_t got) __attribute__((noreturn));
+
+static void fail_result(const struct call *call, uint64_t expected, uint64_t got)
+{
+    tell(call);
+    printf("  the result: expected number %llu and %llu, got number %llu and %llu\n",
+           (unsigned long long)YAWLSPAR_NUMBER(expected), (unsigned long long)YAWLSPAR_PLACE(expected),
+           (unsigned long long)YAWLSPAR_NUMBER(got), (unsigned long long)YAWLSPAR_PLACE(got));
+    end_differing();
+}
+
+static void fail_byte(const struct call *call, const char *what, long place, size_t length, uint8_t expected,
+                      uint8_t got) __attribute__((noreturn));
+
+static void fail_byte(const struct call *call, const char *what, long place, size_t length, uint8_t expected,
+                      uint8_t got)
+{
+    bool inside = place >= 0 && (size_t)place < length;
+
+    tell(call);
+    printf("  the %s at %ld%s: expected %02Xh, got %02Xh\n", what, place, inside ? "" : ", outside of it", expected,
+           got);
+    end_differing();
+}
+
+/* ---- Memory ---- */
+
+/* Where a buffer of this room begins in its store. The bytes around it, and after a lent length, are guards. */
+static uint8_t *place_in(uint8_t *store, size_t room, uint32_t skew)
+{
+    size_t i;
+
+    for (i = 0; i < room + AROUND; i++)
+        store[i] = (uint8_t)(i * 37 + 11);
+    return store + GUARD + skew;
+}
+
+static void set_guard(uint8_t *end)
+{
+    size_t i;
+
+    for (i = 0; i < GUARD; i++)
+        end[i] = (uint8_t)(i * 29 + 7);
+}
+
+static void make_side(struct side *side, int which, uint64_t seed)
+{
+    static uint8_t record[2][RECORD_ROOM + AROUND], array[2][ARRAY_ROOM + AROUND], rows[2][ROWS_ROOM + AROUND],
+        input[2][MESSAGE_ROOM + AROUND], output[2][MESSAGE_ROOM + AROUND];
+    struct chance chance = {seed};
+
+    side->record = place_in(record[which], RECORD_ROOM, number_below(&chance, SKEWS));
+    side->array = place_in(array[which], ARRAY_ROOM, number_below(&chance, SKEWS));
+    side->rows = place_in(rows[which], ROWS_ROOM, number_below(&chance, SKEWS));
+    side->input = place_in(input[which], MESSAGE_ROOM, number_below(&chance, SKEWS));
+    side->output = place_in(output[which], MESSAGE_ROOM, number_below(&chance, SKEWS));
+}
+
+/* Fills one of the stored memories: with FFh, or with any bytes. */
+static void fill(uint8_t *bytes, size_t length, struct chance *chance)
+{
+    size_t i;
+    uint64_t number;
+
+    memset(bytes, 0xFF, length);
+    if (number_below(chance, 4) == 0)
+        return;
+    for (i = 0; i + sizeof number <= length; i += sizeof number) {
+        number = next_number(chance);
+        memcpy(bytes + i, &number, sizeof number);
+    }
+}
+
+void begin_run(const char *name, uint64_t seed, uint32_t blocks)
+{
+    struct chance chance = {seed};
+
+    run_name = name;
+    run_seed = seed;
+    run_calls = 0;
+    run_blocks = blocks;
+    memset(&part, 0, sizeof part);
+    memset(message, 0, sizeof message);
+    make_side(&model, 0, seed);
+    make_side(&reference, 1, seed);
+    fill(model.array, blocks * REF_BLOCK, &chance);
+    fill(model.rows, REF_ROWS, &chance);
+    memcpy(reference.array, model.array, blocks * REF_BLOCK);
+    memcpy(reference.rows, model.rows, REF_ROWS);
+}
+
+/* ---- Comparing ---- */
+
+/* Compares `length` bytes from `from` on, and tells the first difference. `whole` is the buffer's lent length. */
+static void same(const struct call *call, const char *what, const uint8_t *got, const uint8_t *expected, long from,
+                 size_t length, size_t whole)
+{
+    size_t i = 0;
+
+    if (memcmp(got + from, expected + from, length) == 0)
+        return;
+    while (got[from + (long)i] == expected[from + (long)i])
+        i++;
+    fail_byte(call, what, from + (long)i, whole, expected[from + (long)i], got[from + (long)i]);
+}
+
+/* Compares a buffer, and the guards around it. */
+static void same_buffer(const struct call *call, const char *what, const uint8_t *got, const uint8_t *expected,
+                        size_t lent, size_t right)
+{
+    size_t length = lent > right ? lent : right;
+
+    same(call, what, got, expected, -(long)GUARD, GUARD + length + GUARD, length);
+}
+
+static void same_guards(const struct call *call, const char *what, const uint8_t *got, const uint8_t *expected,
+                        size_t length)
+{
+    same(call, what, got, expected, -(long)GUARD, GUARD, length);
+    same(call, what, got, expected, (long)length, GUARD, length);
+}
+
+static size_t array_length(void)
+{
+    return (size_t)run_blocks * REF_BLOCK;
+}
+
+static void same_array(const struct call *call)
+{
+    same_buffer(call, "array", model.array, reference.array, call->array, array_length());
+}
+
+static void same_but_array(const struct call *call)
+{
+    same_buffer(call, "rows", model.rows, reference.rows, call->rows, REF_ROWS);
+    if (call->kind == TRANSACT) {
+        same_buffer(call, "input", model.input, reference.input, call->input, 0);
+        same_buffer(call, "output", model.output, reference.output, call->output, 0);
+    }
+}
+
+void same_memory(const struct call *call)
+{
+    same_but_array(call);
+    same_array(call);
+}
+
+void same_record(const struct call *call)
+{
+    same_buffer(call, "record", model.record, reference.record, call->record, YAWLSPAR_RECORD_BYTES);
+}
+
+/* The array is compared whole after each refusal and after ticks that did work. After other calls larger arrays
+ * are compared more rarely, so that each size costs the same. */
+static bool whole_is_due(const struct call *call, uint64_t expected)
+{
+    return is_refusal(expected) || (call->kind == TICK && YAWLSPAR_TICKS(expected) > 0) ||
+           run_calls % run_blocks == 0;
+}
+
+static void compare_memory(const struct call *call, uint64_t expected)
+{
+    same_but_array(call);
+    if (whole_is_due(call, expected))
+        same_array(call);
+    else
+        same_guards(call, "array", model.array, reference.array, array_length());
+}
+
+static bool same_operation(const struct operation *a, const struct operation *b)
+{
+    return a->kind == b->kind && a->base == b->base && a->start == b->start && a->count == b->count &&
+           a->done == b->done && a->held == b->held;
+}
+
+static bool same_part(const struct part *a, const struct part *b)
+{
+    return a->size == b->size && a->m == b->m && a->t == b->t && a->c == b->c && a->d == b->d &&
+           a->status == b->status && a->function == b->function && a->wel == b->wel && a->armed == b->armed &&
+           a->asleep == b->asleep && a->phase == b->phase && same_operation(&a->op, &b->op) &&
+           memcmp(a->data, b->data, REF_PAGE) == 0;
+}
+
+/* A refused call leaves the record's bytes; any other changes them exactly when the reference's record changes. */
+static void compare_record(const struct call *call, const struct part *before, uint64_t expected)
+{
+    bool changed;
+
+    if (is_refusal(expected) || same_part(before, &part)) {
+        same_record(call);
+        return;
+    }
+    same_guards(call, "record", model.record, reference.record, YAWLSPAR_RECORD_BYTES);
+    changed = memcmp(model.record, reference.record, YAWLSPAR_RECORD_BYTES) != 0;
+    if (!changed)
+        fail(call, "whether the record's bytes changed", 1, 0);
+    memcpy(reference.record, model.record, YAWLSPAR_RECORD_BYTES);
+}
+
+/* ---- What is expected ---- */
+
+static bool is_size(uint64_t blocks)
+{
+    return blocks == 1 || blocks == 4 || blocks == 8 || blocks == 16;
+}
+
+static bool are_bytes(const struct call *call)
+{
+    return call->maker < 256 && call->type < 256 && call->capacity < 256 && call->device < 256 &&
+           call->status < 256 && call->function < 256;
+}
+
+static bool holds_record(const struct call *call)
+{
+    return call->record == YAWLSPAR_RECORD_BYTES && part.size != 0;
+}
+
+static uint64_t expect_power_up(const struct call *call)
+{
+    struct part fresh;
+    int number;
+
+    if (!is_size(call->blocks))
+        return 1;
+    if (call->record != YAWLSPAR_RECORD_BYTES || !are_bytes(call))
+        return 5;
+    number = ref_power_up(&fresh, (uint32_t)call->blocks, (uint8_t)call->maker, (uint8_t)call->type,
+                          (uint8_t)call->capacity, (uint8_t)call->device, (uint8_t)call->status,
+                          (uint8_t)call->function);
+    if (number == 0)
+        part = fresh;
+    return (uint64_t)number;
+}
+
+/* A level that is neither 0 nor 1 is a 5, and the numbers 1 to 4 are lower. */
+static uint64_t expect_bad_level(const struct call *call)
+{
+    if (call->array != (size_t)part.size * REF_BLOCK)
+        return 1;
+    if (call->rows != REF_ROWS)
+        return 2;
+    if (call->input == 0 || call->input > REF_MOST)
+        return 3;
+    return call->output != call->input ? 4 : 5;
+}
+
+static uint64_t expect_transact(const struct call *call)
+{
+    size_t first;
+    int number;
+
+    if (!holds_record(call))
+        return 5;
+    if (call->wp_high > 1)
+        return expect_bad_level(call);
+    number = ref_transact(&part, reference.array, call->array, reference.rows, call->rows, call->wp_high == 1,
+                          reference.input, call->input, reference.output, call->output, &first);
+    return (uint64_t)number + 256 * (uint64_t)first;
+}
+
+static uint64_t expect_tick(const struct call *call)
+{
+    uint32_t ticks = call->ticks < UINT32_MAX ? (uint32_t)call->ticks : UINT32_MAX, worked;
+    int number;
+
+    if (!holds_record(call))
+        return 5;
+    number = ref_tick(&part, reference.array, call->array, reference.rows, call->rows, ticks, &worked);
+    return (uint64_t)number + 256 * (uint64_t)worked;
+}
+
+static uint64_t expect(const struct call *call)
+{
+    switch (call->kind) {
+    case POWER_UP:
+        return expect_power_up(call);
+    case TRANSACT:
+        return expect_transact(call);
+    default:
+        return expect_tick(call);
+    }
+}
+
+/* ---- Calls ---- */
+
+bool is_refusal(uint64_t result)
+{
+    return YAWLSPAR_NUMBER(result) >= 1 && YAWLSPAR_NUMBER(result) <= 6;
+}
+
+struct call fitting(enum call_kind kind)
+{
+    struct call call = {.kind = kind,
+                        .record = YAWLSPAR_RECORD_BYTES,
+                        .array = array_length(),
+                        .rows = REF_ROWS,
+                        .input = 1,
+                        .output = 1,
+                        .wp_high = 1,
+                        .blocks = run_blocks};
+
+    return call;
+}
+
+uint64_t call_model(const struct side *side, const struct call *call)
+{
+    calls++;
+    run_calls++;
+    switch (call->kind) {
+    case POWER_UP:
+        return yawlspar_power_up(side->record, call->record, call->blocks, call->maker, call->type, call->capacity,
+                                 call->device, call->status, call->function);
+    case TRANSACT:
+        return yawlspar_transact(side->record, call->record, side->array, call->array, side->rows, call->rows,
+                                 call->wp_high, side->input, call->input, side->output, call->output);
+    default:
+        return yawlspar_tick(side->record, call->record, side->array, call->array, side->rows, call->rows,
+                             call->ticks);
+    }
+}
+
+static void prepare_side(const struct side *side, const struct call *call)
+{
+    memcpy(side->input, message, call->input);
+    set_guard(side->input + call->input);
+    memset(side->output, (int)(run_calls % 251), call->output);
+    set_guard(side->output + call->output);
+}
+
+void prepare(const struct call *call)
+{
+    if (call->kind == TRANSACT) {
+        prepare_side(&model, call);
+        prepare_side(&reference, call);
+    }
+}
+
+uint64_t step(const struct call *call)
+{
+    struct part before = part;
+    uint64_t expected, got;
+
+    prepare(call);
+    expected = expect(call);
+    got = call_model(&model, call);
+    if (got != expected)
+        fail_result(call, expected, got);
+    compare_memory(call, expected);
+    compare_record(call, &before, expected);
+    return got;
+}
+
+void end_run(void)
+{
+    struct call nothing = fitting(TICK);
+
+    step(&nothing);
+    same_memory(&nothing);
+}

@@ -1,0 +1,88 @@
+/*
+ * The functions of yawlspar.h and the reference model, run in step.
+ *
+ * Each call is made of both, on memory of its own for each, and the two are compared: the result, every
+ * byte of the output, the array and the rows. Guard bytes stand around each buffer. At the first difference
+ * the program tells the call and what differs, and ends with status 1.
+ */
+#ifndef BOTH_H
+#define BOTH_H
+
+#include <stdbool.h>
+#include <stddef.h>
+#include <stdint.h>
+
+#include "../reference/reference.h"
+#include "yawlspar.h"
+
+#define COUNT(list) (sizeof(list) / sizeof((list)[0]))
+
+/* How many bytes there are to lend, so that calls can be lent more than the right length. */
+#define RECORD_ROOM (YAWLSPAR_RECORD_BYTES + 64u)
+#define ARRAY_ROOM (17u * REF_BLOCK)
+#define ROWS_ROOM (2u * REF_ROWS)
+#define MESSAGE_ROOM (2u * REF_MOST)
+
+enum call_kind { POWER_UP, TRANSACT, TICK };
+
+/* One call, with the lengths that it is lent. The input's bytes are those of `message`. */
+struct call {
+    enum call_kind kind;
+    size_t record, array, rows, input, output;
+    uint64_t wp_high;
+    uint64_t ticks;
+    uint64_t blocks, maker, type, capacity, device, status, function;
+};
+
+/* What a side lends. */
+struct side {
+    uint8_t *record, *array, *rows, *input, *output;
+};
+
+/* The reference's side keeps the record's bytes as they were before the call. */
+extern struct side model, reference;
+
+/* The reference's record. Its size is 0 as long as there was no power-up: the record's bytes are then junk. */
+extern struct part part;
+
+extern uint8_t message[MESSAGE_ROOM];
+
+/* How many calls were made of the model and compared. */
+extern uint64_t calls;
+
+/* Begins a run of calls: array and rows made of the seed, and junk for a record. A run does the same whatever ran
+ * before it. `name` says in a report what run it is. */
+void begin_run(const char *name, uint64_t seed, uint32_t blocks);
+
+/* Asks for no ticks, and compares all memory. */
+void end_run(void);
+
+/* A call with the right lengths: a transaction with WP# high and one byte, 0 ticks, a power-up with zeros. */
+struct call fitting(enum call_kind kind);
+
+/* Makes the call of both and compares. Gives the result. */
+uint64_t step(const struct call *call);
+
+/* Makes the call of the model alone, on the memory of a side. */
+uint64_t call_model(const struct side *side, const struct call *call);
+
+/* The number of a result is one of the refusals 1 to 6. */
+bool is_refusal(uint64_t result);
+
+/* Makes input and output ready for a call on both sides: the message, and junk to be written over. */
+void prepare(const struct call *call);
+
+/* Ends the program if the bytes of the two sides differ, guards included. */
+void same_record(const struct call *call);
+void same_memory(const struct call *call);
+
+/* Tells the call and ends the program. */
+void fail(const struct call *call, const char *what, uint64_t expected, uint64_t got) __attribute__((noreturn));
+
+/* ---- The runs. ---- */
+
+void directed_calls(void);
+void damaged_records(void);
+void random_calls(uint64_t seed, uint64_t least);
+
+#endif

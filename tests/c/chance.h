@@ -1,0 +1,26 @@
+/* Numbers that look random, the same for the same seed: splitmix64. */
+#ifndef CHANCE_H
+#define CHANCE_H
+
+#include <stdbool.h>
+#include <stdint.h>
+
+struct chance {
+    uint64_t state;
+};
+
+static inline uint64_t next_number(struct chance *chance)
+{
+    uint64_t z = chance->state += UINT64_C(0x9E3779B97F4A7C15);
+
+    z = (z ^ (z >> 30)) * UINT64_C(0xBF58476D1CE4E5B9);
+    z = (z ^ (z >> 27)) * UINT64_C(0x94D049BB133111EB);
+    return z ^ (z >> 31);
+}
+
+static inline uint32_t number_below(struct chance *chance, uint32_t limit)
+{
+    return (uint32_t)((next_number(chance) >> 32) % limit);
+}
+
+#endif
