@@ -1,8 +1,6 @@
 /* The two models in step: see both.h. */
 #include "both.h"
 
-#include "chance.h"
-
 extern int printf(const char *format, ...) __attribute__((format(printf, 1, 2)));
 extern void exit(int status) __attribute__((noreturn));
 extern int memcmp(const void *, const void *, unsigned long);

@@ -13,9 +13,8 @@
 #include <stdint.h>
 
 #include "../reference/reference.h"
+#include "../traffic/chance.h"
 #include "yawlspar.h"
-
-#define COUNT(list) (sizeof(list) / sizeof((list)[0]))
 
 /* How many bytes there are to lend, so that calls can be lent more than the right length. */
 #define RECORD_ROOM (YAWLSPAR_RECORD_BYTES + 64u)

@@ -6,8 +6,6 @@
  * and the same call on a copy does the same. */
 #include "both.h"
 
-#include "chance.h"
-
 extern int memcmp(const void *, const void *, unsigned long);
 extern void *memcpy(void *, const void *, unsigned long);
 extern void *memset(void *, int, unsigned long);

@@ -14,16 +14,6 @@ extern int printf(const char *format, ...) __attribute__((format(printf, 1, 2)))
 #define CALLS_OF_A_SEED 800u
 #define LAST_SEED 250u
 
-static bool seed_of(const char *digits, uint64_t *seed)
-{
-    size_t count = 0;
-
-    *seed = 0;
-    for (; digits[count] >= '0' && digits[count] <= '9' && count < 18; count++)
-        *seed = *seed * 10 + (uint64_t)(digits[count] - '0');
-    return count > 0 && digits[count] == 0;
-}
-
 static void seeds(uint64_t first, uint64_t last)
 {
     for (; first <= last; first++)

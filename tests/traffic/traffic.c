@@ -1,0 +1,771 @@
+/* Made-up traffic: see traffic.h. */
+#include "traffic.h"
+
+#define PAGE 256u
+#define BLOCK 65536u
+#define HOT_PAGES 4u
+
+enum mood { DRIVING, GUARDING, ROWING, PAUSING, STUMBLING, MOODS };
+
+static struct chance chance;
+static struct limits limits;
+static uint8_t locks;
+
+static enum mood mood;
+static uint32_t hot[HOT_PAGES]; /* pages, as addresses */
+static uint32_t strange_one_in; /* how rare a strange thing between two steps is */
+static uint32_t low_one_in;     /* how rare a low pin is */
+
+/* ---- Chance ---- */
+
+uint32_t below(uint32_t limit)
+{
+    return number_below(&chance, limit);
+}
+
+uint32_t between(uint32_t least, uint32_t most)
+{
+    return least + below(most - least + 1);
+}
+
+bool one_in(uint32_t n)
+{
+    return below(n) == 0;
+}
+
+uint8_t any_byte(void)
+{
+    return (uint8_t)below(256);
+}
+
+uint8_t pick_byte(const uint8_t *list, size_t count)
+{
+    return list[below((uint32_t)count)];
+}
+
+static uint32_t lesser(uint32_t a, uint32_t b)
+{
+    return a < b ? a : b;
+}
+
+/* ---- Steps ---- */
+
+static uint8_t message[TRAFFIC_MOST];
+static uint32_t length; /* of the message */
+
+static void between_steps(void)
+{
+    if (one_in(strange_one_in))
+        traffic_strange();
+}
+
+static void start(uint8_t code)
+{
+    message[0] = code;
+    length = 1;
+}
+
+static void add(uint8_t byte)
+{
+    if (length < limits.message_most) {
+        message[length] = byte;
+        length++;
+    }
+}
+
+static void add_any(uint32_t count)
+{
+    for (; count > 0; count--)
+        add(any_byte());
+}
+
+static void add_address(uint32_t address)
+{
+    add((uint8_t)(address >> 16));
+    add((uint8_t)(address >> 8));
+    add((uint8_t)address);
+}
+
+static void send_at(bool wp_high)
+{
+    between_steps();
+    traffic_send(wp_high, message, length);
+}
+
+static void send(void)
+{
+    send_at(!one_in(low_one_in));
+}
+
+void send_code(uint8_t code)
+{
+    start(code);
+    send();
+}
+
+static void send_two(uint8_t code, uint8_t second)
+{
+    start(code);
+    add(second);
+    send();
+}
+
+static void ticks(uint32_t n)
+{
+    between_steps();
+    traffic_wait(n);
+}
+
+static void some_ticks(void)
+{
+    uint32_t kind = below(20);
+
+    if (kind < 15)
+        ticks(below(21));
+    else if (kind < 19)
+        ticks(between(21, 300));
+    else
+        ticks(between(4000, TRAFFIC_MOST));
+}
+
+/* ---- Addresses and lengths ---- */
+
+static uint32_t any_address(void)
+{
+    return below(1u << 24);
+}
+
+/* The end of the array, or of that of a smaller part. */
+static uint32_t array_end(void)
+{
+    static const uint8_t sizes[] = {1, 4, 8, 16};
+    uint32_t size = one_in(2) ? limits.blocks : pick_byte(sizes, COUNT(sizes));
+
+    return lesser(size, limits.blocks) * BLOCK;
+}
+
+static uint32_t border_address(void)
+{
+    static const uint16_t places[] = {0x0000, 0x0001, 0x00FF, 0x0100, 0x0FFF, 0x1000, 0x7FFF,
+                                      0x8000, 0xEFFF, 0xF000, 0xFEFF, 0xFF00, 0xFFFE, 0xFFFF};
+    uint32_t block = one_in(3) ? limits.blocks - 1 : below(limits.blocks);
+
+    return block * BLOCK + places[below(COUNT(places))];
+}
+
+static uint32_t hot_address(void)
+{
+    static const uint8_t places[] = {0x00, 0x01, 0x7F, 0x80, 0xC8, 0xFE, 0xFF};
+    uint8_t place = one_in(3) ? any_byte() : pick_byte(places, COUNT(places));
+
+    return hot[below(HOT_PAGES)] + place;
+}
+
+static uint32_t address(void)
+{
+    uint32_t kind = below(20);
+
+    if (kind < 12)
+        return hot_address();
+    if (kind < 14) /* the same place, past the array's end */
+        return (hot_address() + below(16) * limits.blocks * BLOCK) & 0xFFFFFFu;
+    if (kind < 18)
+        return border_address();
+    return any_address();
+}
+
+/* A row address, as sent. */
+static uint32_t row_address(void)
+{
+    static const uint8_t places[] = {0x00, 0x01, 0xFE, 0xFF};
+    uint8_t place = one_in(3) ? any_byte() : pick_byte(places, COUNT(places));
+
+    return below(4) * 0x1000u + place;
+}
+
+static uint32_t wrong_row_address(void)
+{
+    switch (below(4)) {
+    case 0:
+        return row_address() + 0x100u * between(1, 15);
+    case 1:
+        return row_address() + 0x10000u * between(1, 255);
+    case 2:
+        return row_address() + 0x1000u * between(4, 12);
+    default:
+        return any_address();
+    }
+}
+
+/* How many bytes to add to the message: mostly up to `usual`, now and then up to all that it may have. */
+static uint32_t some_length(uint32_t usual)
+{
+    return between(1, one_in(limits.long_one_in) ? limits.message_most - length : usual);
+}
+
+/* How many data bytes a program sends after its address. */
+static uint32_t data_length(void)
+{
+    static const uint16_t lengths[] = {1, 16, 100, 255, 256, 257, 300, 511, 512, 513};
+    uint32_t most = limits.message_most - length;
+
+    if (one_in(2 * limits.long_one_in))
+        return most - below(2);
+    if (one_in(8))
+        return lesser(lengths[below(COUNT(lengths))], most);
+    return some_length(20);
+}
+
+/* ---- Pieces of scenes ---- */
+
+static void poll(void)
+{
+    start(0x05);
+    add_any(one_in(6) ? below(6) : 1);
+    send();
+}
+
+/* Waits for an operation of so many ticks, as drivers do; at times not long enough. */
+static void wait(uint32_t needed)
+{
+    uint32_t round, rounds = between(2, 5);
+
+    switch (below(8)) {
+    case 0: /* one short, then the last */
+        ticks(needed - 1);
+        poll();
+        ticks(1);
+        break;
+    case 1: /* a few rounds */
+        for (round = 0; round < rounds; round++) {
+            ticks(needed / rounds + 1);
+            poll();
+        }
+        break;
+    case 2: /* more than are needed */
+        ticks(lesser(needed + below(20), TRAFFIC_MOST));
+        break;
+    case 3:
+        ticks(TRAFFIC_MOST);
+        break;
+    case 4:
+        some_ticks();
+        break;
+    default:
+        ticks(needed);
+        break;
+    }
+    if (one_in(3))
+        poll();
+}
+
+/* Adds bytes with many ones, so that a page takes several programs. */
+static void add_data(uint32_t count)
+{
+    uint8_t first = any_byte();
+    uint32_t kind = below(4), i;
+
+    for (i = 0; i < count; i++) {
+        if (kind == 0)
+            add((uint8_t)(first + i));
+        else if (kind == 1)
+            add(any_byte());
+        else
+            add(any_byte() | any_byte());
+    }
+}
+
+static void start_read(uint32_t from)
+{
+    start(one_in(2) ? 0x03 : 0x0B);
+    add_address(from);
+}
+
+static void read_at(uint32_t from)
+{
+    start_read(from);
+    add_any(some_length(20));
+    send();
+}
+
+static void write_enable(void)
+{
+    if (!one_in(16))
+        send_code(0x06);
+}
+
+static const uint8_t chip_erases[] = {0xC7, 0x60};
+static const uint8_t suspends[] = {0x75, 0xB0};
+static const uint8_t resumes[] = {0x7A, 0x30};
+
+/* Sends a program of a page or of a row; gives its ticks. */
+static uint32_t send_program(uint8_t code, uint32_t at)
+{
+    uint32_t count;
+
+    start(code);
+    add_address(at);
+    count = data_length();
+    add_data(count);
+    send();
+    return lesser(count, PAGE);
+}
+
+/* Sends an erase of a sector, half a block or a block; gives its ticks. */
+static uint32_t send_erase(uint32_t at)
+{
+    static const struct {
+        uint8_t code;
+        uint16_t ticks;
+    } erases[] = {{0xD7, 16}, {0x20, 16}, {0xD7, 16}, {0x20, 16}, {0x52, 128}, {0xD8, 256}};
+    uint32_t which = below(COUNT(erases));
+
+    start(erases[which].code);
+    add_address(at);
+    send();
+    return erases[which].ticks;
+}
+
+/* Sends a program or an erase of the array; gives its ticks. */
+static uint32_t send_change(uint32_t at)
+{
+    return one_in(2) ? send_program(0x02, at) : send_erase(at);
+}
+
+/* A status byte: the protection codes of the whole range, SRWD and QE now and then. */
+static uint8_t status_value(void)
+{
+    uint32_t code = one_in(3) ? 15 * below(2) : below(16);
+
+    return (uint8_t)(code << 2 | (one_in(4) ? 0x80 : 0) | (one_in(4) ? 0x40 : 0) | below(4));
+}
+
+static void send_status(bool wp_high, uint8_t value)
+{
+    start(0x06);
+    send_at(wp_high);
+    start(0x01);
+    add(value);
+    send_at(wp_high);
+}
+
+static void write_status(uint8_t value)
+{
+    send_status(true, value);
+    ticks(1);
+}
+
+void unprotect(void)
+{
+    write_status(one_in(4) ? 0x3C : 0x00);
+}
+
+/* ---- Scenes ---- */
+
+static void wake_and_reset(void)
+{
+    send_code(0xAB);
+    send_code(0x66);
+    send_code(0x99);
+    if (one_in(2))
+        unprotect();
+}
+
+static void program_scene(void)
+{
+    uint32_t at = address(), programs = between(1, 3);
+
+    for (; programs > 0; programs--) {
+        write_enable();
+        wait(send_program(0x02, at));
+        read_at(one_in(4) ? at - below(4) : at);
+    }
+}
+
+static void erase_scene(void)
+{
+    uint32_t at = address();
+
+    write_enable();
+    wait(send_erase(at));
+    read_at(at);
+    if (one_in(4))
+        read_at(border_address());
+}
+
+static void chip_erase_scene(void)
+{
+    write_enable();
+    send_code(pick_byte(chip_erases, COUNT(chip_erases)));
+    if (one_in(4))
+        poll();
+    if (one_in(5)) {
+        ticks(below(40));
+        send_code(pick_byte(suspends, COUNT(suspends)));
+    }
+    wait(limits.blocks * 256);
+    read_at(hot_address());
+}
+
+/* A read that runs on past the end to address 0. */
+static void read_over_end(void)
+{
+    uint32_t back = between(1, one_in(limits.long_one_in) ? limits.message_most / 2 : 20);
+
+    start_read(array_end() - back);
+    add_any(1 + back + below(20));
+    send();
+}
+
+static void status_scene(void)
+{
+    write_enable();
+    send_two(0x01, status_value());
+    wait(1);
+    poll();
+}
+
+static void function_scene(void)
+{
+    write_enable();
+    send_two(0x42, any_byte() & (locks | 0x0F));
+    wait(1);
+    send_two(0x48, any_byte());
+}
+
+static void guard_scene(void)
+{
+    uint32_t tries = between(2, 6);
+
+    write_status(status_value() & 0x7F);
+    for (; tries > 0; tries--) {
+        uint32_t at = one_in(2) ? border_address() : address();
+
+        write_enable();
+        if (one_in(8))
+            send_code(pick_byte(chip_erases, COUNT(chip_erases)));
+        else
+            wait(send_change(at));
+        if (one_in(2))
+            read_at(at);
+    }
+    if (!one_in(4))
+        unprotect();
+}
+
+static void pin_scene(void)
+{
+    write_status(0x80 | status_value());
+    send_status(one_in(4), status_value());
+    wait(1);
+    poll();
+    if (!one_in(5))
+        unprotect();
+}
+
+static void row_scene(void)
+{
+    uint32_t at = row_address();
+
+    write_enable();
+    if (one_in(3)) {
+        start(0x64);
+        add_address(at);
+        send();
+        wait(1);
+    } else {
+        wait(send_program(0x62, at));
+    }
+    start(0x68);
+    add_address(at);
+    add_any(1 + some_length(one_in(4) ? 50 : 8));
+    send();
+}
+
+/* Any command of the table, in its right form. */
+static void well_formed(uint8_t code)
+{
+    start(code);
+    switch (code) {
+    case 0x05: case 0x48: case 0x9F: case 0xAB:
+        add_any(below(8));
+        break;
+    case 0x90:
+        add_any(3 + below(6));
+        break;
+    case 0x03:
+        add_address(address());
+        add_any(below(10));
+        break;
+    case 0x0B:
+        add_address(address());
+        add_any(1 + below(10));
+        break;
+    case 0x68:
+        add_address(row_address());
+        add_any(1 + below(10));
+        break;
+    case 0x01:
+        add(status_value());
+        break;
+    case 0x42:
+        add(any_byte() & 0x0F);
+        break;
+    case 0x02:
+        add_address(address());
+        add_data(data_length());
+        break;
+    case 0x62:
+        add_address(row_address());
+        add_data(data_length());
+        break;
+    case 0x64:
+        add_address(row_address());
+        break;
+    case 0xD7: case 0x20: case 0x52: case 0xD8:
+        add_address(address());
+        break;
+    default: /* the code alone */
+        break;
+    }
+}
+
+static const uint8_t codes[] = {0x03, 0x0B, 0x05, 0x48, 0x9F, 0x90, 0xAB, 0x68, 0x06, 0x04,
+                                0x01, 0x42, 0x02, 0xD7, 0x20, 0x52, 0xD8, 0xC7, 0x60, 0x75,
+                                0xB0, 0x7A, 0x30, 0xB9, 0x66, 0x99, 0x64, 0x62};
+
+static const uint8_t write_codes[] = {0x01, 0x42, 0x02, 0xD7, 0x20, 0x52,
+                                      0xD8, 0xC7, 0x60, 0x64, 0x62};
+
+static void send_well_formed(uint8_t code)
+{
+    well_formed(code);
+    send();
+}
+
+static void any_commands(uint32_t count)
+{
+    for (; count > 0; count--)
+        send_well_formed(pick_byte(codes, COUNT(codes)));
+}
+
+static void suspend_scene(void)
+{
+    uint32_t at = address(), needed, rounds = between(1, 4);
+
+    write_enable();
+    needed = send_change(at);
+    for (; rounds > 0; rounds--) {
+        ticks(below(needed > 16 && one_in(2) ? needed : 16));
+        send_code(pick_byte(suspends, COUNT(suspends)));
+        send_two(0x48, any_byte());
+        read_at(at);
+        if (one_in(3))
+            some_ticks();
+        if (one_in(2))
+            any_commands(between(1, 4));
+        if (!one_in(8))
+            send_code(pick_byte(resumes, COUNT(resumes)));
+    }
+    wait(needed);
+    read_at(at);
+}
+
+static void sleep_scene(void)
+{
+    send_code(0xB9);
+    any_commands(below(5));
+    if (one_in(4))
+        some_ticks();
+    if (!one_in(5))
+        send_well_formed(0xAB);
+    poll();
+}
+
+static void reset_scene(void)
+{
+    uint32_t at = address();
+
+    if (one_in(2)) {
+        write_enable();
+        ticks(below(send_change(at)));
+        if (one_in(3))
+            send_code(pick_byte(suspends, COUNT(suspends)));
+    }
+    send_code(0x66);
+    if (one_in(6))
+        any_commands(1);
+    if (one_in(6))
+        some_ticks();
+    send_code(0x99);
+    if (one_in(4))
+        send_code(0x99);
+    poll();
+    read_at(at);
+}
+
+static void identity_scene(void)
+{
+    send_well_formed(0x9F);
+    send_well_formed(0x90);
+    send_well_formed(0xAB);
+}
+
+/* ---- What drivers do wrong ---- */
+
+/* A command of the table with some bytes too few or too many. */
+static void wrong_length(void)
+{
+    well_formed(pick_byte(codes, COUNT(codes)));
+    if (one_in(2) && length > 1)
+        length = length > 4 && one_in(2) ? 4 : 1 + below(lesser(length - 1, 4));
+    else
+        add_any(between(1, 3));
+    send();
+}
+
+static void wrong_row(void)
+{
+    static const uint8_t row_codes[] = {0x68, 0x64, 0x62};
+    uint8_t code = pick_byte(row_codes, COUNT(row_codes));
+
+    write_enable();
+    start(code);
+    add_address(wrong_row_address());
+    if (code != 0x64)
+        add_any(1 + below(6));
+    send();
+}
+
+static void not_enabled(void)
+{
+    send_code(0x04);
+    send_well_formed(pick_byte(write_codes, COUNT(write_codes)));
+}
+
+/* While the part is busy with whatever a write command begins. */
+static void while_busy(void)
+{
+    write_enable();
+    send_well_formed(pick_byte(write_codes, COUNT(write_codes)));
+    any_commands(between(1, 6));
+    wait(between(1, 300));
+}
+
+static void unknown_code(void)
+{
+    start(any_byte());
+    if (!one_in(6))
+        add_any(some_length(5));
+    send();
+}
+
+static void any_miss(void)
+{
+    switch (below(8)) {
+    case 0:
+        wrong_row();
+        break;
+    case 1:
+        not_enabled();
+        break;
+    case 2:
+        while_busy();
+        break;
+    case 3:
+        unknown_code();
+        break;
+    default:
+        wrong_length();
+        break;
+    }
+}
+
+static void miss_scene(void)
+{
+    uint32_t count = between(1, 3);
+
+    for (; count > 0; count--)
+        any_miss();
+}
+
+static void strange_scene(void)
+{
+    uint32_t count = between(1, 4);
+
+    for (; count > 0; count--)
+        traffic_strange();
+}
+
+/* ---- The traffic ---- */
+
+struct scene {
+    void (*play)(void);
+    uint8_t weights[MOODS]; /* driving, guarding, rowing, pausing, stumbling */
+};
+
+static const struct scene scenes[] = {
+    {wake_and_reset, {6, 8, 6, 10, 14}},
+    {program_scene, {24, 12, 6, 8, 8}},
+    {erase_scene, {16, 8, 4, 6, 6}},
+    {chip_erase_scene, {3, 4, 2, 3, 3}},
+    {read_over_end, {4, 2, 2, 2, 2}},
+    {status_scene, {2, 6, 2, 1, 2}},
+    {function_scene, {2, 2, 5, 2, 2}},
+    {guard_scene, {2, 16, 2, 1, 2}},
+    {pin_scene, {1, 10, 1, 1, 1}},
+    {row_scene, {6, 4, 30, 3, 5}},
+    {suspend_scene, {6, 3, 3, 30, 5}},
+    {sleep_scene, {3, 3, 3, 5, 5}},
+    {reset_scene, {4, 4, 4, 8, 5}},
+    {identity_scene, {4, 1, 2, 2, 2}},
+    {miss_scene, {4, 6, 8, 6, 30}},
+    {strange_scene, {2, 2, 2, 2, 12}},
+    {some_ticks, {1, 1, 1, 2, 3}},
+};
+
+void play_scene(void)
+{
+    uint32_t all = 0, drawn;
+    size_t i;
+
+    for (i = 0; i < COUNT(scenes); i++)
+        all += scenes[i].weights[mood];
+    drawn = below(all);
+    for (i = 0; drawn >= scenes[i].weights[mood]; i++)
+        drawn -= scenes[i].weights[mood];
+    scenes[i].play();
+}
+
+static void choose_hot_pages(void)
+{
+    size_t i;
+
+    hot[0] = below(limits.blocks * BLOCK) & ~(PAGE - 1);
+    for (i = 1; i < HOT_PAGES; i++)
+        hot[i] = one_in(2) ? hot[0] ^ (PAGE << below(8)) : any_address() & ~(PAGE - 1);
+    if (one_in(3)) { /* reads run on from the last page to the first */
+        hot[1] = 0;
+        hot[2] = array_end() - PAGE;
+    }
+}
+
+void begin_chapter(void)
+{
+    mood = (enum mood)below(MOODS);
+    choose_hot_pages();
+    strange_one_in = mood == STUMBLING ? 5 : between(15, 60);
+    low_one_in = one_in(3) ? 3 : 20;
+}
+
+void allow_locks(uint8_t bits)
+{
+    locks = bits & 0xF0;
+}
+
+void begin_traffic(uint64_t seed, const struct limits *given)
+{
+    chance.state = seed;
+    limits = *given;
+    locks = 0;
+}
