@@ -1,5 +1,5 @@
 /* Yawlspar's reference model of the part on the bench, written from the specification 01-scope alone.
- * It shares no table, helper or header with any other code. */
+ * It shares no table, helper or header with the main model. */
 #ifndef REFERENCE_H
 #define REFERENCE_H
 

@@ -105,7 +105,7 @@ lineOf most l =
 abbrev pub digit : ℕ → ℕ
 digit v = 48 + v % 10
 
--- a number in decimal: the digit that counts d's where the number reaches d, and the last digit always
+-- a number below 100,000 in decimal: the digit that counts d's where the number reaches d, and the last digit always
 unfoldable pub leading : ℕ → ℕ → List ℕ
 leading d n = cond (leb d n) (digit (n / d) ∷ []) []
 
