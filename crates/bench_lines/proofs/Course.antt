@@ -14,7 +14,7 @@ use Rattle.bytes.specs.Bytes.{indexOf, indexAfter, slice}
 use Rattle.paper.specs.Erase.{erasedByte}
 use Rattle.paper.specs.Reads.{undriven, undrivenByte}
 use Rattle.paper.specs.Calls.{poweredUp, transacted, outputAfter}
-use Rattle.paper.specs.Bench.{LF, before, linesOf, lineOf, Board, boardOf, sentTo, drivenBy, benchIdentity, benchBoard, lineText, lineAfter, textOf, boardAfter}
+use Rattle.paper.specs.Bench.{LF, before, linesOf, lineOf, Board, boardOf, sentTo, drivenBy, afterSent, benchIdentity, benchBoard, lineText, lineAfter, textOf, boardAfter}
 use Rattle.words.proofs.Lists.{take-min, drop-min}
 use Rattle.bench_lines.specs.Printed.{Prints}
 use Rattle.bench_lines.proofs.Text.{prints-empty, prints-then, prints-length}
@@ -27,6 +27,10 @@ sent-as p xs rs wp i sent back back₁ back₂ a e n f g h =
     let m : length back₁ ≡ length i = ap length f ∙ length-replicate (length back) undrivenByte ∙ n ∙ ap length e in
     let k : back₁ ≡ undriven (length i) = f ∙ ap undriven (n ∙ ap length e) in
     (g ∙ rw (m, e), h ∙ rw (k, e))
+
+-- the part after it
+pub sent-board : (b : Board) (wp : Bool) (i : List ℕ) (p : Record) → p ≡ sentTo b wp i .next → boardOf p (b .array) (b .rows) ≡ afterSent b wp i
+sent-board b wp i p e = ap (λ (q : Record). boardOf q (b .array) (b .rows)) e
 
 -- the first line, and the lines after it
 next-as : (xs : List ℕ) (x : ℕ) (b : Bool) → eqb x LF ≡ b

@@ -7,21 +7,19 @@ use native.Mathlib.Omega.{arith}
 use lib.Dec.{leb, eqb}
 use lib.ListN.{length, take, drop, getD, length-append, length-drop, length-replicate}
 use lib.Seq.{sets-eq, take-at}
-use borrow.Author.Tests.{leb-true}
 use Rattle.types.specs.declared.Decoded.{Decoded}
 use Rattle.types.specs.declared.Decoded.the-variants.{Known, Unknown}
 use Rattle.types.specs.declared.Record.{Record}
+use Rattle.types.specs.declared.Line.{Line}
 use Rattle.types.specs.declared.Line.the-variants.{Transaction, Ticks, Neither}
-use Rattle.words.specs.Logic.{_and_}
-use Rattle.words.proofs.Tests.{and-l, and-r}
 use Rattle.words.proofs.Lists.{length-upTo}
 use Rattle.paper.specs.Numbers.{transactionRefusal, ignoredNumber}
 use Rattle.paper.specs.Table.{decoded, columns}
 use Rattle.paper.specs.Reads.{undrivenByte, undriven, outputByte, outputOf}
 use Rattle.paper.specs.Calls.{outputTo, outputAfter}
-use Rattle.paper.specs.Bench.{LF, letterT, letterL, letterK, before, linesOf, begins, pairs, numeralFrom, pairsOk, digitsOk, lineOf, leading, decimal, hexPairs, placeText, answerText, ticksText, otherText, Board, sentTo, drivenBy, sentText, waited, waitedText, lineText, lineAfter, textOf}
+use Rattle.paper.specs.Bench.{LF, before, linesOf, pairs, pairsOk, digitsOk, lineOf, leading, decimal, hexPairs, placeText, answerText, ticksText, otherText, Board, sentTo, drivenBy, sentText, waited, waitedText, lineText, lineAfter, textOf}
 use Rattle.bench_lines.specs.Printed.{Prints}
-use Rattle.bench_lines.proofs.Lines.{pairs-count}
+use Rattle.bench_lines.proofs.Lines.{digits-count, pairs-count, Says, line-says}
 
 -- a number has at most five digits
 if-some : (t : Bool) (x : ℕ) → length (cond t (x ∷ []) []) ≤ 1
@@ -109,10 +107,6 @@ taken-some : (l : List ℕ) → (1 ≤ taken l) × (length l ≤ taken l)
 taken-some [] = (omega arith, omega arith)
 taken-some (x ∷ l) = (omega arith, omega arith)
 
-digits-some : (xs : List ℕ) → digitsOk xs ≡ true → 1 ≤ length xs
-unfolding digitsOk
-digits-some xs e = leb-true 1 (length xs) (and-l _ _ e)
-
 module _ (most : ℕ) (l : List ℕ) (b : Board) where
   -- a line of pairs has at least four characters, one of digits at least three
   sent-fits : (wp : Bool) → pairsOk most (drop 2 l) ≡ true → length (sentText b wp (pairs (drop 2 l))) ≤ 4 * taken l
@@ -128,7 +122,7 @@ module _ (most : ℕ) (l : List ℕ) (b : Board) where
   waited-fits : (n : ℕ) → digitsOk (drop 2 l) ≡ true → length (waitedText b n) ≤ 4 * taken l
   waited-fits n e =
       let a = ticks-fit (waited b n .number) (waited b n .done) in
-      let c = digits-some (drop 2 l) e in
+      let c = digits-count (drop 2 l) e .0 in
       let d : length (drop 2 l) ≡ length l - 2 = length-drop 2 l in
       let t = taken-some l .1 in
       omega arith
@@ -137,17 +131,14 @@ module _ (most : ℕ) (l : List ℕ) (b : Board) where
   unfolding otherText
   other-fits = let t = taken-some l .0 in omega arith
 
-  said-fits : (n : ℕ) (t u v : Bool) → (begins letterT l and pairsOk most (drop 2 l)) ≡ t → (begins letterL l and pairsOk most (drop 2 l)) ≡ u → (begins letterK l and digitsOk (drop 2 l)) ≡ v
-      → length (lineText (cond t (Transaction true) (cond u (Transaction false) (cond v (Ticks n) Neither))) l b) ≤ 4 * taken l
-  said-fits n true u v e f g = sent-fits true (and-r _ _ e)
-  said-fits n false true v e f g = sent-fits false (and-r _ _ f)
-  said-fits n false false true e f g = waited-fits n (and-r _ _ g)
-  said-fits n false false false e f g = other-fits
+  said-fits : (d : Line) → Says most l d → length (lineText d l b) ≤ 4 * taken l
+  said-fits (Transaction wp) e = sent-fits wp e
+  said-fits (Ticks n) e = waited-fits n e
+  said-fits Neither e = other-fits
 
   -- a line prints at most four times what it takes
   line-fits : length (lineText (lineOf most l) l b) ≤ 4 * taken l
-  unfolding lineOf
-  line-fits = said-fits (numeralFrom 0 (drop 2 l)) _ _ _ refl refl refl
+  line-fits = said-fits (lineOf most l) (line-says most l)
 
 -- the characters that lines take, which the input has
 abbrev takenBy : List (List ℕ) → ℕ

@@ -28,13 +28,13 @@ numeral-more xs n i h = rw (drop-cons xs i 0 h)
 pub numeral-end : (xs : List ℕ) (n i : ℕ) → length xs ≤ i → numeralFrom n (drop i xs) ≡ n
 numeral-end xs n i h = rw (drop-of-length-le xs h)
 
--- one pair more
-pub pairs-more : (xs bs : List ℕ) (i : ℕ) → i < length bs → 2 * i + 1 < length xs
-    → take i bs ++ pairs (drop (2 * i) xs) ≡ take (suc i) (set bs i (16 * hexValue (getD xs (2 * i) 0) + hexValue (getD xs (2 * i + 1) 0))) ++ pairs (drop (2 * suc i) xs)
+-- one pair more, after two characters
+pub pairs-more : (xs bs : List ℕ) (i : ℕ) → i < length bs → 2 * i + 3 < length xs
+    → take i bs ++ pairs (drop (2 * i + 2) xs) ≡ take (suc i) (set bs i (16 * hexValue (getD xs (2 * i + 2) 0) + hexValue (getD xs (2 * i + 3) 0))) ++ pairs (drop (2 * suc i + 2) xs)
 pairs-more xs bs i h k =
-    let e : suc (2 * i) ≡ 2 * i + 1 = omega arith in
-    let f : 2 * suc i ≡ suc (2 * i + 1) = omega arith in
-    rw (drop-cons xs (2 * i) 0 (omega arith), e, drop-cons xs (2 * i + 1) 0 k, f, take-suc-set bs i (16 * hexValue (getD xs (2 * i) 0) + hexValue (getD xs (2 * i + 1) 0)) h, append-assoc)
+    let e : suc (2 * i + 2) ≡ 2 * i + 3 = omega arith in
+    let f : 2 * suc i + 2 ≡ suc (2 * i + 3) = omega arith in
+    rw (drop-cons xs (2 * i + 2) 0 (omega arith), e, drop-cons xs (2 * i + 3) 0 k, f, take-suc-set bs i (16 * hexValue (getD xs (2 * i + 2) 0) + hexValue (getD xs (2 * i + 3) 0)) h, append-assoc)
 
-pub pairs-end : (xs bs : List ℕ) (i : ℕ) → length bs ≤ i → length xs ≤ 2 * i → take i bs ++ pairs (drop (2 * i) xs) ≡ bs
+pub pairs-end : (xs bs : List ℕ) (i : ℕ) → length bs ≤ i → length xs ≤ 2 * i + 2 → take i bs ++ pairs (drop (2 * i + 2) xs) ≡ bs
 pairs-end xs bs i h k = rw (drop-of-length-le xs k, append-nil, take-all i bs h)

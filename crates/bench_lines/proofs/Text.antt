@@ -2,7 +2,7 @@
 use Prim.Native.Nat.{ℕ, zero, suc, _+_, _/_, _%_, _≤_, _<_, min}
 use mathlib.Core.Path.{_≡_, refl, sym, ap, _∙_}
 use mathlib.Core.Bool.{Bool, true, false}
-use mathlib.Core.List.{List, [], _∷_, _++_}
+use mathlib.Core.List.{List, [], _∷_, _++_, append-assoc}
 use native.Mathlib.Omega.{arith}
 use native.Mathlib.Nat.{add-zero}
 use lib.Dec.{leb}
@@ -60,8 +60,12 @@ prints-then {o} {t} {o₁} {u} {o₂} {at} {at₁} {at₂} p q =
     let v : sets o₁ (at + length t) u ≡ sets o at (t ++ u) = rw (p .written) (sym (sets-append o at t u)) in
     record { written = q .written ∙ s ∙ v; place = omega arith }
 
+-- a text, and then two of which the first belongs to it
+pub prints-join : {o t o₁ o₂ : List ℕ} {at at₁ at₂ : ℕ} (u v : List ℕ) → Prints o at t o₁ at₁ → Prints o₁ at₁ (u ++ v) o₂ at₂ → Prints o at (t ++ u ++ v) o₂ at₂
+prints-join {t} u v p q = rw (append-assoc t u v) (prints-then p q)
+
 -- one byte more, as a pair
-pub pair-more : (xs : List ℕ) (i : ℕ) → i < length xs → hexPairs (take i xs) ++ (hexDigit (getD xs i 0 / 16) ∷ []) ++ (hexDigit (getD xs i 0 % 16) ∷ []) ≡ hexPairs (take (suc i) xs)
+pub pair-more : (xs : List ℕ) (i : ℕ) → i < length xs → hexPairs (take i xs) ++ (hexDigit (getD xs i 0 / 16) ∷ hexDigit (getD xs i 0 % 16) ∷ []) ≡ hexPairs (take (suc i) xs)
 pair-more [] i h = absurd (omega arith)
 pair-more (x ∷ xs) zero h = refl
 pair-more (x ∷ xs) (suc i) h = ap (λ (t : List ℕ). hexDigit (x / 16) ∷ hexDigit (x % 16) ∷ t) (pair-more xs i (omega arith))

@@ -1,11 +1,12 @@
 // The lines of the program bench: what a line says, what it does with the part, and what is printed for it.
 ghost use mathlib.Core.Path.{_≡_};
-ghost use mathlib.Core.List.{[], _∷_};
+ghost use mathlib.Core.List.{[], _∷_, _++_};
 ghost use Prim.Native.Nat.{_+_, _*_, _≤_, _<_, _/_, _%_, min};
 ghost use lib.ListN.{length, drop};
 ghost use Rattle.paper.specs.Sizes.{transactionLimit};
 ghost use Rattle.words.specs.Lists.{every};
-ghost use Rattle.paper.specs.Bench.{isDigit, isHex, digitValue, hexValue, hexDigit, pairs, numeralFrom, begins, pairsOk, digitsOk, lineOf, leading, decimal, hexPairs, placeText, answerText, ticksText, otherText, boardOf, sentTo, sentText, waitedText, afterTicks, lineText, lineAfter, linesOf, textOf, boardAfter, benchBoard, benchText, benchAfter};
+ghost use Rattle.paper.specs.Bench.{space, isDigit, isHex, digitValue, hexValue, hexDigit, pairs, numeralFrom, begins, pairsOk, digitsOk, lineOf, leading, decimal, hexPairs, placeText, answerText, ticksText, boardOf, sentTo, sentText, waitedText, afterTicks, lineText, lineAfter, linesOf, textOf, boardAfter, benchBoard, benchText, benchAfter};
+ghost use Rattle.bench_lines.specs.Characters.{isFigure};
 ghost use Rattle.bench_lines.specs.Printed.{Prints};
 use types::Identity;
 use types::Line;
@@ -28,25 +29,20 @@ fn is_hex(x: u8) -> bool
     words::either(digit, words::both(low, high))
 }
 
-fn all_digits(text: &[u8]) -> bool
-    ensures { λ r. ⌜ r ≡ every isDigit (now (text .entry)) ⌝ }
+// A hex digit, or a decimal one.
+fn is_figure(hex: bool, x: u8) -> bool
+    ensures { λ r. ⌜ r ≡ isFigure hex x ⌝ }
 {
-    let mut all = true;
-    let mut i = 0;
-    while i < text.len() {
-        all = words::both(all, is_digit(text[i]));
-        i += 1;
-    }
-    all
+    if hex { is_hex(x) } else { is_digit(x) }
 }
 
-fn all_hex(text: &[u8]) -> bool
-    ensures { λ r. ⌜ r ≡ every isHex (now (text .entry)) ⌝ }
+fn all_figures(hex: bool, text: &[u8]) -> bool
+    ensures { λ r. ⌜ r ≡ every (isFigure hex) (now (text .entry)) ⌝ }
 {
     let mut all = true;
     let mut i = 0;
     while i < text.len() {
-        all = words::both(all, is_hex(text[i]));
+        all = words::both(all, is_figure(hex, text[i]));
         i += 1;
     }
     all
@@ -90,15 +86,15 @@ fn number_of(text: &[u8]) -> usize
     n
 }
 
-// The bytes that hex pairs are.
-fn bytes_of(text: &[u8], bytes: &mut [u8])
-    requires { ⌜ length (now text) ≡ 2 * length (now bytes) ⌝ }
-    ensures { λ _. ⌜ now (bytes .exit) ≡ pairs (now (text .entry)) ⌝ }
+// The bytes that the hex pairs of a line are, which follow two characters.
+fn bytes_of(line: &[u8], bytes: &mut [u8])
+    requires { ⌜ length (now line) ≡ 2 * length (now bytes) + 2 ⌝ }
+    ensures { λ _. ⌜ now (bytes .exit) ≡ pairs (drop 2 (now (line .entry))) ⌝ }
 {
     let mut i = 0;
     while i < bytes.len() {
-        let high = hex_value(text[2 * i]);
-        let low = hex_value(text[2 * i + 1]);
+        let high = hex_value(line[2 * i + 2]);
+        let low = hex_value(line[2 * i + 3]);
         bytes[i] = 16 * high + low;
         i += 1;
     }
@@ -121,7 +117,7 @@ fn pairs_ok(most: usize, text: &[u8]) -> bool
     let even = n % 2 == 0;
     let some = 2 <= n;
     let few = n <= 2 * most;
-    let hex = all_hex(text);
+    let hex = all_figures(true, text);
     words::both(even, words::both(some, words::both(few, hex)))
 }
 
@@ -131,7 +127,7 @@ fn digits_ok(text: &[u8]) -> bool
     let n = text.len();
     let some = 1 <= n;
     let few = n <= 5;
-    let digits = all_digits(text);
+    let digits = all_figures(false, text);
     words::both(some, words::both(few, digits))
 }
 
@@ -178,15 +174,23 @@ fn put_leading(output: &mut [u8], at: usize, d: usize, n: usize) -> usize
     words::lesser(output.len(), at)
 }
 
-// A number in decimal.
-fn put_decimal(output: &mut [u8], at: usize, n: usize) -> usize
-    ensures { λ r. ⌜ Prints (now (output .entry)) at (decimal n) (now (output .exit)) r ⌝ }
+// Two characters.
+fn put_two(output: &mut [u8], at: usize, first: u8, second: u8) -> usize
+    ensures { λ r. ⌜ Prints (now (output .entry)) at (first ∷ second ∷ []) (now (output .exit)) r ⌝ }
+{
+    let a = put(output, at, first);
+    put(output, a, second)
+}
+
+// A number in decimal, and a character after it.
+fn put_decimal(output: &mut [u8], at: usize, n: usize, then: u8) -> usize
+    ensures { λ r. ⌜ Prints (now (output .entry)) at (decimal n ++ (then ∷ [])) (now (output .exit)) r ⌝ }
 {
     let a = put_leading(output, at, 10000, n);
     let b = put_leading(output, a, 1000, n);
     let c = put_leading(output, b, 100, n);
     let d = put_leading(output, c, 10, n);
-    put(output, d, 48 + (n % 10) as u8)
+    put_two(output, d, 48 + (n % 10) as u8, then)
 }
 
 fn hex_digit(value: u8) -> u8
@@ -203,51 +207,40 @@ fn put_pairs(output: &mut [u8], at: usize, bytes: &[u8]) -> usize
     let mut place = words::lesser(output.len(), at);
     let mut i = 0;
     while i < bytes.len() {
-        let next = put(output, place, hex_digit(bytes[i] / 16));
-        place = put(output, next, hex_digit(bytes[i] % 16));
+        let high = hex_digit(bytes[i] / 16);
+        let low = hex_digit(bytes[i] % 16);
+        place = put_two(output, place, high, low);
         i += 1;
     }
     place
 }
 
-// The first driven place of an output of n bytes, or a dash.
+// The first driven place of an output of n bytes, or a dash, and a space after it.
 fn put_place(output: &mut [u8], at: usize, first: usize, n: usize) -> usize
-    ensures { λ r. ⌜ Prints (now (output .entry)) at (placeText first n) (now (output .exit)) r ⌝ }
+    ensures { λ r. ⌜ Prints (now (output .entry)) at (placeText first n ++ (space ∷ [])) (now (output .exit)) r ⌝ }
 {
     if first == n {
-        return put(output, at, b'-');
+        return put_two(output, at, b'-', b' ');
     }
-    put_decimal(output, at, first)
+    put_decimal(output, at, first, b' ')
 }
 
 // What is printed for a transaction.
 fn put_answer(output: &mut [u8], at: usize, number: u8, first: usize, bytes: &[u8]) -> usize
     ensures { λ r. ⌜ Prints (now (output .entry)) at (answerText number first (now (bytes .entry))) (now (output .exit)) r ⌝ }
 {
-    let a = put_decimal(output, at, number as usize);
-    let b = put(output, a, b' ');
-    let c = put_place(output, b, first, bytes.len());
-    let d = put(output, c, b' ');
-    let e = put_pairs(output, d, bytes);
-    put(output, e, b'\n')
+    let a = put_decimal(output, at, number as usize, b' ');
+    let b = put_place(output, a, first, bytes.len());
+    let c = put_pairs(output, b, bytes);
+    put(output, c, b'\n')
 }
 
 // What is printed for ticks.
 fn put_ticks(output: &mut [u8], at: usize, number: u8, done: usize) -> usize
     ensures { λ r. ⌜ Prints (now (output .entry)) at (ticksText number done) (now (output .exit)) r ⌝ }
 {
-    let a = put_decimal(output, at, number as usize);
-    let b = put(output, a, b' ');
-    let c = put_decimal(output, b, done);
-    put(output, c, b'\n')
-}
-
-// What is printed for any other line.
-fn put_other(output: &mut [u8], at: usize) -> usize
-    ensures { λ r. ⌜ Prints (now (output .entry)) at otherText (now (output .exit)) r ⌝ }
-{
-    let a = put(output, at, b'?');
-    put(output, a, b'\n')
+    let a = put_decimal(output, at, number as usize, b' ');
+    put_decimal(output, a, done, b'\n')
 }
 
 // What lines leave: the record, and the place after what was printed.
@@ -256,23 +249,23 @@ pub struct Ran {
     pub printed: usize,
 }
 
-// A transaction of the bytes that hex pairs are. What was sent and what was driven are lent room.
+// A line that is a transaction. The bytes that are sent and those that are driven are lent room.
 fn send(
     part: Record,
     array: &[u8],
     rows: &[u8],
     wp: bool,
-    text: &[u8],
+    line: &[u8],
     sent: &mut [u8],
     back: &mut [u8],
     output: &mut [u8],
     at: usize,
 ) -> Ran
-    requires { ⌜ (length (now text) ≡ 2 * length (now sent)) × (length (now back) ≡ length (now sent)) ⌝ }
-    ensures next { λ r. ⌜ r .next ≡ sentTo (boardOf part (now (array .entry)) (now (rows .entry))) wp (pairs (now (text .entry))) .next ⌝ }
-    ensures output { λ r. ⌜ Prints (now (output .entry)) at (sentText (boardOf part (now (array .entry)) (now (rows .entry))) wp (pairs (now (text .entry)))) (now (output .exit)) (r .printed) ⌝ }
+    requires { ⌜ (length (now line) ≡ 2 * length (now sent) + 2) × (length (now back) ≡ length (now sent)) ⌝ }
+    ensures next { λ r. ⌜ r .next ≡ sentTo (boardOf part (now (array .entry)) (now (rows .entry))) wp (pairs (drop 2 (now (line .entry)))) .next ⌝ }
+    ensures output { λ r. ⌜ Prints (now (output .entry)) at (sentText (boardOf part (now (array .entry)) (now (rows .entry))) wp (pairs (drop 2 (now (line .entry))))) (now (output .exit)) (r .printed) ⌝ }
 {
-    bytes_of(text, sent);
+    bytes_of(line, sent);
     runs::blank(back);
     let answer = transact::transact(part, array, rows, wp, sent, back);
     let next = answer.next;
@@ -304,36 +297,6 @@ fn wait(
     }
 }
 
-// A line that is a transaction: the pairs follow two characters.
-fn send_line(
-    part: Record,
-    array: &[u8],
-    rows: &[u8],
-    wp: bool,
-    line: &[u8],
-    sent: &mut [u8],
-    back: &mut [u8],
-    output: &mut [u8],
-    at: usize,
-) -> Ran
-    requires { ⌜ (length (now line) % 2 ≡ 0) × (2 ≤ length (now line)) × (length (now line) ≤ 2 * length (now sent) + 2) × (length (now line) ≤ 2 * length (now back) + 2) ⌝ }
-    ensures next { λ r. ⌜ r .next ≡ sentTo (boardOf part (now (array .entry)) (now (rows .entry))) wp (pairs (drop 2 (now (line .entry)))) .next ⌝ }
-    ensures output { λ r. ⌜ Prints (now (output .entry)) at (sentText (boardOf part (now (array .entry)) (now (rows .entry))) wp (pairs (drop 2 (now (line .entry))))) (now (output .exit)) (r .printed) ⌝ }
-{
-    let n = line.len() / 2 - 1;
-    send(
-        part,
-        array,
-        rows,
-        wp,
-        &line[2..],
-        &mut sent[0..n],
-        &mut back[0..n],
-        output,
-        at,
-    )
-}
-
 // One line.
 fn run_line(
     part: Record,
@@ -352,10 +315,23 @@ fn run_line(
 {
     let said = line_of(most, line);
     match said {
-        Line::Transaction(wp) => send_line(part, array, rows, wp, line, sent, back, output, at),
+        Line::Transaction(wp) => {
+            let n = line.len() / 2 - 1;
+            send(
+                part,
+                array,
+                rows,
+                wp,
+                line,
+                &mut sent[0..n],
+                &mut back[0..n],
+                output,
+                at,
+            )
+        }
         Line::Ticks(ticks) => wait(part, array, rows, ticks, output, at),
         Line::Neither => {
-            let printed = put_other(output, at);
+            let printed = put_two(output, at, b'?', b'\n');
             Ran {
                 next: part,
                 printed: printed,
@@ -392,35 +368,32 @@ pub fn run(
     ensures output { λ r. ⌜ Prints (now (output .entry)) 0 (textOf (min most transactionLimit) (linesOf (now (input .entry))) (boardOf part (now (array .entry)) (now (rows .entry)))) (now (output .exit)) (r .printed) ⌝ }
 {
     let few = words::lesser(most, 4096);
-    let mut sent_room = room();
-    let sent: &mut [u8] = &mut sent_room;
-    let mut back_room = room();
-    let back: &mut [u8] = &mut back_room;
-    let mut next = part;
-    let mut printed = 0;
+    let mut sent = room();
+    let mut back = room();
+    let mut ran = Ran {
+        next: part,
+        printed: 0,
+    };
+    let n = input.len();
     let mut from = 0;
-    while from < input.len() {
-        let end = bytes::scan::find(input, from, input.len(), b'\n');
-        let ran = run_line(
+    while from < n {
+        let end = bytes::scan::find(input, from, n, b'\n');
+        let next = ran.next;
+        let at = ran.printed;
+        ran = run_line(
             next,
             array,
             rows,
             few,
             &input[from..end],
-            sent,
-            back,
+            &mut sent,
+            &mut back,
             output,
-            printed,
+            at,
         );
-        let then = ran.next;
-        next = then;
-        printed = ran.printed;
-        from = after(end, input.len());
+        from = after(end, n);
     }
-    Ran {
-        next: next,
-        printed: printed,
-    }
+    ran
 }
 
 // A part of so many blocks on the bench, with its array and rows set to FFh, and all lines of an input on it. It

@@ -15,7 +15,7 @@ both-requires c κs = search needs
 
 returns : tie.Need-returns
 unfolding begins
-returns c = cc
+returns c = rw (c .both .ensures, c .before .byte-at2 .ensures, c .before .before .byte-at .ensures)
 
 pub begins-with-spec : {M : Type 1} → statement M
 begins-with-spec = tie.close (tie.spec byte-at-requires byte-at-requires-2 both-requires returns)

@@ -4,8 +4,8 @@ use borrow.Author.Needs.{needs}
 use Rattle.bench_lines.proofs.digits_ok.Statement.{statement}
 use Rattle.bench_lines.proofs.digits_ok.Tie as tie
 
-all-digits-requires : tie.Need-all-digits-requires
-all-digits-requires c κs = search needs
+all-figures-requires : tie.Need-all-figures-requires
+all-figures-requires c κs = search needs
 
 both-requires : tie.Need-both-requires
 both-requires c κs = search needs
@@ -15,7 +15,7 @@ both-requires-2 c κs = search needs
 
 returns : tie.Need-returns
 unfolding digitsOk
-returns c = cc
+returns c = rw (c .both2 .ensures, c .before .both .ensures, c .before .before .all-figures .ensures)
 
 pub digits-ok-spec : {M : Type 1} → statement M
-digits-ok-spec = tie.close (tie.spec all-digits-requires both-requires both-requires-2 returns)
+digits-ok-spec = tie.close (tie.spec all-figures-requires both-requires both-requires-2 returns)

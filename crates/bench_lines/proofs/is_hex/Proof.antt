@@ -15,7 +15,7 @@ either-requires c κs = search needs
 
 returns : tie.Need-returns
 unfolding isHex
-returns c = cc
+returns c = rw (c .either .ensures, c .before .both .ensures, c .before .before .is-digit .ensures)
 
 pub is-hex-spec : {M : Type 1} → statement M
 is-hex-spec = tie.close (tie.spec is-digit-requires both-requires either-requires returns)

@@ -1,5 +1,5 @@
 -- `bench_lines::line_of` meets its contract: each test is one of the definition's, on what follows the first two characters.
-use Rattle.bench_lines.proofs.Lines.{rest-is, digits-few, said}
+use Rattle.bench_lines.proofs.Lines.{rest-is, digits-count, said}
 use Rattle.paper.specs.Bench.{lineOf, begins, pairsOk, digitsOk, letterT, letterL, letterK}
 use Rattle.words.proofs.Tests.{and-r}
 use mathlib.Core.Bool.{true, false}
@@ -72,7 +72,7 @@ number-of-requires c κs =
     let most = d .before .before .before .before .before .before .before .args .most in
     let e = rest-is l (d .before .before .before .before .before .lesser .result) (d .before .before .before .before .before .lesser .ensures) in
     let k = said digitsOk (begins letterK l) _ _ _ true _ _ e (c .before .both3 .ensures) (c .before .before .before .begins-with3 .ensures) (c .before .before .digits-ok .ensures) (c .if3 .taken) in
-    rw e (digits-few _ (and-r _ _ k))
+    rw e (digits-count _ (and-r _ _ k) .1)
 
 returns-3 : tie.Need-returns-3
 unfolding lineOf

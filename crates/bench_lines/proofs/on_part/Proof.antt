@@ -2,7 +2,7 @@
 use Rattle.bench_lines.proofs.Course.{bench-board}
 use Rattle.paper.specs.Bench.{Board}
 use lib.ListN.{length}
-use mathlib.Core.Path.{ap}
+use mathlib.Core.Path.{ap, _∙_}
 use denote.Ref.{now}
 use borrow.Author.Needs.{needs}
 use Rattle.bench_lines.proofs.on_part.Statement.{statement}
@@ -21,13 +21,13 @@ run-requires : tie.Need-run-requires
 run-requires c κs = search needs
 
 same-length : tie.Need-same-length
-same-length c = search needs
+same-length c = c .before .before .before .before .before .array2 .given ∙ c .before .before .before .before .before .before .before .before .before .before .before .before .before .before .before .before .before .array .given
 
 same-length-2 : tie.Need-same-length-2
-same-length-2 c = search needs
+same-length-2 c = c .before .before .before .rows2 .given ∙ c .before .before .before .before .before .before .before .before .before .before .before .before .before .rows .given
 
 same-length-3 : tie.Need-same-length-3
-same-length-3 c = search needs
+same-length-3 c = c .before .output .given
 
 returns : tie.Need-returns
 returns c =

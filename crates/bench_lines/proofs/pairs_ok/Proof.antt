@@ -7,8 +7,8 @@ use Rattle.bench_lines.proofs.pairs_ok.Tie as tie
 mul-few : tie.Need-mul-few
 mul-few c = search needs
 
-all-hex-requires : tie.Need-all-hex-requires
-all-hex-requires c κs = search needs
+all-figures-requires : tie.Need-all-figures-requires
+all-figures-requires c κs = search needs
 
 both-requires : tie.Need-both-requires
 both-requires c κs = search needs
@@ -21,9 +21,9 @@ both-requires-3 c κs = search needs
 
 returns : tie.Need-returns
 unfolding pairsOk
-returns c = cc
+returns c = rw (c .both3 .ensures, c .before .both2 .ensures, c .before .before .both .ensures, c .before .before .before .all-figures .ensures)
 
 pub pairs-ok-spec : {M : Type 1} → statement M
 pairs-ok-spec =
     tie.close
-    (tie.spec mul-few all-hex-requires both-requires both-requires-2 both-requires-3 returns)
+    (tie.spec mul-few all-figures-requires both-requires both-requires-2 both-requires-3 returns)

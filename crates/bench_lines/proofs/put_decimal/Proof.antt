@@ -1,6 +1,8 @@
 -- `bench_lines::put_decimal` meets its contract: the digits are printed one after another.
 use Rattle.paper.specs.Bench.{decimal}
-use Rattle.bench_lines.proofs.Text.{prints-then}
+use Rattle.bench_lines.proofs.Text.{prints-then, prints-join}
+use Prim.Native.Nat.{_+_, _%_}
+use mathlib.Core.List.{[], _∷_}
 use borrow.Author.Needs.{needs}
 use Rattle.bench_lines.proofs.put_decimal.Statement.{statement}
 use Rattle.bench_lines.proofs.put_decimal.Tie as tie
@@ -17,14 +19,14 @@ put-leading-requires-3 c κs = search needs
 put-leading-requires-4 : tie.Need-put-leading-requires-4
 put-leading-requires-4 c κs = search needs
 
-cast-put : tie.Need-cast-put
-cast-put c = search needs
+cast-put-two : tie.Need-cast-put-two
+cast-put-two c = search needs
 
-add-put : tie.Need-add-put
-add-put c = search needs
+add-put-two : tie.Need-add-put-two
+add-put-two c = search needs
 
-put-requires : tie.Need-put-requires
-put-requires c κs = search needs
+put-two-requires : tie.Need-put-two-requires
+put-two-requires c κs = search needs
 
 same-length : tie.Need-same-length
 same-length c = search needs
@@ -32,7 +34,8 @@ same-length c = search needs
 returns : tie.Need-returns
 unfolding decimal
 returns c =
-    prints-then (prints-then (prints-then (prints-then (c .before .before .before .before .before .before .before .before .before .before .before .before .before .before .before .before .before .before .put-leading .ensures) (c .before .before .before .before .before .before .before .before .before .before .before .before .before .before .put-leading2 .ensures)) (c .before .before .before .before .before .before .before .before .before .before .put-leading3 .ensures)) (c .before .before .before .before .before .before .put-leading4 .ensures)) (c .before .before .put .ensures)
+    let a = c .before .before .before .before .before .before .before .before .before .before .before .before .before .before .before .before .before .before .before .before .before .args in
+    prints-join ((48 + a .n % 10) ∷ []) (a .then ∷ []) (prints-then (prints-then (prints-then (c .before .before .before .before .before .before .before .before .before .before .before .before .before .before .before .before .before .before .put-leading .ensures) (c .before .before .before .before .before .before .before .before .before .before .before .before .before .before .put-leading2 .ensures)) (c .before .before .before .before .before .before .before .before .before .before .put-leading3 .ensures)) (c .before .before .before .before .before .before .put-leading4 .ensures)) (c .before .before .put-two .ensures)
 
 pub put-decimal-spec : {M : Type 1} → statement M
 put-decimal-spec =
@@ -42,8 +45,8 @@ put-decimal-spec =
     put-leading-requires-2
     put-leading-requires-3
     put-leading-requires-4
-    cast-put
-    add-put
-    put-requires
+    cast-put-two
+    add-put-two
+    put-two-requires
     same-length
     returns)

@@ -28,10 +28,7 @@ shared-slice-read-hex-digit : tie.Need-shared-slice-read-hex-digit Inv-loop μ-l
 shared-slice-read-hex-digit c = search needs
 
 hex-digit-requires : tie.Need-hex-digit-requires Inv-loop μ-loop
-hex-digit-requires c κs = omega (arith, c .shared-slice-known2 .given (c .before .before .before .loop .i))
-
-put-requires : tie.Need-put-requires Inv-loop μ-loop
-put-requires c κs = search needs
+hex-digit-requires c κs = omega (arith, c .shared-slice-known2 .given (c .before .before .loop .i))
 
 shared-slice-read-hex-digit-2 : tie.Need-shared-slice-read-hex-digit-2 Inv-loop μ-loop
 shared-slice-read-hex-digit-2 c = search needs
@@ -39,8 +36,8 @@ shared-slice-read-hex-digit-2 c = search needs
 hex-digit-requires-2 : tie.Need-hex-digit-requires-2 Inv-loop μ-loop
 hex-digit-requires-2 c κs = omega arith
 
-put-requires-2 : tie.Need-put-requires-2 Inv-loop μ-loop
-put-requires-2 c κs = search needs
+put-two-requires : tie.Need-put-two-requires Inv-loop μ-loop
+put-two-requires c κs = search needs
 
 add-i : tie.Need-add-i Inv-loop μ-loop
 add-i c = search needs
@@ -50,9 +47,9 @@ loop-less c = search needs
 
 loop-again : tie.Need-loop-again Inv-loop μ-loop
 loop-again c =
-    let l = c .before .before .before .before .before .before .before .before .before .before .before .before .before .loop in
-    let xs = now (c .before .before .before .before .before .before .before .before .before .before .before .before .before .before .before .before .before .args .bytes) in
-    rw (add-one, ← pair-more xs (l .i) (c .before .before .before .before .before .before .before .before .before .before .before .before .loop-test .taken), ← c .before .before .before .before .before .before .before .before .before .hex-digit .ensures, ← c .before .before .before .hex-digit2 .ensures) (prints-then (prints-then (l .inv) (c .before .before .before .before .before .before .before .before .put .ensures)) (c .before .before .put2 .ensures))
+    let l = c .before .before .before .before .before .before .before .before .before .loop in
+    let xs = now (c .before .before .before .before .before .before .before .before .before .before .before .before .before .args .bytes) in
+    rw (add-one, ← pair-more xs (l .i) (c .before .before .before .before .before .before .before .before .loop-test .taken), ← c .before .before .before .before .before .before .hex-digit .ensures, ← c .before .before .before .before .hex-digit2 .ensures) (prints-then (l .inv) (c .before .before .put-two .ensures))
 
 same-length : tie.Need-same-length Inv-loop μ-loop
 same-length c = prints-length (c .before .loop .inv)
@@ -73,10 +70,9 @@ put-pairs-spec =
     loop-holds
     shared-slice-read-hex-digit
     hex-digit-requires
-    put-requires
     shared-slice-read-hex-digit-2
     hex-digit-requires-2
-    put-requires-2
+    put-two-requires
     add-i
     loop-less
     loop-again

@@ -6,8 +6,8 @@ use native.Mathlib.Omega.{arith}
 use Rattle.bench_lines.proofs.put_place.Statement.{statement}
 use Rattle.bench_lines.proofs.put_place.Tie as tie
 
-put-requires : tie.Need-put-requires
-put-requires c κs = search needs
+put-two-requires : tie.Need-put-two-requires
+put-two-requires c κs = search needs
 
 same-length : tie.Need-same-length
 same-length c = search needs
@@ -16,7 +16,7 @@ returns : tie.Need-returns
 unfolding placeText
 returns c =
     let a = c .before .before .before .before .before .before .args in
-    rw (eq-eqb (a .first) (a .n) (omega arith)) (c .before .before .put .ensures)
+    rw (eq-eqb (a .first) (a .n) (omega arith)) (c .before .before .put-two .ensures)
 
 put-decimal-requires : tie.Need-put-decimal-requires
 put-decimal-requires c κs = search needs
@@ -33,4 +33,4 @@ returns-2 c =
 pub put-place-spec : {M : Type 1} → statement M
 put-place-spec =
     tie.close
-    (tie.spec put-requires same-length returns put-decimal-requires same-length-2 returns-2)
+    (tie.spec put-two-requires same-length returns put-decimal-requires same-length-2 returns-2)

@@ -2,7 +2,7 @@
 use Rattle.bench_lines.proofs.Course.{Goes, goes-start, goes-on, goes-end, line-end}
 use Rattle.paper.specs.Bench.{boardOf}
 use lib.ListN.{length}
-use mathlib.Core.Path.{_≡_, refl, _∙_}
+use mathlib.Core.Path.{_≡_, refl, sym, _∙_}
 use Prim.Native.Nat.{_-_}
 use denote.Ref.{now}
 use borrow.Author.Needs.{needs}
@@ -11,11 +11,11 @@ use Rattle.bench_lines.proofs.run.Statement.{statement}
 use Rattle.bench_lines.proofs.run.Tie as tie
 
 abbrev Inv-loop : tie.InvT-loop
-Inv-loop array₀ rows₀ most input output₀ few sent₀ back₀ next₀ printed₀ from₀ array rows output sent back next printed from =
-    Goes few input (boardOf next₀ array₀ rows₀) output₀ from (boardOf next array rows) output printed × (length array ≡ length array₀) × (length rows ≡ length rows₀) × (length sent ≡ length sent₀) × (length back ≡ length back₀)
+Inv-loop array₀ rows₀ most input output₀ few sent₀ back₀ ran₀ n from₀ array rows output sent back ran from =
+    Goes few input (boardOf (ran₀ .next) array₀ rows₀) output₀ from (boardOf (ran .next) array rows) output (ran .printed) × (length array ≡ length array₀) × (length rows ≡ length rows₀) × (length sent ≡ 4096) × (length back ≡ 4096)
 
 abbrev μ-loop : tie.MeasureT-loop
-μ-loop array₀ rows₀ most input output₀ few sent₀ back₀ next₀ printed₀ from₀ array rows output sent back next printed from =
+μ-loop array₀ rows₀ most input output₀ few sent₀ back₀ ran₀ n from₀ array rows output sent back ran from =
     length input - from
 
 lesser-requires : tie.Need-lesser-requires Inv-loop μ-loop
@@ -24,17 +24,11 @@ lesser-requires c κs = search needs
 room-requires : tie.Need-room-requires Inv-loop μ-loop
 room-requires c κs = search needs
 
-slice-aggregate-sent : tie.Need-slice-aggregate-sent Inv-loop μ-loop
-slice-aggregate-sent c = search needs
-
 room-requires-2 : tie.Need-room-requires-2 Inv-loop μ-loop
 room-requires-2 c κs = search needs
 
-slice-aggregate-back : tie.Need-slice-aggregate-back Inv-loop μ-loop
-slice-aggregate-back c = search needs
-
 loop-holds : tie.Need-loop-holds Inv-loop μ-loop
-loop-holds c = (goes-start _ _ _ _, refl, refl, refl, refl)
+loop-holds c = (goes-start _ _ _ _, refl, refl, sym (c .before .room .ensures), sym (c .room2 .ensures))
 
 find-requires : tie.Need-find-requires Inv-loop μ-loop
 find-requires c κs = search needs
@@ -48,38 +42,47 @@ part-run-line-start c = search needs
 part-run-line-end : tie.Need-part-run-line-end Inv-loop μ-loop
 part-run-line-end c = search needs
 
+slice-aggregate-run-line : tie.Need-slice-aggregate-run-line Inv-loop μ-loop
+slice-aggregate-run-line c = search needs
+
+slice-aggregate-run-line-2 : tie.Need-slice-aggregate-run-line-2 Inv-loop μ-loop
+slice-aggregate-run-line-2 c = search needs
+
 run-line-requires : tie.Need-run-line-requires Inv-loop μ-loop
-run-line-requires c κs = search needs
+run-line-requires c κs =
+    let e = c .before .before .before .before .before .before .before .before .before .before .before .before .lesser .ensures in
+    let l = c .before .before .before .before .before .before .before .before .before .loop in
+    (omega (arith, e), omega (arith, e, l .inv .3), omega (arith, e, l .inv .4))
 
 after-requires : tie.Need-after-requires Inv-loop μ-loop
 after-requires c κs = search needs
 
 loop-less : tie.Need-loop-less Inv-loop μ-loop
 loop-less c =
-    omega (arith, c .after .ensures, c .before .before .before .before .before .before .before .before .before .before .before .before .before .before .before .before .before .before .before .find .ensures, c .before .before .before .before .before .before .before .before .before .before .before .before .before .before .before .before .before .before .before .before .loop-test .taken)
+    omega (arith, c .after .ensures, c .before .before .before .before .before .before .before .before .before .before .before .before .before .before .before .before .before .find .ensures, c .before .before .before .before .before .before .before .before .before .before .before .before .before .before .before .before .before .before .loop-test .taken)
 
 loop-again : tie.Need-loop-again Inv-loop μ-loop
 loop-again c =
-    let l = c .before .before .before .before .before .before .before .before .before .before .before .before .before .before .before .before .before .before .before .before .before .loop in
-    let s = c .before .before .before .before .before .before .before .before .before .before .before .before .before .before .before .before .before .before .before .before .before .before .before .before .before .before .before .before .before .before .before in
-    let input = now (s .args .input) in
-    let e = line-end input (l .from) (c .before .before .before .before .before .before .before .before .before .before .before .before .before .before .before .before .before .before .before .find .result) (c .before .before .before .before .before .before .before .before .before .before .before .before .before .before .before .before .before .before .before .find .ensures .0) in
-    (rw (c .after .ensures) (goes-on _ _ _ _ _ _ _ _ (l .inv .0) (c .before .before .before .before .before .before .before .before .before .before .before .before .before .before .before .before .before .before .before .find .result) _ _ _ (c .before .before .before .before .before .before .before .before .before .before .before .before .before .before .before .before .before .before .before .before .loop-test .taken) e (c .before .before .before .before .before .before .before .before .before .before .before .before .run-line .ensures .0) (c .before .before .before .before .before .before .before .before .before .before .before .before .run-line .ensures .1)), c .before .before .before .before .before .before .before .before .before .before .before .array .given ∙ l .inv .1, c .before .before .before .before .before .before .before .before .before .rows .given ∙ l .inv .2, c .before .before .before .before .before .before .before .sent2 .given ∙ l .inv .3, c .before .before .before .before .before .back2 .given ∙ l .inv .4)
+    let l = c .before .before .before .before .before .before .before .before .before .before .before .before .before .before .before .before .before .before .before .loop in
+    let find = c .before .before .before .before .before .before .before .before .before .before .before .before .before .before .before .before .before .find in
+    let run-line = c .before .before .before .before .before .before .before .before .before .run-line in
+    let e = line-end (now (c .before .before .before .before .before .before .before .before .before .before .before .before .before .before .before .before .before .before .before .before .before .before .before .before .before .before .before .args .input)) (l .from) (find .result) (find .ensures .0) in
+    (rw (c .after .ensures) (goes-on _ _ _ _ _ _ _ _ (l .inv .0) (find .result) _ _ _ (c .before .before .before .before .before .before .before .before .before .before .before .before .before .before .before .before .before .before .loop-test .taken) e (run-line .ensures .0) (run-line .ensures .1)), c .before .before .before .before .before .before .before .before .array .given ∙ l .inv .1, c .before .before .before .before .before .before .rows .given ∙ l .inv .2, c .before .before .before .before .sent2 .given, c .before .before .before .back2 .given)
 
 same-length : tie.Need-same-length Inv-loop μ-loop
-same-length c = c .before .before .before .loop .inv .1
+same-length c = c .before .loop .inv .1
 
 same-length-2 : tie.Need-same-length-2 Inv-loop μ-loop
-same-length-2 c = c .before .before .before .loop .inv .2
+same-length-2 c = c .before .loop .inv .2
 
 same-length-3 : tie.Need-same-length-3 Inv-loop μ-loop
-same-length-3 c = c .before .before .before .loop .inv .0 .same
+same-length-3 c = c .before .loop .inv .0 .same
 
 returns : tie.Need-returns Inv-loop μ-loop
 returns c =
-    let l = c .before .before .before .loop in
+    let l = c .before .loop in
     let g = goes-end _ _ _ _ _ _ _ _ (l .inv .0) (omega arith) in
-    rw (← c .before .before .before .before .before .before .before .before .lesser .ensures) g
+    rw (← c .before .before .before .before .lesser .ensures) g
 
 pub run-spec : {M : Type 1} → statement M
 run-spec =
@@ -89,14 +92,14 @@ run-spec =
     μ-loop
     lesser-requires
     room-requires
-    slice-aggregate-sent
     room-requires-2
-    slice-aggregate-back
     loop-holds
     find-requires
     sub-run-line
     part-run-line-start
     part-run-line-end
+    slice-aggregate-run-line
+    slice-aggregate-run-line-2
     run-line-requires
     after-requires
     loop-less

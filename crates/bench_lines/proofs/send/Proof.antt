@@ -2,8 +2,9 @@
 use Rattle.bench_lines.proofs.Course.{sent-as}
 use Rattle.paper.specs.Bench.{pairs}
 use Rattle.types.specs.declared.Answer.{Answer}
-use mathlib.Core.Path.{ap}
+use mathlib.Core.Path.{ap, _∙_}
 use native.Mathlib.Omega.{arith}
+use lib.ListN.{drop}
 use denote.Ref.{now}
 use borrow.Author.Needs.{needs}
 use Rattle.bench_lines.proofs.send.Statement.{statement}
@@ -22,19 +23,19 @@ put-answer-requires : tie.Need-put-answer-requires
 put-answer-requires c κs = search needs
 
 same-length : tie.Need-same-length
-same-length c = search needs
+same-length c = c .before .before .before .before .before .before .before .before .before .before .before .before .before .before .before .before .sent .given
 
 same-length-2 : tie.Need-same-length-2
-same-length-2 c = search needs
+same-length-2 c = c .before .before .before .before .before .before .before .back2 .given ∙ c .before .before .before .before .before .before .before .before .before .before .before .before .back .given
 
 same-length-3 : tie.Need-same-length-3
-same-length-3 c = search needs
+same-length-3 c = c .before .output .given
 
 returns : tie.Need-returns
 returns c =
     let s = c .before .before .before .before .before .before .before .before .before .before .before .before .before .before .before .before .before .before .before .before .before .before .before .before .before in
     let a = s .args in
-    let r = sent-as (a .part) (now (a .array)) (now (a .rows)) (a .wp) (pairs (now (a .text))) (c .before .before .before .before .before .before .before .before .before .before .before .before .before .before .before .before .before .bytes-of .last .1 .0) (now (a .back)) (c .before .before .before .before .before .before .before .before .before .before .before .before .before .blank .last .0) (c .before .before .before .before .before .before .before .before .transact .last .1 .1 .1 .1 .1 .0) (c .before .before .before .before .before .before .before .before .transact .result) (c .before .before .before .before .before .before .before .before .before .before .before .before .before .before .before .before .before .bytes-of .ensures) (omega (arith, s .pre, c .before .before .before .before .before .before .before .before .before .before .before .before .before .before .before .before .sent .given, c .before .before .before .before .before .before .before .before .before .before .before .before .back .given)) (c .before .before .before .before .before .before .before .before .before .before .before .before .before .blank .ensures) (c .before .before .before .before .before .before .before .before .transact .ensures .0) (c .before .before .before .before .before .before .before .before .transact .ensures .1) in
+    let r = sent-as (a .part) (now (a .array)) (now (a .rows)) (a .wp) (pairs (drop 2 (now (a .line)))) (c .before .before .before .before .before .before .before .before .before .before .before .before .before .before .before .before .before .bytes-of .last .1 .0) (now (a .back)) (c .before .before .before .before .before .before .before .before .before .before .before .before .before .blank .last .0) (c .before .before .before .before .before .before .before .before .transact .last .1 .1 .1 .1 .1 .0) (c .before .before .before .before .before .before .before .before .transact .result) (c .before .before .before .before .before .before .before .before .before .before .before .before .before .before .before .before .before .bytes-of .ensures) (omega (arith, s .pre, c .before .before .before .before .before .before .before .before .before .before .before .before .before .before .before .before .sent .given, c .before .before .before .before .before .before .before .before .before .before .before .before .back .given)) (c .before .before .before .before .before .before .before .before .before .before .before .before .before .blank .ensures) (c .before .before .before .before .before .before .before .before .transact .ensures .0) (c .before .before .before .before .before .before .before .before .transact .ensures .1) in
     (ap (λ (x : Answer). x .next) (r .0), rw (← r .0, ← r .1) (c .before .before .put-answer .ensures))
 
 pub send-spec : {M : Type 1} → statement M
