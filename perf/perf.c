@@ -112,6 +112,15 @@ static void status_job(const struct one_model *on)
     must_be(on->transact(2), 0);
 }
 
+/* The part is left busy with a sector erase that has no tick done. */
+static void begin_erase(const struct one_model *on)
+{
+    input[0] = 0x06;
+    must_be(on->transact(1), 0);
+    put(0xD7, 0x002000);
+    must_be(on->transact(4), 0);
+}
+
 static void ignored_job(const struct one_model *on)
 {
     input[0] = 0xFF; /* in no row of the command table */
@@ -176,19 +185,30 @@ struct job {
     const char *name;
     uint32_t blocks;
     uint32_t bytes; /* read, programmed or erased by one job */
+    void (*first)(const struct one_model *); /* done once before the jobs, or none */
     void (*on)(const struct one_model *);
     void (*bytes_alone)(void); /* or none */
 };
 
 static const struct job jobs[] = {
-    {"05h of 2 bytes, 1 block", 1, 1, status_job, NULL},
-    {"05h of 2 bytes, 16 blocks", 16, 1, status_job, NULL},
-    {"ignored, 1 byte, 16 blocks", 16, 0, ignored_job, NULL},
-    {"03h of 4,096 bytes, 16 blocks", 16, 4092, read_job, read_bytes},
-    {"06h, 02h, 256 ticks, 16 blocks", 16, 256, program_job, NULL},
-    {"06h, D7h, 16 ticks, 16 blocks", 16, 4096, sector_job, sector_bytes},
-    {"06h, C7h, 4,096 ticks, 16 blocks", 16, 1048576, chip_job, chip_bytes},
+    {"05h of 2 bytes, 1 block", 1, 1, NULL, status_job, NULL},
+    {"05h of 2 bytes, 16 blocks", 16, 1, NULL, status_job, NULL},
+    {"05h of 2 bytes, busy, 16 blocks", 16, 1, begin_erase, status_job, NULL},
+    {"ignored, 1 byte, 16 blocks", 16, 0, NULL, ignored_job, NULL},
+    {"03h of 4,096 bytes, 16 blocks", 16, 4092, NULL, read_job, read_bytes},
+    {"06h, 02h, 256 ticks, 16 blocks", 16, 256, NULL, program_job, NULL},
+    {"06h, D7h, 16 ticks, 16 blocks", 16, 4096, NULL, sector_job, sector_bytes},
+    {"06h, C7h, 4,096 ticks, 16 blocks", 16, 1048576, NULL, chip_job, chip_bytes},
 };
+
+static void begin(const struct job *job)
+{
+    set_up(job->blocks);
+    if (job->first != NULL) {
+        job->first(&the_model);
+        job->first(&the_reference);
+    }
+}
 
 enum side { MODEL, REFERENCE, BYTES };
 
@@ -271,7 +291,7 @@ static void print_job(const struct job *job)
 {
     double model, reference, bytes;
 
-    set_up(job->blocks);
+    begin(job);
     model = time_of(job, MODEL);
     reference = time_of(job, REFERENCE);
     bytes = time_of(job, BYTES);
@@ -337,7 +357,7 @@ static bool run_one(char **arguments)
         return false;
     if (side == BYTES && jobs[job].bytes_alone == NULL)
         return false;
-    set_up(jobs[job].blocks);
+    begin(&jobs[job]);
     do_job(&jobs[job], side, times);
     return true;
 }
