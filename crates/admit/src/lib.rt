@@ -3,11 +3,12 @@ ghost use mathlib.Core.Path.{_≡_};
 ghost use Rattle.paper.specs.Records.{isBusy, isSuspended};
 ghost use Rattle.paper.specs.Suspend.{suspendable};
 ghost use Rattle.paper.specs.Numbers.{stateOk, namesRows, readsRow, writesRow, rowAddressOk, pinOk, freeOk, commandNumber};
+ghost use Rattle.heads.specs.Heads.{bare};
 use types::Columns;
 use types::Effect;
+use types::Head;
 use types::Memory;
 use types::Phase;
-use types::Record;
 use types::Register;
 use types::Source;
 
@@ -110,8 +111,10 @@ fn row_address_ok(k: Columns, input: &[u8]) -> bool
 {
     let source = k.source;
     let effect = k.effect;
-    let names = words::either(reads_row(source), writes_row(effect));
-    words::either(!names, begin::row_ok(input))
+    if words::either(reads_row(source), writes_row(effect)) {
+        return begin::row_ok(input);
+    }
+    true
 }
 
 fn pin_ok(register: Register, status: u8, wp: bool) -> bool
@@ -150,8 +153,8 @@ fn free_ok(effect: Effect, blocks: u16, status: u8, function: u8, input: &[u8], 
 }
 
 // The number 21 to 28 that a known command answers, 0 where it is executed. WP# is high where wp is true.
-pub fn command_number(k: Columns, part: Record, input: &[u8], wp: bool) -> u8
-    ensures { λ r. ⌜ r ≡ commandNumber k part (now (input .entry)) wp ⌝ }
+pub fn command_number(k: Columns, part: Head, input: &[u8], wp: bool) -> u8
+    ensures { λ r. ⌜ r ≡ commandNumber k (bare part) (now (input .entry)) wp ⌝ }
 {
     let phase = part.phase;
     let effect = k.effect;

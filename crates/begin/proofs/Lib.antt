@@ -1,1 +1,2 @@
+pub mod PageCopied
 pub mod Tight

@@ -6,6 +6,7 @@ use Rattle.begin.proofs.row_ok.Reads as row-ok
 use Rattle.begin.proofs.row_base.Reads as row-base
 use Rattle.begin.proofs.row_byte.Reads as row-byte
 use Rattle.begin.proofs.kept_count.Reads as kept-count
+use Rattle.begin.proofs.page_data.Reads as page-data
 use Rattle.begin.proofs.program_of.Reads as program-of
 use Rattle.begin.proofs.erase_of.Reads as erase-of
 use Rattle.begin.proofs.write_of.Reads as write-of
@@ -27,6 +28,9 @@ row-byte-one κ a x y s t p q = agree p q
 
 pub kept-count-one : OneResult kept-count.Learnt
 kept-count-one κ a x y s t p q = agree p q
+
+pub page-data-one : OneResult page-data.Learnt
+page-data-one κ a x y s t p q = agree p q
 
 pub program-of-one : OneResult program-of.Learnt
 program-of-one κ a x y s t p q = agree p q

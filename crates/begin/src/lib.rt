@@ -3,7 +3,7 @@ ghost use mathlib.Core.Path.{_≡_};
 ghost use Prim.Native.Nat.{_-_, _%_};
 ghost use lib.ListN.{getD};
 ghost use Rattle.paper.specs.Address.{addressSent, addressIn, rowOk, rowBase, rowByte, placeIn};
-ghost use Rattle.paper.specs.Program.{dataSent, keptCount, passedCount, programOf};
+ghost use Rattle.paper.specs.Program.{dataSent, keptCount, passedCount, pageData, programOf};
 ghost use Rattle.paper.specs.Erase.{eraseOf};
 ghost use Rattle.paper.specs.Registers.{writeOf};
 use types::EraseUnit;
@@ -91,6 +91,18 @@ fn passed_count(input: &[u8]) -> usize
         return 0;
     }
     n - 4 - kept_count(input)
+}
+
+// The page data of a program: the kept bytes in order of arrival, zeros after them.
+pub fn page_data(input: &[u8]) -> [u8; 256]
+    ensures { λ r. ⌜ r ≡ pageData (dataSent (now (input .entry))) ⌝ }
+{
+    let mut page = [0u8; 256];
+    let count = kept_count(input);
+    let end = input.len();
+    let from = end - count;
+    bytes::copy(&input[from..end], &mut page);
+    page
 }
 
 // The program that a transaction begins.

@@ -26,7 +26,7 @@ use Rattle.paper.proofs.Addresses.{high-first-none, high-first-more}
 use Rattle.image.specs.declared.Cells.{Cells}
 use Rattle.image.specs.declared.Held.{Held}
 use Rattle.image.specs.Layout.{cells, operationCells, cellsOf, bytesOf, header, recordBytes, written}
-use Rattle.image.specs.Read.{operationOf, phaseOf, sameBytes, cellsIn, fieldsIn, holds, nothing, held, recordIn, Fits}
+use Rattle.image.specs.Read.{operationOf, phaseOf, sameBytes, cellsIn, headIn, fieldsIn, holds, nothing, held, recordIn, Fits}
 use Rattle.image.proofs.Laws.{header-length, holds-as}
 
 -- one byte more
@@ -84,7 +84,7 @@ same-fields : (b b′ : ℕ) (i : Identity) (s g : ℕ) (w w′ a a′ z z′ : 
 same-fields b b′ i s g w w′ a a′ z z′ f f′ d eb ew ea ez ef = rw (eb, ew, ea, ez, ef)
 
 fields-back : (p : Record) → Fits p → fieldsIn (recordBytes p) ≡ p
-unfolding fieldsIn recordBytes header
+unfolding fieldsIn headIn recordBytes header
 fields-back p h =
     same-fields _ _ (p .identity) (p .status) (p .function) _ _ _ _ _ _ _ _ (p .page) (number-back 2 (p .blocks) (h .blocks)) (mark-back (p .wel)) (mark-back (p .armed)) (mark-back (p .asleep))
     (ap (λ (s : Cells). phaseOf (s .phase) s) (cells-back p h) ∙ phase-back (p .phase))
@@ -121,23 +121,24 @@ pub read-back : (p : Record) → Fits p → recordIn (recordBytes p) ≡ held p
 unfolding recordIn
 read-back p h = rw (holds-back p h, fields-back p h)
 
-taken : (bs : List ℕ) → holds bs ≡ true → recordIn bs ≡ held (fieldsIn bs)
+pub taken : (bs : List ℕ) → holds bs ≡ true → recordIn bs ≡ held (fieldsIn bs)
 unfolding recordIn
 taken bs e = rw e
 
-ok-as : (bs : List ℕ) (t : Bool) → holds bs ≡ t → recordIn bs .ok ≡ t
+pub ok-as : (bs : List ℕ) (t : Bool) → holds bs ≡ t → recordIn bs .ok ≡ t
 unfolding recordIn nothing
 ok-as bs true e = rw e
 ok-as bs false e = rw e
 
-whole : (bs : List ℕ) → holds bs ≡ true → recordBytes (fieldsIn bs) ≡ bs
+-- bytes that hold a record are those of their fields
+pub own-bytes : (bs : List ℕ) → holds bs ≡ true → recordBytes (fieldsIn bs) ≡ bs
 unfolding holds recordBytes fieldsIn
-whole bs e =
+own-bytes bs e =
     ap (λ (x : List ℕ). x ++ drop 38 bs) (one-list (header (fieldsIn bs) (cellsOf (fieldsIn bs .phase))) (take 38 bs) (and-r _ _ e))
     ∙ take-append-drop 38 bs
 
 exact-as : (bs : List ℕ) (p : Record) (t : Bool) → holds bs ≡ t → recordIn bs ≡ held p → bs ≡ recordBytes p
-exact-as bs p true e h = sym (whole bs e) ∙ ap (λ (x : Held). recordBytes (x .part)) (sym (taken bs e) ∙ h)
+exact-as bs p true e h = sym (own-bytes bs e) ∙ ap (λ (x : Held). recordBytes (x .part)) (sym (taken bs e) ∙ h)
 exact-as bs p false e h = absurd (false≢true (sym (ok-as bs false e) ∙ ap (λ (x : Held). x .ok) h))
 
 -- bytes that are read as a record are its bytes
@@ -150,7 +151,7 @@ one-image xs ys p h k = agree (exact xs p h) (exact ys p k)
 
 -- bytes that hold a record are as many as it has, and its own
 module _ (bs : List ℕ) (h : recordIn bs .ok ≡ true) where
-  holding : holds bs ≡ true
+  pub holding : holds bs ≡ true
   holding = sym (ok-as bs (holds bs) refl) ∙ h
 
   pub held-length : length bs ≡ 294
@@ -158,4 +159,4 @@ module _ (bs : List ℕ) (h : recordIn bs .ok ≡ true) where
   held-length = eqb-true _ _ (and-l _ _ holding)
 
   pub held-bytes : recordBytes (recordIn bs .part) ≡ bs
-  held-bytes = ap (λ (x : Held). recordBytes (x .part)) (taken bs holding) ∙ whole bs holding
+  held-bytes = ap (λ (x : Held). recordBytes (x .part)) (taken bs holding) ∙ own-bytes bs holding

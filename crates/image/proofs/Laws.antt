@@ -1,5 +1,5 @@
 -- Bytes that are compared, copied to their places, and read from them.
-use Prim.Native.Nat.{ℕ, suc, _/_, _%_, _<_, _≤_}
+use Prim.Native.Nat.{ℕ, suc, _+_, _*_, _/_, _%_, _<_, _≤_}
 use mathlib.Core.Path.{_≡_, refl, sym, ap, _∙_}
 use mathlib.Core.Bool.{Bool, true, false}
 use mathlib.Core.List.{List, [], _∷_, _++_, append-nil}
@@ -9,8 +9,12 @@ use lib.ListN.{length, take, drop, getD, length-append, length-take, length-drop
 use lib.Seq.{take-all, take-length, take-at, drop-cons}
 use borrow.Author.Tests.{eq-eqb, ne-eqb}
 use Rattle.types.specs.declared.Record.{Record}
+use Rattle.types.specs.declared.Head.{Head}
 use Rattle.words.specs.Logic.{_and_, bit}
+use Rattle.paper.specs.Address.{highFirst}
 use Rattle.paper.specs.Program.{noData}
+use Rattle.paper.proofs.Addresses.{high-first-none, high-first-more}
+use Rattle.heads.specs.Heads.{headOf, whole, bare}
 use Rattle.image.specs.declared.Cells.{Cells}
 use Rattle.image.specs.Layout.{cellsOf, bytesOf, header}
 use Rattle.image.specs.Read.{sameBytes, fieldsIn, holds}
@@ -45,10 +49,14 @@ module _ (a b : List ℕ) (s : Bool) (i : ℕ) where
 pub copied-whole : (s d : List ℕ) → length d ≤ length s → take (length s) s ++ drop (length s) d ≡ s
 copied-whole s d h = rw (take-length, drop-of-length-le d h) (append-nil s)
 
+-- a header copied over as many bytes
+pub laid-over : (bs h front : List ℕ) → length h ≡ 38 → front ≡ take (length h) h ++ drop (length h) bs → front ≡ h ++ drop 38 bs
+laid-over bs h front lh f = f ∙ rw (take-length, lh)
+
 -- a header and then page data copied to their places in a buffer of a record's length
 module _ (bs h d front : List ℕ) (l : length bs ≡ 294) (lh : length h ≡ 38) (ld : length d ≡ 256) (f : front ≡ take (length h) h ++ drop (length h) bs) where
   front-is : front ≡ h ++ drop 38 bs
-  front-is = f ∙ rw (take-length, lh)
+  front-is = laid-over bs h front lh f
 
   front-length : length front ≡ 294
   front-length = ap length front-is ∙ simp (length-append, length-drop) (omega arith)
@@ -106,6 +114,18 @@ header-as p s w a z b k d es ew ea ez eb ek ed =
 pub header-length : (p : Record) (s : Cells) → length (header p s) ≡ 38
 unfolding header
 header-length p s = refl
+
+-- a header does not go by page data
+pub header-bare : (h : Head) (d : List ℕ) (s : Cells) → header (bare h) s ≡ header (whole h d) s
+unfolding header
+header-bare h d s = refl
+
+pub header-part : (p : Record) (h : Head) (x : List ℕ) → h ≡ headOf p → x ≡ header (bare h) (cellsOf (h .phase)) → x ≡ header p (cellsOf (p .phase))
+header-part p h x eh ex = ex ∙ ap (λ (y : Head). header (bare y) (cellsOf (y .phase))) eh ∙ header-bare (headOf p) (p .page) (cellsOf (p .phase))
+
+-- the number that two bytes are
+pub two-bytes : (bs : List ℕ) → 2 ≤ length bs → getD bs 0 0 * 256 + getD bs 1 0 ≡ highFirst (take 2 bs)
+two-bytes bs h = omega (arith, high-first-more bs 1 (omega arith), high-first-more bs 0 (omega arith), high-first-none bs)
 
 -- bytes of a record's length hold one where the header is the one that their fields have
 pub holds-as : (bs h : List ℕ) (p : Record) (t : Bool) → length bs ≡ 294 → p ≡ fieldsIn bs → h ≡ header p (cellsOf (p .phase)) → t ≡ sameBytes h (take 38 bs) → holds bs ≡ t

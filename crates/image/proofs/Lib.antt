@@ -1,3 +1,5 @@
 pub mod Laws
 pub mod Back
+pub mod InTwo
+pub mod Changed
 pub mod Tight

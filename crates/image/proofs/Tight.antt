@@ -2,11 +2,19 @@
 use denote.Ref.{now}
 use Rattle.words.proofs.Allowed.{OneResult, OneExit, agree}
 use Rattle.image.proofs.write_record.Reads as write-record
+use Rattle.image.proofs.write_change.Reads as write-change
+use Rattle.image.proofs.read_part.Reads as read-part
 use Rattle.image.proofs.read_record.Reads as read-record
 use Rattle.image.proofs.read_back.Reads as read-back
 
 pub write-record-one : OneExit write-record.Learnt (λ κ s. now (s .1 .0))
 write-record-one κ a x y s t p q = agree p q
+
+pub write-change-one : OneExit write-change.Learnt (λ κ s. now (s .1 .1 .0))
+write-change-one κ a x y s t p q = agree p q
+
+pub read-part-one : OneResult read-part.Learnt
+read-part-one κ a x y s t p q = agree p q
 
 pub read-record-one : OneResult read-record.Learnt
 read-record-one κ a x y s t p q = agree p q

@@ -3,7 +3,7 @@ use Prim.Native.Nat.{ℕ, zero, suc, _/_, _%_}
 use mathlib.Core.Bool.{cond}
 use mathlib.Core.List.{List, [], _∷_, _++_}
 use lib.Dec.{eqb}
-use lib.ListN.{length}
+use lib.ListN.{length, drop, set}
 use Rattle.types.specs.declared.Memory.{Memory}
 use Rattle.types.specs.declared.Memory.the-variants.{Array, Rows}
 use Rattle.types.specs.declared.EraseUnit.{EraseUnit}
@@ -15,7 +15,11 @@ use Rattle.types.specs.declared.Operation.the-variants.{Program, Erase, Write}
 use Rattle.types.specs.declared.Phase.{Phase}
 use Rattle.types.specs.declared.Phase.the-variants.{Idle, Busy, Suspended}
 use Rattle.types.specs.declared.Record.{Record}
+use Rattle.types.specs.declared.Change.{Change}
+use Rattle.types.specs.declared.Change.the-variants.{Same, Marked, Became, Programmed, Cleared}
 use Rattle.words.specs.Logic.{bit}
+use Rattle.paper.specs.Program.{dataSent, pageData, noData}
+use Rattle.heads.specs.Heads.{whole, bare}
 use Rattle.image.specs.declared.Cells.{Cells}
 
 -- the bytes of a header, and of a record
@@ -82,3 +86,15 @@ recordBytes p = header p (cellsOf (p .phase)) ++ p .page
 -- a buffer with the record written; one of another length is left as it is
 unfoldable pub written : Record → List ℕ → List ℕ
 written p bs = cond (eqb (length bs) recordLength) (recordBytes p) bs
+
+-- the bytes of a record after a change by a transaction with the input i
+abbrev pub bytesChanged : Change → List ℕ → List ℕ → List ℕ
+bytesChanged Same i bs = bs
+bytesChanged (Marked armed) i bs = set bs 9 (bit armed)
+bytesChanged (Became h) i bs = header (bare h) (cellsOf (h .phase)) ++ drop headerLength bs
+bytesChanged (Programmed h) i bs = recordBytes (whole h (pageData (dataSent i)))
+bytesChanged (Cleared h) i bs = recordBytes (whole h noData)
+
+-- a buffer with the change written; bytes of another length are left as they are
+unfoldable pub imageChanged : Change → List ℕ → List ℕ → List ℕ
+imageChanged c i bs = cond (eqb (length bs) recordLength) (bytesChanged c i bs) bs

@@ -16,12 +16,16 @@ use Rattle.types.specs.declared.Operation.the-variants.{Program, Erase, Write}
 use Rattle.types.specs.declared.Phase.{Phase}
 use Rattle.types.specs.declared.Phase.the-variants.{Idle, Busy, Suspended}
 use Rattle.types.specs.declared.Record.{Record}
+use Rattle.types.specs.declared.Head.{Head}
 use Rattle.words.specs.Logic.{_and_}
 use Rattle.paper.specs.Address.{highFirst}
 use Rattle.paper.specs.Records.{fresh}
+use Rattle.paper.specs.Soundness.{sound}
 use Rattle.paper.specs.Calls.{noIdentity}
+use Rattle.heads.specs.Heads.{headOf, whole}
 use Rattle.image.specs.declared.Cells.{Cells}
 use Rattle.image.specs.declared.Held.{Held}
+use Rattle.image.specs.declared.Found.{Found}
 use Rattle.image.specs.Layout.{headerLength, recordLength, cells, cellsOf, header}
 
 -- the operation of each kind
@@ -59,10 +63,14 @@ numberAt bs at k = highFirst (take k (drop at bs))
 unfoldable pub cellsIn : List ℕ → Cells
 cellsIn bs = cells (getD bs 11 0) (getD bs 12 0) (getD bs 13 0) (numberAt bs 14 8) (numberAt bs 22 8) (numberAt bs 30 8)
 
+-- the fields of a head at their places, whatever stands there, in a phase
+unfoldable pub headIn : List ℕ → Phase → Head
+headIn bs f =
+    record { blocks = numberAt bs 0 2; identity = record { maker = getD bs 2 0; kind = getD bs 3 0; capacity = getD bs 4 0; device = getD bs 5 0 }; status = getD bs 6 0; function = getD bs 7 0; wel = eqb (getD bs 8 0) 1; armed = eqb (getD bs 9 0) 1; asleep = eqb (getD bs 10 0) 1; phase = f }
+
 -- the fields at their places, whatever stands there
 unfoldable pub fieldsIn : List ℕ → Record
-fieldsIn bs =
-    record { blocks = numberAt bs 0 2; identity = record { maker = getD bs 2 0; kind = getD bs 3 0; capacity = getD bs 4 0; device = getD bs 5 0 }; status = getD bs 6 0; function = getD bs 7 0; wel = eqb (getD bs 8 0) 1; armed = eqb (getD bs 9 0) 1; asleep = eqb (getD bs 10 0) 1; phase = phaseOf (cellsIn bs .phase) (cellsIn bs); page = drop headerLength bs }
+fieldsIn bs = whole (headIn bs (phaseOf (cellsIn bs .phase) (cellsIn bs))) (drop headerLength bs)
 
 -- two lists are one
 abbrev pub sameBytes : List ℕ → List ℕ → Bool
@@ -88,6 +96,10 @@ held p = record { ok = true; part = p }
 -- the record that bytes hold, or none
 unfoldable pub recordIn : List ℕ → Held
 recordIn bs = cond (holds bs) (held (fieldsIn bs)) nothing
+
+-- what is held, in two
+abbrev pub found : Held → Found
+found h = record { ok = h .ok; sound = h .ok and sound (h .part); head = headOf (h .part) }
 
 -- the numbers of a record fit their fields, as they do in code
 pub record Fits (p : Record) : Type 0 where

@@ -1,11 +1,14 @@
 // A record in bytes: a header of 38 bytes, every field at its place, and the 256 bytes of page data.
 // The bytes are a record's own: no two strings of bytes hold one record.
 ghost use mathlib.Core.Path.{_≡_};
-ghost use lib.ListN.{length, drop};
-ghost use Rattle.words.specs.Logic.{bit};
-ghost use Rattle.image.specs.Layout.{headerLength, recordLength, programKind, eraseKind, writeKind, operationCells, cellsOf, bytesOf, header, written};
-ghost use Rattle.image.specs.Read.{programIn, eraseIn, writeIn, operationOf, phaseOf, sameBytes, cellsIn, fieldsIn, nothing, held, recordIn, Fits};
+ghost use mathlib.Core.List.{_++_};
+ghost use lib.ListN.{length, getD, drop};
+ghost use Rattle.heads.specs.Heads.{bare};
+ghost use Rattle.image.specs.Layout.{headerLength, recordLength, programKind, eraseKind, writeKind, operationCells, cellsOf, bytesOf, header, written, imageChanged};
+ghost use Rattle.image.specs.Read.{programIn, eraseIn, writeIn, operationOf, phaseOf, sameBytes, cellsIn, headIn, nothing, held, recordIn, found, Fits};
+use types::Change;
 use types::EraseUnit;
+use types::Head;
 use types::Identity;
 use types::Memory;
 use types::Operation;
@@ -30,10 +33,11 @@ pub struct Held {
     pub part: Record,
 }
 
-fn bit_of(test: bool) -> u8
-    ensures { λ r. ⌜ r ≡ bit test ⌝ }
-{
-    if test { 1 } else { 0 }
+// The same in two: whether bytes hold a record, whether that is sound, and its head.
+pub struct Found {
+    pub ok: bool,
+    pub sound: bool,
+    pub head: Head,
 }
 
 fn program_kind(memory: Memory) -> u8
@@ -212,28 +216,28 @@ fn bytes_of(n: usize) -> [u8; 8]
     ]
 }
 
-// The header of a record.
-fn header_of(part: Record) -> [u8; 38]
-    ensures { λ r. ⌜ r ≡ header part (cellsOf (part .phase)) ⌝ }
+// The header of a record with this head.
+fn header_of(head: Head) -> [u8; 38]
+    ensures { λ r. ⌜ r ≡ header (bare head) (cellsOf (head .phase)) ⌝ }
 {
-    let phase = part.phase;
+    let phase = head.phase;
     let cells = cells_of(phase);
-    let identity = part.identity;
-    let wel = bit_of(part.wel);
-    let armed = bit_of(part.armed);
-    let asleep = bit_of(part.asleep);
+    let identity = head.identity;
+    let wel = words::bit_of(head.wel);
+    let armed = words::bit_of(head.armed);
+    let asleep = words::bit_of(head.asleep);
     let base = bytes_of(cells.base);
     let count = bytes_of(cells.count);
     let done = bytes_of(cells.done);
     [
-        (part.blocks / 256 % 256) as u8,
-        (part.blocks % 256) as u8,
+        (head.blocks / 256 % 256) as u8,
+        (head.blocks % 256) as u8,
         identity.maker,
         identity.kind,
         identity.capacity,
         identity.device,
-        part.status,
-        part.function,
+        head.status,
+        head.function,
         wel,
         armed,
         asleep,
@@ -274,10 +278,43 @@ pub fn write_record(part: Record, bytes: &mut [u8])
     if bytes.len() != 294 {
         return;
     }
-    let header = header_of(part);
+    let header = header_of(heads::head_of(part));
     let page = part.page;
     bytes::copy(&header, bytes);
     bytes::copy(&page, &mut bytes[38..294]);
+}
+
+// A record's head written over its bytes.
+fn write_head(head: Head, bytes: &mut [u8])
+    requires { ⌜ length (now bytes) ≡ recordLength ⌝ }
+    ensures { λ _. ⌜ now (bytes .exit) ≡ header (bare head) (cellsOf (head .phase)) ++ drop headerLength (now (bytes .entry)) ⌝ }
+{
+    let header = header_of(head);
+    bytes::copy(&header, bytes);
+}
+
+// What a transaction makes of a record, written over the record's bytes. A buffer of another length is left as it is.
+pub fn write_change(change: Change, input: &[u8], bytes: &mut [u8])
+    ensures { λ _. ⌜ now (bytes .exit) ≡ imageChanged change (now (input .entry)) (now (bytes .entry)) ⌝ }
+{
+    if bytes.len() != 294 {
+        return;
+    }
+    match change {
+        Change::Same => {}
+        Change::Marked(armed) => {
+            bytes[9] = words::bit_of(armed);
+        }
+        Change::Became(head) => write_head(head, bytes),
+        Change::Programmed(head) => {
+            let page = begin::page_data(input);
+            write_record(heads::join(head, page), bytes);
+        }
+        Change::Cleared(head) => {
+            let page = record::no_data();
+            write_record(heads::join(head, page), bytes);
+        }
+    }
 }
 
 fn cells_in(bytes: &[u8]) -> Cells
@@ -306,23 +343,21 @@ fn page_in(bytes: &[u8]) -> [u8; 256]
     page
 }
 
-// The fields at their places, whatever stands there.
-fn fields_in(bytes: &[u8]) -> Record
+// The fields of a head at their places, whatever stands there.
+fn head_in(bytes: &[u8], phase: Phase) -> Head
     requires { ⌜ length (now bytes) ≡ recordLength ⌝ }
-    ensures { λ r. ⌜ r ≡ fieldsIn (now (bytes .entry)) ⌝ }
+    ensures { λ r. ⌜ r ≡ headIn (now (bytes .entry)) phase ⌝ }
 {
-    let blocks = address::high_first(&bytes[0..2]) as u16;
+    let high = bytes[0] as u16;
+    let low = bytes[1] as u16;
     let identity = Identity {
         maker: bytes[2],
         kind: bytes[3],
         capacity: bytes[4],
         device: bytes[5],
     };
-    let cells = cells_in(bytes);
-    let phase = phase_of(cells.phase, cells);
-    let page = page_in(bytes);
-    Record {
-        blocks: blocks,
+    Head {
+        blocks: high * 256 + low,
         identity: identity,
         status: bytes[6],
         function: bytes[7],
@@ -330,7 +365,6 @@ fn fields_in(bytes: &[u8]) -> Record
         armed: bytes[9] == 1,
         asleep: bytes[10] == 1,
         phase: phase,
-        page: page,
     }
 }
 
@@ -364,22 +398,93 @@ fn none() -> Held
     }
 }
 
+fn none_found() -> Found
+    ensures { λ r. ⌜ r ≡ found nothing ⌝ }
+{
+    let nothing = none();
+    let part = nothing.part;
+    Found {
+        ok: false,
+        sound: false,
+        head: heads::head_of(part),
+    }
+}
+
+// The record that bytes hold, where its phase is idle: the cells that no phase has are 0, and a mark is 0 or 1.
+fn idle_in(bytes: &[u8]) -> Found
+    requires { ⌜ (length (now bytes) ≡ recordLength) × (getD (now bytes) 11 0 ≡ 0) ⌝ }
+    ensures { λ r. ⌜ r ≡ found (recordIn (now (bytes .entry))) ⌝ }
+{
+    let head = head_in(bytes, Phase::Idle);
+    let wel = bytes[8] <= 1;
+    let armed = bytes[9] <= 1;
+    let asleep = bytes[10] <= 1;
+    let marks = words::both(wel, words::both(armed, asleep));
+    let rest = runs::zero_from(&bytes[12..38], 0);
+    if words::both(marks, rest) {
+        let sound = record::is_sound_idle(
+            head.blocks,
+            head.wel,
+            head.status,
+            head.function,
+            &bytes[38..294],
+        );
+        return Found {
+            ok: true,
+            sound: sound,
+            head: head,
+        };
+    }
+    none_found()
+}
+
+// The record that bytes hold, whatever its phase: its header is the one that stands there.
+fn any_in(bytes: &[u8]) -> Found
+    requires { ⌜ length (now bytes) ≡ recordLength ⌝ }
+    ensures { λ r. ⌜ r ≡ found (recordIn (now (bytes .entry))) ⌝ }
+{
+    let cells = cells_in(bytes);
+    let head = head_in(bytes, phase_of(cells.phase, cells));
+    let header = header_of(head);
+    if is_same(&header, &bytes[0..38]) {
+        let sound = record::is_sound_head(head, &bytes[38..294]);
+        return Found {
+            ok: true,
+            sound: sound,
+            head: head,
+        };
+    }
+    none_found()
+}
+
+// The record that bytes hold, or none, in two: its page data stays where it is.
+pub fn read_part(bytes: &[u8]) -> Found
+    ensures { λ r. ⌜ r ≡ found (recordIn (now (bytes .entry))) ⌝ }
+{
+    if bytes.len() != 294 {
+        return none_found();
+    }
+    if bytes[11] == 0 {
+        return idle_in(bytes);
+    }
+    any_in(bytes)
+}
+
 // The record that bytes hold, or none.
 pub fn read_record(bytes: &[u8]) -> Held
     ensures { λ r. ⌜ r ≡ recordIn (now (bytes .entry)) ⌝ }
 {
-    if bytes.len() != 294 {
+    let found = read_part(bytes);
+    if !found.ok {
         return none();
     }
-    let part = fields_in(bytes);
-    let header = header_of(part);
-    if is_same(&header, &bytes[0..38]) {
-        return Held {
-            ok: true,
-            part: part,
-        };
+    let head = found.head;
+    let page = page_in(bytes);
+    let part = heads::join(head, page);
+    Held {
+        ok: true,
+        part: part,
     }
-    none()
 }
 
 // What the type of a record says of its numbers.

@@ -1,14 +1,14 @@
 // The record: how it is made, when it is sound, and power-up.
 ghost use mathlib.Core.Path.{_≡_};
 ghost use Prim.Native.Nat.{_+_, _*_};
-ghost use lib.ListN.{drop};
 ghost use Rattle.words.specs.Logic.{bit};
-ghost use Rattle.words.specs.Lists.{allZero};
 ghost use Rattle.paper.specs.Program.{noData};
 ghost use Rattle.paper.specs.Records.{isIdle, isErase, isProgram, wip, statusLow, functionLow, made, fresh};
 ghost use Rattle.paper.specs.Soundness.{latchOk, phaseOk, bitsOk, keptIn, pageOk, sound};
 ghost use Rattle.paper.specs.Numbers.{powerUpNumber};
 ghost use Rattle.paper.specs.Calls.{poweredUp};
+ghost use Rattle.heads.specs.Heads.{headOf, whole, idleSound};
+use types::Head;
 use types::Identity;
 use types::Operation;
 use types::Phase;
@@ -21,12 +21,6 @@ pub fn no_data() -> [u8; 256]
     ensures { λ r. ⌜ r ≡ noData ⌝ }
 {
     [0u8; 256]
-}
-
-fn bit_of(test: bool) -> u8
-    ensures { λ r. ⌜ r ≡ bit test ⌝ }
-{
-    if test { 1 } else { 0 }
 }
 
 fn wip_of(phase: Phase) -> u8
@@ -43,7 +37,7 @@ fn wip_of(phase: Phase) -> u8
 fn status_low(phase: Phase, wel: bool) -> u8
     ensures { λ r. ⌜ r ≡ statusLow phase wel ⌝ }
 {
-    2 * bit_of(wel) + wip_of(phase)
+    2 * words::bit_of(wel) + wip_of(phase)
 }
 
 fn suspended_bits(op: Operation) -> u8
@@ -67,7 +61,36 @@ fn function_low(phase: Phase) -> u8
     }
 }
 
-// A record with the stored bits of its registers. The bits that other fields define go by those.
+// A head with the stored bits of its registers. The bits that other fields define go by those.
+pub fn make_head(
+    blocks: u16,
+    identity: Identity,
+    status: u8,
+    function: u8,
+    wel: bool,
+    armed: bool,
+    asleep: bool,
+    phase: Phase,
+) -> Head
+    ensures { λ r. ⌜ r ≡ headOf (made blocks identity status function wel armed asleep phase noData) ⌝ }
+{
+    let stored_status = operations::held_byte(Register::Status, status);
+    let low_status = status_low(phase, wel);
+    let stored_function = operations::held_byte(Register::Function, function);
+    let low_function = function_low(phase);
+    Head {
+        blocks: blocks,
+        identity: identity,
+        status: stored_status + low_status,
+        function: stored_function + low_function,
+        wel: wel,
+        armed: armed,
+        asleep: asleep,
+        phase: phase,
+    }
+}
+
+// A record with the stored bits of its registers, made as a head is.
 pub fn make(
     blocks: u16,
     identity: Identity,
@@ -81,21 +104,17 @@ pub fn make(
 ) -> Record
     ensures { λ r. ⌜ r ≡ made blocks identity status function wel armed asleep phase page ⌝ }
 {
-    let stored_status = operations::held_byte(Register::Status, status);
-    let low_status = status_low(phase, wel);
-    let stored_function = operations::held_byte(Register::Function, function);
-    let low_function = function_low(phase);
-    Record {
-        blocks: blocks,
-        identity: identity,
-        status: stored_status + low_status,
-        function: stored_function + low_function,
-        wel: wel,
-        armed: armed,
-        asleep: asleep,
-        phase: phase,
-        page: page,
-    }
+    let head = make_head(
+        blocks,
+        identity,
+        status,
+        function,
+        wel,
+        armed,
+        asleep,
+        phase,
+    );
+    heads::join(head, page)
 }
 
 // An idle, awake, unarmed record with WEL 0 and page data zero.
@@ -169,36 +188,22 @@ fn kept_in(phase: Phase) -> usize
     }
 }
 
-// Whether all bytes from a place on are 0. It looks at each of them, with no early exit.
-fn zero_from(bytes: &[u8], from: usize) -> bool
-    ensures { λ r. ⌜ r ≡ allZero (drop from (now (bytes .entry))) ⌝ }
+fn page_ok(phase: Phase, page: &[u8]) -> bool
+    ensures { λ r. ⌜ r ≡ pageOk phase (now (page .entry)) ⌝ }
 {
-    let mut any: u8 = 0;
-    let mut i = from;
-    while i < bytes.len() {
-        any = any | bytes[i];
-        i += 1;
-    }
-    any == 0
+    runs::zero_from(page, kept_in(phase))
 }
 
-fn page_ok(phase: Phase, page: [u8; 256]) -> bool
-    ensures { λ r. ⌜ r ≡ pageOk phase page ⌝ }
+// Whether a record in two, head and page data, is sound.
+pub fn is_sound_head(head: Head, page: &[u8]) -> bool
+    ensures { λ r. ⌜ r ≡ sound (whole head (now (page .entry))) ⌝ }
 {
-    zero_from(&page, kept_in(phase))
-}
-
-// Whether a record is sound.
-pub fn is_sound(part: Record) -> bool
-    ensures { λ r. ⌜ r ≡ sound part ⌝ }
-{
-    let phase = part.phase;
-    let page = part.page;
-    let size = sizes::size_ok(part.blocks as u64);
-    let sleep = words::either(is_idle(phase), !part.asleep);
-    let latch = latch_ok(phase, part.wel);
-    let operation = phase_ok(phase, part.blocks, part.status, part.function);
-    let bits = bits_ok(phase, part.wel, part.status, part.function);
+    let phase = head.phase;
+    let size = sizes::size_ok(head.blocks as u64);
+    let sleep = words::either(is_idle(phase), !head.asleep);
+    let latch = latch_ok(phase, head.wel);
+    let operation = phase_ok(phase, head.blocks, head.status, head.function);
+    let bits = bits_ok(phase, head.wel, head.status, head.function);
     let kept = page_ok(phase, page);
     words::both(
         size,
@@ -207,6 +212,24 @@ pub fn is_sound(part: Record) -> bool
             words::both(latch, words::both(operation, words::both(bits, kept))),
         ),
     )
+}
+
+// Whether an idle record is sound: the tests that are not met by being idle.
+pub fn is_sound_idle(blocks: u16, wel: bool, status: u8, function: u8, page: &[u8]) -> bool
+    ensures { λ r. ⌜ r ≡ idleSound blocks wel status function (now (page .entry)) ⌝ }
+{
+    let size = sizes::size_ok(blocks as u64);
+    let bits = bits_ok(Phase::Idle, wel, status, function);
+    let kept = page_ok(Phase::Idle, page);
+    words::both(size, words::both(bits, kept))
+}
+
+// Whether a record is sound.
+pub fn is_sound(part: Record) -> bool
+    ensures { λ r. ⌜ r ≡ sound part ⌝ }
+{
+    let page = part.page;
+    is_sound_head(heads::head_of(part), &page)
 }
 
 fn power_up_number(blocks: u16, status: u8, function: u8) -> u8

@@ -1,7 +1,7 @@
 // The refusals that calls share: the numbers 1, 2 and 5.
 ghost use mathlib.Core.Path.{_≡_};
-ghost use Rattle.paper.specs.Numbers.{sizeNumber, rowsNumber, soundNumber};
-use types::Record;
+ghost use Rattle.words.specs.Logic.{unless};
+ghost use Rattle.paper.specs.Numbers.{sizeNumber, rowsNumber};
 
 // 1 where the size is not 1, 4, 8 or 16 blocks, or the array's length is not the size; else 0.
 pub fn size_number(blocks: u16, array: usize) -> u8
@@ -21,8 +21,8 @@ pub fn rows_number(rows: usize) -> u8
 }
 
 // 5 where the record is not sound; else 0.
-pub fn sound_number(part: Record) -> u8
-    ensures { λ r. ⌜ r ≡ soundNumber part ⌝ }
+pub fn sound_number(sound: bool) -> u8
+    ensures { λ r. ⌜ r ≡ unless sound 5 ⌝ }
 {
-    words::number_unless(record::is_sound(part), 5)
+    words::number_unless(sound, 5)
 }

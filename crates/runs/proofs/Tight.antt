@@ -1,9 +1,10 @@
 -- Two results that a contract of this crate allows are equal.
 use denote.Ref.{now}
-use Rattle.words.proofs.Allowed.{OneExit, agree}
+use Rattle.words.proofs.Allowed.{OneResult, OneExit, agree}
 use Rattle.runs.proofs.fill.Reads as fill
 use Rattle.runs.proofs.blank.Reads as blank
 use Rattle.runs.proofs.drive.Reads as drive
+use Rattle.runs.proofs.zero_from.Reads as zero-from
 
 pub fill-one : OneExit fill.Learnt (λ κ s. now (s .0))
 fill-one κ a x y s t p q = agree p q
@@ -13,3 +14,6 @@ blank-one κ a x y s t p q = agree p q
 
 pub drive-one : OneExit drive.Learnt (λ κ s. now (s .1 .1 .0))
 drive-one κ a x y s t p q = agree p q
+
+pub zero-from-one : OneResult zero-from.Learnt
+zero-from-one κ a x y s t p q = agree p q

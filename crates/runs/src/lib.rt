@@ -1,7 +1,7 @@
-// Bytes that are written in runs: one value all over, and a source read round and round.
+// Bytes in runs: set to one value all over, written from a source that is read round and round, or scanned.
 ghost use mathlib.Core.Path.{_≡_};
-ghost use lib.ListN.{length, replicate};
-ghost use Rattle.words.specs.Lists.{driven};
+ghost use lib.ListN.{length, drop, replicate};
+ghost use Rattle.words.specs.Lists.{driven, allZero};
 
 // All of the bytes set to one value.
 pub fn fill(bytes: &mut [u8], value: u8)
@@ -44,4 +44,17 @@ pub fn drive(source: &[u8], at: usize, output: &mut [u8], from: usize)
         here = 0;
         done += run;
     }
+}
+
+// Whether all bytes from a place on are 0. It looks at each of them, with no early exit.
+pub fn zero_from(bytes: &[u8], from: usize) -> bool
+    ensures { λ r. ⌜ r ≡ allZero (drop from (now (bytes .entry))) ⌝ }
+{
+    let mut any: u8 = 0;
+    let mut i = from;
+    while i < bytes.len() {
+        any = any | bytes[i];
+        i += 1;
+    }
+    any == 0
 }

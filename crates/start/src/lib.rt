@@ -1,34 +1,26 @@
 // What an executed command makes of the record.
 ghost use mathlib.Core.Path.{_≡_};
 ghost use mathlib.Core.Bool.{true, false};
-ghost use Rattle.paper.specs.Program.{dataSent, pageData};
+ghost use Rattle.paper.specs.Program.{noData};
 ghost use Rattle.paper.specs.Records.{settled, marked, resting};
 ghost use Rattle.paper.specs.Suspend.{suspendedIn, resumedIn};
 ghost use Rattle.paper.specs.Reset.{wasReset};
-ghost use Rattle.paper.specs.Commands.{begun, after, afterExecuted};
+ghost use Rattle.paper.specs.Commands.{begun};
+ghost use Rattle.heads.specs.Heads.{headOf, bare};
+ghost use Rattle.heads.specs.Outcomes.{changed, changeBy};
+use types::Change;
 use types::Effect;
+use types::Head;
 use types::Operation;
 use types::Phase;
 use types::Record;
 
-// The page data of a program: the kept bytes in order of arrival, zeros after them.
-fn page_data(input: &[u8]) -> [u8; 256]
-    ensures { λ r. ⌜ r ≡ pageData (dataSent (now (input .entry))) ⌝ }
-{
-    let mut page = record::no_data();
-    let count = begin::kept_count(input);
-    let end = input.len();
-    let from = end - count;
-    bytes::copy(&input[from..end], &mut page);
-    page
-}
-
-// The record in another phase with another latch and page data.
-fn settle(part: Record, phase: Phase, wel: bool, page: [u8; 256]) -> Record
-    ensures { λ r. ⌜ r ≡ settled part phase wel page ⌝ }
+// The head in another phase with another latch.
+fn settle(part: Head, phase: Phase, wel: bool) -> Head
+    ensures { λ r. ⌜ r ≡ headOf (settled (bare part) phase wel noData) ⌝ }
 {
     let identity = part.identity;
-    record::make(
+    record::make_head(
         part.blocks,
         identity,
         part.status,
@@ -37,50 +29,101 @@ fn settle(part: Record, phase: Phase, wel: bool, page: [u8; 256]) -> Record
         part.armed,
         part.asleep,
         phase,
-        page,
     )
 }
 
-fn begun_with(part: Record, op: Operation, page: [u8; 256]) -> Record
-    ensures { λ r. ⌜ r ≡ begun part op page ⌝ }
+fn begun_with(part: Head, op: Operation) -> Head
+    ensures { λ r. ⌜ r ≡ headOf (begun (bare part) op noData) ⌝ }
 {
-    settle(part, Phase::Busy(op), true, page)
+    settle(part, Phase::Busy(op), true)
 }
 
-fn suspend(part: Record) -> Record
-    ensures { λ r. ⌜ r ≡ suspendedIn part (part .phase) ⌝ }
+fn suspend(part: Head) -> Head
+    ensures { λ r. ⌜ r ≡ headOf (suspendedIn (bare part) (part .phase)) ⌝ }
 {
     let phase = part.phase;
-    let page = part.page;
     match phase {
         Phase::Idle => part,
-        Phase::Busy(op) => settle(part, Phase::Suspended(op), false, page),
+        Phase::Busy(op) => settle(part, Phase::Suspended(op), false),
         Phase::Suspended(_) => part,
     }
 }
 
-fn resume(part: Record) -> Record
-    ensures { λ r. ⌜ r ≡ resumedIn part (part .phase) ⌝ }
+fn resume(part: Head) -> Head
+    ensures { λ r. ⌜ r ≡ headOf (resumedIn (bare part) (part .phase)) ⌝ }
 {
     let phase = part.phase;
-    let page = part.page;
     match phase {
         Phase::Idle => part,
         Phase::Busy(_) => part,
-        Phase::Suspended(op) => settle(part, Phase::Busy(op), true, page),
+        Phase::Suspended(op) => settle(part, Phase::Busy(op), true),
     }
 }
 
-fn rest(part: Record, asleep: bool) -> Record
-    ensures { λ r. ⌜ r ≡ resting part asleep ⌝ }
+fn rest(part: Head, asleep: bool) -> Head
+    ensures { λ r. ⌜ r ≡ headOf (resting (bare part) asleep) ⌝ }
 {
     let mut next = part;
     next.asleep = asleep;
     next
 }
 
-// The record the same but for the armed mark.
-pub fn mark(part: Record, armed: bool) -> Record
+// A head with the armed mark cleared.
+fn disarm(part: Head) -> Head
+    ensures { λ r. ⌜ r ≡ headOf (marked (bare part) false) ⌝ }
+{
+    let mut next = part;
+    next.armed = false;
+    next
+}
+
+fn reset(part: Head) -> Head
+    ensures { λ r. ⌜ r ≡ headOf (wasReset (bare part)) ⌝ }
+{
+    let identity = part.identity;
+    record::make_head(
+        part.blocks,
+        identity,
+        part.status,
+        part.function,
+        false,
+        false,
+        false,
+        Phase::Idle,
+    )
+}
+
+// What an executed command makes of a record. Only an arming one leaves the armed mark set.
+pub fn change_by(effect: Effect, part: Head, input: &[u8]) -> Change
+    ensures { λ r. ⌜ r ≡ changeBy effect (bare part) (now (input .entry)) ⌝ }
+{
+    let phase = part.phase;
+    match effect {
+        Effect::Looks => Change::Marked(false),
+        Effect::Enables => Change::Became(disarm(settle(part, phase, true))),
+        Effect::Disables => Change::Became(disarm(settle(part, phase, false))),
+        Effect::Programs(memory) => {
+            let op = begin::program_of(memory, part.blocks, input);
+            Change::Programmed(disarm(begun_with(part, op)))
+        }
+        Effect::Erases(unit) => {
+            let op = begin::erase_of(unit, part.blocks, input);
+            Change::Became(disarm(begun_with(part, op)))
+        }
+        Effect::Writes(register) => {
+            let op = begin::write_of(register, input);
+            Change::Became(disarm(begun_with(part, op)))
+        }
+        Effect::Suspends => Change::Became(disarm(suspend(part))),
+        Effect::Resumes => Change::Became(disarm(resume(part))),
+        Effect::Sleeps => Change::Became(disarm(rest(part, true))),
+        Effect::Wakes => Change::Became(disarm(rest(part, false))),
+        Effect::Arms => Change::Marked(true),
+        Effect::Resets => Change::Cleared(disarm(reset(part))),
+    }
+}
+
+fn mark(part: Record, armed: bool) -> Record
     ensures { λ r. ⌜ r ≡ marked part armed ⌝ }
 {
     let mut next = part;
@@ -88,41 +131,16 @@ pub fn mark(part: Record, armed: bool) -> Record
     next
 }
 
-fn reset(part: Record) -> Record
-    ensures { λ r. ⌜ r ≡ wasReset part ⌝ }
+// The record after a change by a transaction.
+pub fn apply(change: Change, part: Record, input: &[u8]) -> Record
+    ensures { λ r. ⌜ r ≡ changed change part (now (input .entry)) ⌝ }
 {
-    let identity = part.identity;
-    record::make_fresh(part.blocks, identity, part.status, part.function)
-}
-
-// The record after a command's effect, but for the armed mark.
-fn after_effect(effect: Effect, part: Record, input: &[u8]) -> Record
-    ensures { λ r. ⌜ r ≡ after effect part (now (input .entry)) ⌝ }
-{
-    let phase = part.phase;
     let page = part.page;
-    match effect {
-        Effect::Looks => part,
-        Effect::Enables => settle(part, phase, true, page),
-        Effect::Disables => settle(part, phase, false, page),
-        Effect::Programs(memory) => {
-            let op = begin::program_of(memory, part.blocks, input);
-            begun_with(part, op, page_data(input))
-        }
-        Effect::Erases(unit) => begun_with(part, begin::erase_of(unit, part.blocks, input), page),
-        Effect::Writes(register) => begun_with(part, begin::write_of(register, input), page),
-        Effect::Suspends => suspend(part),
-        Effect::Resumes => resume(part),
-        Effect::Sleeps => rest(part, true),
-        Effect::Wakes => rest(part, false),
-        Effect::Arms => part,
-        Effect::Resets => reset(part),
+    match change {
+        Change::Same => part,
+        Change::Marked(armed) => mark(part, armed),
+        Change::Became(head) => heads::join(head, page),
+        Change::Programmed(head) => heads::join(head, begin::page_data(input)),
+        Change::Cleared(head) => heads::join(head, record::no_data()),
     }
-}
-
-// The record after an executed command.
-pub fn after_executed(effect: Effect, part: Record, input: &[u8]) -> Record
-    ensures { λ r. ⌜ r ≡ afterExecuted effect part (now (input .entry)) ⌝ }
-{
-    mark(after_effect(effect, part, input), table::arms_reset(effect))
 }

@@ -4,7 +4,6 @@ use Rattle.table.proofs.columns_of.Reads as columns-of
 use Rattle.table.proofs.length_ok.Reads as length-ok
 use Rattle.table.proofs.drives_any.Reads as drives-any
 use Rattle.table.proofs.first_driven.Reads as first-driven
-use Rattle.table.proofs.arms_reset.Reads as arms-reset
 
 pub columns-of-one : OneResult columns-of.Learnt
 columns-of-one κ a x y s t p q = agree p q
@@ -17,6 +16,3 @@ drives-any-one κ a x y s t p q = agree p q
 
 pub first-driven-one : OneResult first-driven.Learnt
 first-driven-one κ a x y s t p q = agree p q
-
-pub arms-reset-one : OneResult arms-reset.Learnt
-arms-reset-one κ a x y s t p q = agree p q

@@ -2,7 +2,6 @@
 ghost use mathlib.Core.Path.{_≡_};
 ghost use Rattle.paper.specs.Table.{line, columns, lengthOk, drives};
 ghost use Rattle.paper.specs.Reads.{firstDriven};
-ghost use Rattle.paper.specs.Commands.{arms};
 use types::Columns;
 use types::Command;
 use types::Effect;
@@ -113,25 +112,5 @@ pub fn first_driven(k: Columns, n: usize) -> usize
         words::lesser(k.from, n)
     } else {
         n
-    }
-}
-
-// Whether a command leaves the part armed for a reset.
-pub fn arms_reset(effect: Effect) -> bool
-    ensures { λ r. ⌜ r ≡ arms effect ⌝ }
-{
-    match effect {
-        Effect::Looks => false,
-        Effect::Enables => false,
-        Effect::Disables => false,
-        Effect::Programs(_) => false,
-        Effect::Erases(_) => false,
-        Effect::Writes(_) => false,
-        Effect::Suspends => false,
-        Effect::Resumes => false,
-        Effect::Sleeps => false,
-        Effect::Wakes => false,
-        Effect::Arms => true,
-        Effect::Resets => false,
     }
 }

@@ -246,7 +246,7 @@ fn tick_number(part: Record, array: usize, rows: usize, ticks: usize) -> u8
 {
     let size = refusals::size_number(part.blocks, array);
     let row = refusals::rows_number(rows);
-    let unsound = refusals::sound_number(part);
+    let unsound = refusals::sound_number(record::is_sound(part));
     let few = ticks <= 4096;
     let many = words::number_unless(few, 6);
     words::or_else(size, words::or_else(row, words::or_else(unsound, many)))

@@ -12,14 +12,12 @@ use Rattle.types.specs.declared.Columns.{Columns}
 use Rattle.types.specs.declared.Record.{Record}
 use Rattle.words.specs.Logic.{_or_}
 use Rattle.words.proofs.Tests.{and-l}
-use Rattle.paper.specs.Sizes.{arrayBytes, rowsBytes}
+use Rattle.paper.specs.Sizes.{sizeOk, arrayBytes, rowsBytes}
 use Rattle.paper.specs.Address.{addressSent, rowOk}
 use Rattle.paper.specs.Table.{drives}
 use Rattle.paper.specs.Reads.{sourceBytes}
-use Rattle.paper.specs.Soundness.{sound}
 use Rattle.paper.specs.Numbers.{readsRow, writesRow, rowAddressOk}
 use Rattle.paper.proofs.Sizes.{size-range}
-use Rattle.paper.proofs.Soundness.{sound-parts}
 use Rattle.transact.specs.Shown.{HasBytes}
 
 -- a command that reads a row was sent a row address
@@ -28,11 +26,11 @@ unfolding _or_
 asked true b c h e = h
 asked false b c h e = absurd (false≢true e)
 
-module _ (p : Record) (xs rs i : List ℕ) (s : sound p ≡ true) (array : length xs ≡ arrayBytes (p .blocks)) (rows : length rs ≡ rowsBytes) where
+module _ (p : Record) (xs rs i : List ℕ) (s : sizeOk (p .blocks) ≡ true) (array : length xs ≡ arrayBytes (p .blocks)) (rows : length rs ≡ rowsBytes) where
   some : (w : Source) → drives w ≡ true → (readsRow w ≡ true → rowOk i ≡ true) → length (sourceBytes w p xs rs i) ≡ 0 → ⊥
   unfolding rowOk
   some Nothing d r z = false≢true d
-  some ArrayBytes d r z = omega (arith, size-range (p .blocks) (sound-parts p s .size))
+  some ArrayBytes d r z = omega (arith, size-range (p .blocks) s)
   some RowBytes d r z =
       let h : addressSent i / 4096 < 4 = ltb-true _ _ (and-l _ _ (r refl)) in
       omega (arith, simp (length-take, length-drop) at z)

@@ -1,4 +1,4 @@
--- Two results that a contract of this crate allows are equal; of `transact`, the answer and the output. The answer does not depend on stored bytes.
+-- Two results that a contract of this crate allows are equal: the answer and the output. The answer does not depend on stored bytes.
 use Prim.Native.Nat.{ℕ}
 use mathlib.Core.Path.{_≡_}
 use mathlib.Core.Bool.{Bool}
@@ -8,11 +8,14 @@ use denote.Ref.{now}
 use Rattle.types.specs.declared.Record.{Record}
 use Rattle.words.proofs.Allowed.{OneResult, OneExit, agree}
 use Rattle.paper.specs.Calls.{transacted}
-use Rattle.transact.proofs.refusal.Reads as refusal
+use Rattle.transact.proofs.transact_head.Reads as transact-head
 use Rattle.transact.proofs.transact.Reads as transact
 
-pub refusal-one : OneResult refusal.Learnt
-refusal-one κ a x y s t p q = agree p q
+pub transact-head-one : OneResult transact-head.Learnt
+transact-head-one κ a x y s t p q = agree (p .0) (q .0)
+
+pub transact-head-one-output : OneExit transact-head.Learnt (λ κ s. now (s .1 .1 .1 .1 .1 .1 .0))
+transact-head-one-output κ a x y s t p q = agree (p .1) (q .1)
 
 pub transact-one : OneResult transact.Learnt
 transact-one κ a x y s t p q = agree (p .0) (q .0)

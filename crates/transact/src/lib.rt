@@ -4,19 +4,22 @@ ghost use mathlib.Core.Bool.{true, false};
 ghost use mathlib.Core.List.{[], _∷_};
 ghost use Prim.Native.Nat.{_<_};
 ghost use lib.ListN.{length, take, drop};
+ghost use Rattle.types.specs.declared.Change.the-variants.{Marked};
 ghost use Rattle.types.specs.declared.Decoded.the-variants.{Known};
-ghost use Rattle.paper.specs.Sizes.{arrayBytes, rowsBytes};
-ghost use Rattle.paper.specs.Soundness.{sound};
-ghost use Rattle.paper.specs.Records.{marked};
+ghost use Rattle.paper.specs.Sizes.{sizeOk, arrayBytes, rowsBytes};
 ghost use Rattle.paper.specs.Address.{rowBase, rowByte};
 ghost use Rattle.paper.specs.Reads.{undriven, outputOf};
-ghost use Rattle.paper.specs.Numbers.{transactionRefusal};
-ghost use Rattle.paper.specs.Calls.{answerTo, outputTo, transacted, outputAfter};
+ghost use Rattle.paper.specs.Calls.{outputTo, transacted, outputAfter};
+ghost use Rattle.heads.specs.Heads.{bare};
+ghost use Rattle.heads.specs.Outcomes.{levelRefusal, outcomeTo, outcomeOf, outputFor};
 ghost use Rattle.transact.specs.Shown.{shown, HasBytes};
 use types::Answer;
+use types::Change;
 use types::Columns;
 use types::Command;
 use types::Decoded;
+use types::Head;
+use types::Outcome;
 use types::Record;
 use types::Source;
 
@@ -53,9 +56,9 @@ fn drive_row(rows: &[u8], input: &[u8], output: &mut [u8], from: usize)
 }
 
 // What a command drives, at every place of the output.
-fn show(k: Columns, part: Record, array: &[u8], rows: &[u8], input: &[u8], output: &mut [u8])
-    requires { ⌜ HasBytes k part (now array) (now rows) (now input) × (length (now output) ≡ length (now input)) ⌝ }
-    ensures { λ _. ⌜ now (output .exit) ≡ outputOf k part (now (array .entry)) (now (rows .entry)) (now (input .entry)) ⌝ }
+fn show(k: Columns, part: Head, array: &[u8], rows: &[u8], input: &[u8], output: &mut [u8])
+    requires { ⌜ HasBytes k (bare part) (now array) (now rows) (now input) × (length (now output) ≡ length (now input)) ⌝ }
+    ensures { λ _. ⌜ now (output .exit) ≡ outputOf k (bare part) (now (array .entry)) (now (rows .entry)) (now (input .entry)) ⌝ }
 {
     let source = k.source;
     let from = k.from;
@@ -83,13 +86,12 @@ fn show(k: Columns, part: Record, array: &[u8], rows: &[u8], input: &[u8], outpu
 }
 
 // The part ignores a transaction of n bytes with a number: nothing is driven.
-fn ignore(part: Record, number: u8, n: usize, output: &mut [u8]) -> Answer
-    ensures { λ r. ⌜ (r ≡ record { next = marked part false; number = number; first = n }) × (now (output .exit) ≡ undriven (length (now (output .entry)))) ⌝ }
+fn ignore(number: u8, n: usize, output: &mut [u8]) -> Outcome
+    ensures { λ r. ⌜ (r ≡ record { change = Marked false; number = number; first = n }) × (now (output .exit) ≡ undriven (length (now (output .entry)))) ⌝ }
 {
     runs::blank(output);
-    let next = start::mark(part, false);
-    Answer {
-        next: next,
+    Outcome {
+        change: Change::Marked(false),
         number: number,
         first: n,
     }
@@ -98,49 +100,92 @@ fn ignore(part: Record, number: u8, n: usize, output: &mut [u8]) -> Answer
 // A known command: executed, or ignored with its number.
 fn answer_to(
     command: Command,
-    part: Record,
+    part: Head,
     array: &[u8],
     rows: &[u8],
     wp: bool,
     input: &[u8],
     output: &mut [u8],
-) -> Answer
-    requires { ⌜ (sound part ≡ true) × (length (now array) ≡ arrayBytes (part .blocks)) × (length (now rows) ≡ rowsBytes) × (length (now output) ≡ length (now input)) ⌝ }
-    ensures { λ r. ⌜ (r ≡ answerTo (Known command) part wp (now (input .entry))) × (now (output .exit) ≡ outputTo (Known command) part (now (array .entry)) (now (rows .entry)) wp (now (input .entry))) ⌝ }
+) -> Outcome
+    requires { ⌜ (sizeOk (part .blocks) ≡ true) × (length (now array) ≡ arrayBytes (part .blocks)) × (length (now rows) ≡ rowsBytes) × (length (now output) ≡ length (now input)) ⌝ }
+    ensures { λ r. ⌜ (r ≡ outcomeTo (Known command) (bare part) wp (now (input .entry))) × (now (output .exit) ≡ outputTo (Known command) (bare part) (now (array .entry)) (now (rows .entry)) wp (now (input .entry))) ⌝ }
 {
     let k = table::columns_of(command);
     let n = input.len();
     let number = admit::command_number(k, part, input, wp);
     if number != 0 {
-        return ignore(part, number, n, output);
+        return ignore(number, n, output);
     }
     show(k, part, array, rows, input, output);
     let effect = k.effect;
-    let next = start::after_executed(effect, part, input);
+    let change = start::change_by(effect, part, input);
     let first = table::first_driven(k, n);
-    Answer {
-        next: next,
+    Outcome {
+        change: change,
         number: 0,
         first: first,
     }
 }
 
 // The refusals 1 to 5, in the paper's order; 0 where a transaction is not refused.
-pub fn refusal(part: Record, array: usize, rows: usize, n: usize, o: usize) -> u8
-    ensures { λ r. ⌜ r ≡ transactionRefusal part array rows n o ⌝ }
+fn refusal(blocks: u16, sound: bool, array: usize, rows: usize, n: usize, o: usize, wp: u64) -> u8
+    ensures { λ r. ⌜ r ≡ levelRefusal blocks sound array rows n o wp ⌝ }
 {
-    let size = refusals::size_number(part.blocks, array);
+    let size = refusals::size_number(blocks, array);
     let row = refusals::rows_number(rows);
     let some = 1 <= n;
     let few = n <= 4096;
     let long = words::number_unless(words::both(some, few), 3);
     let same = o == n;
     let other = words::number_unless(same, 4);
-    let unsound = refusals::sound_number(part);
+    let unsound = refusals::sound_number(sound);
+    let level = words::number_unless(wp <= 1, 5);
     words::or_else(
-        size,
-        words::or_else(row, words::or_else(long, words::or_else(other, unsound))),
+        words::or_else(
+            size,
+            words::or_else(row, words::or_else(long, words::or_else(other, unsound))),
+        ),
+        level,
     )
+}
+
+// A transaction on a record's head, of a record that is sound or is not, as the caller says. WP# is low for 0, high
+// for 1. It answers what becomes of the record, the number and the first driven place, and fills the output;
+// refused, with 1 to 5, it writes nothing and the record stays the same.
+pub fn transact_head(
+    part: Head,
+    sound: bool,
+    array: &[u8],
+    rows: &[u8],
+    wp: u64,
+    input: &[u8],
+    output: &mut [u8],
+) -> Outcome
+    ensures answer { λ r. ⌜ r ≡ outcomeOf part sound (length (now (array .entry))) (length (now (rows .entry))) wp (now (input .entry)) (length (now (output .entry))) ⌝ }
+    ensures output { λ _. ⌜ now (output .exit) ≡ outputFor part sound (now (array .entry)) (now (rows .entry)) wp (now (input .entry)) (now (output .entry)) ⌝ }
+{
+    let n = input.len();
+    let number = refusal(
+        part.blocks,
+        sound,
+        array.len(),
+        rows.len(),
+        n,
+        output.len(),
+        wp,
+    );
+    if number != 0 {
+        return Outcome {
+            change: Change::Same,
+            number: number,
+            first: 0,
+        };
+    }
+    let decoded = decode::decode(begin::byte_at(input, 0));
+    let Decoded::Known(command) = decoded else {
+        return ignore(20, n, output);
+    };
+    answer_to(command, part, array, rows, wp == 1, input, output)
 }
 
 // A transaction. WP# is high where wp is true. It answers the next record, the number and the first driven
@@ -156,18 +201,22 @@ pub fn transact(
     ensures answer { λ r. ⌜ r ≡ transacted part (length (now (array .entry))) (length (now (rows .entry))) wp (now (input .entry)) (length (now (output .entry))) ⌝ }
     ensures output { λ _. ⌜ now (output .exit) ≡ outputAfter part (now (array .entry)) (now (rows .entry)) wp (now (input .entry)) (now (output .entry)) ⌝ }
 {
-    let n = input.len();
-    let number = refusal(part, array.len(), rows.len(), n, output.len());
-    if number != 0 {
-        return Answer {
-            next: part,
-            number: number,
-            first: 0,
-        };
+    let head = heads::head_of(part);
+    let sound = record::is_sound(part);
+    let outcome = transact_head(
+        head,
+        sound,
+        array,
+        rows,
+        words::bit_of(wp) as u64,
+        input,
+        output,
+    );
+    let change = outcome.change;
+    let next = start::apply(change, part, input);
+    Answer {
+        next: next,
+        number: outcome.number,
+        first: outcome.first,
     }
-    let decoded = decode::decode(begin::byte_at(input, 0));
-    let Decoded::Known(command) = decoded else {
-        return ignore(part, 20, n, output);
-    };
-    answer_to(command, part, array, rows, wp, input, output)
 }

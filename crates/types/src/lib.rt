@@ -79,6 +79,28 @@ pub struct Record {
     pub page: [u8; 256],
 }
 
+// A record without its page data.
+pub struct Head {
+    pub blocks: u16,
+    pub identity: Identity,
+    pub status: u8,
+    pub function: u8,
+    pub wel: bool,
+    pub armed: bool,
+    pub asleep: bool,
+    pub phase: Phase,
+}
+
+// What a transaction makes of a record: the same; the same but for the armed mark; or all but the page data
+// anew, where the page data is as it was, is what was sent, or is zero.
+pub enum Change {
+    Same,
+    Marked(bool),
+    Became(Head),
+    Programmed(Head),
+    Cleared(Head),
+}
+
 // The commands, in the order of the command table.
 pub enum Command {
     Read,
@@ -169,6 +191,13 @@ pub struct PoweredUp {
 // What a transaction answers: the record after it, its number, and the first driven place.
 pub struct Answer {
     pub next: Record,
+    pub number: u8,
+    pub first: usize,
+}
+
+// What a transaction answers, with what it makes of the record and not the record.
+pub struct Outcome {
+    pub change: Change,
     pub number: u8,
     pub first: usize,
 }

@@ -2,7 +2,7 @@
 // straight-line code, in the order of the specification's table of numbers.
 ghost use mathlib.Core.Path.{_≡_};
 ghost use Prim.Native.Nat.{min};
-ghost use Rattle.words.specs.Logic.{_and_, _or_, unless, _orElse_};
+ghost use Rattle.words.specs.Logic.{_and_, _or_, bit, unless, _orElse_};
 
 // Both of two tests.
 pub fn both(a: bool, b: bool) -> bool
@@ -16,6 +16,13 @@ pub fn either(a: bool, b: bool) -> bool
     ensures { λ r. ⌜ r ≡ (a or b) ⌝ }
 {
     a || b
+}
+
+// 1 for yes, 0 for no.
+pub fn bit_of(test: bool) -> u8
+    ensures { λ r. ⌜ r ≡ bit test ⌝ }
+{
+    if test { 1 } else { 0 }
 }
 
 // The number where the test fails, else 0.

@@ -1,27 +1,29 @@
--- What the definitions for C come to in each case: no record held, a number that is refused, and the call itself.
-use Prim.Native.Nat.{ℕ, _<_, _≤_}
+-- What the definitions for C come to in each case: no record held, and the call itself.
+use Prim.Native.Nat.{ℕ, _≤_}
 use mathlib.Core.Path.{_≡_, sym, ap, _∙_}
 use mathlib.Core.Bool.{true, false}
 use mathlib.Core.List.{List}
-use native.Mathlib.Omega.{arith}
-use lib.Dec.{eqb}
 use lib.ListN.{length}
-use borrow.Author.Tests.{le-leb, lt-leb, eqb-true, leb-true, eq-eqb, ne-eqb}
+use borrow.Author.Tests.{eqb-true, leb-true, eq-eqb, ne-eqb}
 use Rattle.types.specs.declared.Memory.{Memory}
 use Rattle.types.specs.declared.Record.{Record}
 use Rattle.types.specs.declared.Answer.{Answer}
+use Rattle.types.specs.declared.Outcome.{Outcome}
 use Rattle.types.specs.declared.Ticked.{Ticked}
 use Rattle.types.specs.declared.PoweredUp.{PoweredUp}
-use Rattle.words.specs.Logic.{_orElse_}
+use Rattle.words.specs.Logic.{_and_}
 use Rattle.words.proofs.Tests.{and-l, and-r, unless-zero, orElse-zero, orElse-on, orElse-first}
-use Rattle.paper.specs.Numbers.{transactionRefusal}
-use Rattle.paper.specs.Calls.{poweredUp, transacted, outputAfter, ticked, tickedMemory}
+use Rattle.paper.specs.Calls.{poweredUp, ticked, tickedMemory}
 use Rattle.paper.proofs.Sizes.{size-range}
+use Rattle.heads.specs.Outcomes.{changed, outcomeOf, outputFor, answerOf, transactedAt}
+use Rattle.heads.proofs.Outcomes.{outcome-told, output-told}
 use Rattle.image.specs.declared.Held.{Held}
-use Rattle.image.specs.Layout.{recordBytes, written}
-use Rattle.image.specs.Read.{recordIn}
-use Rattle.image.proofs.Back.{held-length, held-bytes, written-in}
-use Rattle.yawlspar.specs.Face.{packed, identityOf, givenNumber, powerUpNumber, powerUpImage, transactAnswer, transactImage, transactOutput, tickAnswer, tickImage, tickMemory}
+use Rattle.image.specs.Layout.{recordBytes, written, imageChanged}
+use Rattle.image.specs.Read.{recordIn, found}
+use Rattle.image.proofs.Back.{held-length, written-in}
+use Rattle.image.proofs.Changed.{held-changed}
+use Rattle.yawlspar.proofs.Laws.{first-few-at}
+use Rattle.yawlspar.specs.Face.{packed, identityOf, givenNumber, upNumber, powerUpImage, transactAnswer, transactImage, transactOutput, tickAnswer, tickImage, tickMemory}
 
 -- a buffer that holds a record takes the next one
 pub next-written : (h : Held) (p : Record) (bs : List ℕ) → h ≡ recordIn bs → h .ok ≡ true → written p bs ≡ recordBytes p
@@ -37,35 +39,33 @@ module _ (h : Held) (a r wp : ℕ) (i : List ℕ) (o : ℕ) where
   unfolding transactImage
   unheld-image bs e = rw e
 
-  pub pin-answer : h .ok ≡ true → 1 < wp → (transactionRefusal (h .part) a r (length i) o orElse 5) ≡ transactAnswer h a r wp i o
-  unfolding transactAnswer
-  pin-answer e w = rw (e, lt-leb wp 1 w) (omega arith)
+  -- the outcome, told by the head of the record that is held
+  module _ (u : Outcome) (e : h .ok ≡ true) (s : u ≡ outcomeOf (found h .head) (found h .sound) a r wp i o) where
+    told : answerOf u (h .part) i ≡ transactedAt (h .part) a r wp i o
+    unfolding _and_
+    told = rw (s, e) (outcome-told (h .part) wp i a r o)
 
-  pub pin-image : (bs : List ℕ) → h ≡ recordIn bs → h .ok ≡ true → 1 < wp → bs ≡ transactImage h a r wp i o bs
-  unfolding transactImage
-  pin-image bs f e w = rw (e, lt-leb wp 1 w) (sym (held-bytes bs (ap (λ (x : Held). x .ok) (sym f) ∙ e)) ∙ ap (λ (x : Held). recordBytes (x .part)) (sym f))
+    pub told-few : u .first ≤ 4096
+    told-few = rw (ap (λ (x : Answer). x .first) told) (first-few-at (h .part) a r wp i o)
 
-  module _ (x : Answer) (e : h .ok ≡ true) (w : wp ≤ 1) (s : x ≡ transacted (h .part) a r (eqb wp 1) i o) where
-    pub call-answer : packed (x .number) (x .first) ≡ transactAnswer h a r wp i o
+    pub told-answer : packed (u .number) (u .first) ≡ transactAnswer h a r wp i o
     unfolding transactAnswer
-    call-answer = rw (e, le-leb wp 1 w, s)
+    told-answer = rw e (ap (λ (x : Answer). packed (x .number) (x .first)) told)
 
-    pub call-image : (bs : List ℕ) → recordBytes (x .next) ≡ transactImage h a r wp i o bs
+    pub told-image : (bs : List ℕ) → h ≡ recordIn bs → imageChanged (u .change) i bs ≡ transactImage h a r wp i o bs
     unfolding transactImage
-    call-image bs = rw (e, le-leb wp 1 w, s)
+    told-image bs f =
+        let g : recordIn bs .ok ≡ true = ap (λ (x : Held). x .ok) (sym f) ∙ e in
+        held-changed (u .change) i bs g ∙ ap (λ (x : Held). recordBytes (changed (u .change) (x .part) i)) (sym f) ∙ rw e (ap (λ (x : Answer). recordBytes (x .next)) told)
 
 module _ (h : Held) (xs rs : List ℕ) (wp : ℕ) (i o : List ℕ) where
   pub unheld-output : h .ok ≡ false → o ≡ transactOutput h xs rs wp i o
   unfolding transactOutput
   unheld-output e = rw e
 
-  pub pin-output : h .ok ≡ true → 1 < wp → o ≡ transactOutput h xs rs wp i o
-  unfolding transactOutput
-  pin-output e w = rw (e, lt-leb wp 1 w)
-
-  pub call-output : h .ok ≡ true → wp ≤ 1 → outputAfter (h .part) xs rs (eqb wp 1) i o ≡ transactOutput h xs rs wp i o
-  unfolding transactOutput
-  call-output e w = rw (e, le-leb wp 1 w)
+  pub told-output : h .ok ≡ true → outputFor (found h .head) (found h .sound) xs rs wp i o ≡ transactOutput h xs rs wp i o
+  unfolding transactOutput _and_
+  told-output e = rw e (output-told (h .part) wp i xs rs o)
 
 -- ticks
 module _ (h : Held) (a r n : ℕ) where
@@ -118,17 +118,17 @@ given l n m t c d status function e =
     record { whole = eqb-true _ _ (and-l _ _ w); few = size-range n (unless-zero _ 0 (z .0)) .1; maker = leb-true _ _ (and-l _ _ q1); kind = leb-true _ _ (and-l _ _ q2); capacity = leb-true _ _ (and-l _ _ q3); device = leb-true _ _ (and-l _ _ q4); status-byte = leb-true _ _ (and-l _ _ q5); function-byte = leb-true _ _ (and-r _ _ q5) }
 
 module _ (n m t c d status function : ℕ) (bs : List ℕ) (k : ℕ) (g : k ≡ givenNumber (length bs) n m t c d status function) where
-  pub given-number : (k ≡ 0 → ⊥) → k ≡ powerUpNumber (length bs) n m t c d status function
-  unfolding powerUpNumber
+  pub given-number : (k ≡ 0 → ⊥) → k ≡ upNumber (length bs) n m t c d status function
+  unfolding upNumber
   given-number h = rw (← g) (sym (orElse-first k _ h))
 
   module _ (x : PoweredUp) (z : k ≡ 0) (u : x ≡ poweredUp n (identityOf m t c d) status function) where
-    pub own-number : x .number ≡ powerUpNumber (length bs) n m t c d status function
-    unfolding powerUpNumber
+    pub own-number : x .number ≡ upNumber (length bs) n m t c d status function
+    unfolding upNumber
     own-number = rw (← g, ← u) (sym (orElse-on k _ z))
 
     pub own-image : x .number ≡ 0 → recordBytes (x .next) ≡ powerUpImage n m t c d status function bs
     own-image e = rw (eq-eqb _ _ (sym own-number ∙ e), u)
 
-  pub no-image : (v : ℕ) → v ≡ powerUpNumber (length bs) n m t c d status function → (v ≡ 0 → ⊥) → bs ≡ powerUpImage n m t c d status function bs
-  no-image v e h = rw (ne-eqb _ _ (λ (q : powerUpNumber (length bs) n m t c d status function ≡ 0). h (e ∙ q)))
+  pub no-image : (v : ℕ) → v ≡ upNumber (length bs) n m t c d status function → (v ≡ 0 → ⊥) → bs ≡ powerUpImage n m t c d status function bs
+  no-image v e h = rw (ne-eqb _ _ (λ (q : upNumber (length bs) n m t c d status function ≡ 0). h (e ∙ q)))

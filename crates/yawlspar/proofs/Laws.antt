@@ -4,7 +4,7 @@ use mathlib.Core.Path.{_≡_, refl}
 use mathlib.Core.Bool.{Bool, true, false, cond}
 use mathlib.Core.List.{List}
 use native.Mathlib.Omega.{arith}
-use lib.Dec.{eqb}
+use lib.Dec.{eqb, leb}
 use lib.ListN.{length, getD}
 use borrow.Author.Tests.{eqb-true}
 use Rattle.types.specs.declared.Decoded.{Decoded}
@@ -12,10 +12,12 @@ use Rattle.types.specs.declared.Decoded.the-variants.{Known, Unknown}
 use Rattle.types.specs.declared.Record.{Record}
 use Rattle.types.specs.declared.Answer.{Answer}
 use Rattle.types.specs.declared.Ticked.{Ticked}
+use Rattle.words.specs.Logic.{_orElse_}
 use Rattle.paper.specs.Table.{decoded, columns, isRead}
 use Rattle.paper.specs.Ticks.{recordAfter, workingTicks}
 use Rattle.paper.specs.Numbers.{transactionRefusal, tickNumber, ignoredNumber}
 use Rattle.paper.specs.Calls.{refused, answerTo, transacted, ticked}
+use Rattle.heads.specs.Outcomes.{transactedAt}
 use Rattle.paper.proofs.Numbers.{transaction-taken, ticks-taken}
 use Rattle.paper.proofs.Kept.{works-at-most}
 
@@ -36,9 +38,16 @@ first-as : (p : Record) (a r : ℕ) (wp : Bool) (i : List ℕ) (o : ℕ) (t : Bo
 first-as p a r wp i o true e = omega (arith, answer-first (decoded (getD i 0 0)) p wp i, transaction-taken _ _ _ _ _ (eqb-true _ _ e) .few)
 first-as p a r wp i o false e = omega arith
 
-pub first-few : (p : Record) (a r : ℕ) (wp : Bool) (i : List ℕ) (o : ℕ) → transacted p a r wp i o .first ≤ 4096
+first-few : (p : Record) (a r : ℕ) (wp : Bool) (i : List ℕ) (o : ℕ) → transacted p a r wp i o .first ≤ 4096
 unfolding transacted
 first-few p a r wp i o = first-as p a r wp i o _ refl
+
+first-at-as : (p : Record) (a r wp : ℕ) (i : List ℕ) (o : ℕ) (t : Bool) → cond t (transacted p a r (eqb wp 1) i o) (refused p (transactionRefusal p a r (length i) o orElse 5)) .first ≤ 4096
+first-at-as p a r wp i o true = first-few p a r (eqb wp 1) i o
+first-at-as p a r wp i o false = omega arith
+
+pub first-few-at : (p : Record) (a r wp : ℕ) (i : List ℕ) (o : ℕ) → transactedAt p a r wp i o .first ≤ 4096
+first-few-at p a r wp i o = first-at-as p a r wp i o (leb wp 1)
 
 done-as : (p : Record) (a r n : ℕ) (t : Bool) (x : Ticked) → eqb (tickNumber p a r n) 0 ≡ t → x .done ≡ 0
     → cond t (record { next = recordAfter n p; number = 0; done = workingTicks n p }) x .done ≤ 4096

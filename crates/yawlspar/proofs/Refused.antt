@@ -12,7 +12,8 @@ use Rattle.paper.specs.Calls.{transacted, ticked}
 use Rattle.image.specs.Layout.{recordBytes}
 use Rattle.image.specs.Read.{recordIn}
 use Rattle.image.proofs.Back.{held-bytes}
-use Rattle.yawlspar.specs.Face.{transactedAt, transactImage, tickImage}
+use Rattle.heads.specs.Outcomes.{transactedAt}
+use Rattle.yawlspar.specs.Face.{transactImage, tickImage}
 
 next-as : (t : Bool) (p : Record) (a r wp : ℕ) (i : List ℕ) (o : ℕ) → leb wp 1 ≡ t → (transactionRefusal p a r (length i) o ≡ 0 → ⊥) → transactedAt p a r wp i o .next ≡ p
 unfolding transacted

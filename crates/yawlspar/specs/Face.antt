@@ -11,8 +11,8 @@ use Rattle.types.specs.declared.Answer.{Answer}
 use Rattle.types.specs.declared.Ticked.{Ticked}
 use Rattle.words.specs.Logic.{_and_, unless, _orElse_, whenZero}
 use Rattle.paper.specs.Sizes.{sizeOk}
-use Rattle.paper.specs.Numbers.{transactionRefusal}
-use Rattle.paper.specs.Calls.{poweredUp, refused, transacted, outputAfter, ticked, tickedMemory}
+use Rattle.paper.specs.Calls.{poweredUp, refused, ticked, tickedMemory}
+use Rattle.heads.specs.Outcomes.{transactedAt, outputAt}
 use Rattle.image.specs.declared.Held.{Held}
 use Rattle.image.specs.Layout.{recordLength, recordBytes}
 
@@ -35,29 +35,24 @@ givenNumber l n m t c d status function =
     orElse unless (eqb l recordLength
     and isByte m and isByte t and isByte c and isByte d and isByte status and isByte function) 5
 
--- power-up's number, with no place above it: the lower first, then power-up's own
-unfoldable pub powerUpNumber : ℕ → ℕ → ℕ → ℕ → ℕ → ℕ → ℕ → ℕ → ℕ
-powerUpNumber l n m t c d status function =
+-- the number of the C call: the lower first, then power-up's own
+unfoldable pub upNumber : ℕ → ℕ → ℕ → ℕ → ℕ → ℕ → ℕ → ℕ → ℕ
+upNumber l n m t c d status function =
     givenNumber l n m t c d status function orElse poweredUp n (identityOf m t c d) status function .number
 
 abbrev pub powerUpAnswer : ℕ → ℕ → ℕ → ℕ → ℕ → ℕ → ℕ → ℕ → ℕ
-powerUpAnswer l n m t c d status function = packed (powerUpNumber l n m t c d status function) 0
+powerUpAnswer l n m t c d status function = packed (upNumber l n m t c d status function) 0
 
 -- power-up's record, written where it is not refused
 abbrev pub powerUpImage : ℕ → ℕ → ℕ → ℕ → ℕ → ℕ → ℕ → List ℕ → List ℕ
 powerUpImage n m t c d status function bs =
-    whenZero (powerUpNumber (length bs) n m t c d status function)
+    whenZero (upNumber (length bs) n m t c d status function)
     (recordBytes (poweredUp n (identityOf m t c d) status function .next))
     bs
 
 -- the record's bytes after a call: the next record's; where none was held, as they were
 abbrev pub imageAfter : Held → Record → List ℕ → List ℕ
 imageAfter h next bs = cond (h .ok) (recordBytes next) bs
-
--- a transaction on a record, WP# high for 1 and low for 0; another number is refused with 5, where no lower number applies
-abbrev pub transactedAt : Record → ℕ → ℕ → ℕ → List ℕ → ℕ → Answer
-transactedAt p a r wp i o =
-    cond (leb wp 1) (transacted p a r (eqb wp 1) i o) (refused p (transactionRefusal p a r (length i) o orElse 5))
 
 -- a transaction on what bytes hold: 5 where they hold no record
 abbrev pub heldTransaction : Held → ℕ → ℕ → ℕ → List ℕ → ℕ → Answer
@@ -74,7 +69,7 @@ transactImage h a r wp i o bs = imageAfter h (heldTransaction h a r wp i o .next
 
 -- its output: a refusal writes nothing
 unfoldable pub transactOutput : Held → List ℕ → List ℕ → ℕ → List ℕ → List ℕ → List ℕ
-transactOutput h xs rs wp i o = cond (h .ok) (cond (leb wp 1) (outputAfter (h .part) xs rs (eqb wp 1) i o) o) o
+transactOutput h xs rs wp i o = cond (h .ok) (outputAt (h .part) xs rs wp i o) o
 
 -- so many ticks on what bytes hold: 5 where they hold no record
 abbrev pub heldTicks : Held → ℕ → ℕ → ℕ → Ticked

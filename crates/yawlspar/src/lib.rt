@@ -104,19 +104,15 @@ pub extern "C" fn yawlspar_transact(
     ensures image { λ _. ⌜ now (bytes .exit) ≡ transactImage (recordIn (now (bytes .entry))) (length (now (array .entry))) (length (now (rows .entry))) wp (now (input .entry)) (length (now (output .entry))) (now (bytes .entry)) ⌝ }
     ensures output { λ _. ⌜ now (output .exit) ≡ transactOutput (recordIn (now (bytes .entry))) (now (array .entry)) (now (rows .entry)) wp (now (input .entry)) (now (output .entry)) ⌝ }
 {
-    let held = image::read_record(bytes);
-    if !held.ok {
+    let found = image::read_part(bytes);
+    if !found.ok {
         return 5;
     }
-    let part = held.part;
-    if 1 < wp {
-        let number = transact::refusal(part, array.len(), rows.len(), input.len(), output.len());
-        return words::or_else(number, 5) as u64;
-    }
-    let answer = transact::transact(part, array, rows, wp == 1, input, output);
-    let next = answer.next;
-    image::write_record(next, bytes);
-    pack(answer.number, answer.first)
+    let head = found.head;
+    let outcome = transact::transact_head(head, found.sound, array, rows, wp, input, output);
+    let change = outcome.change;
+    image::write_change(change, input, bytes);
+    pack(outcome.number, outcome.first)
 }
 
 // So many ticks. The number and the ticks that did work; refused, with 1, 2, 5 or 6, every buffer is as it was.

@@ -1,5 +1,6 @@
--- `admit::row_address_ok` meets its contract: it joins the tests as the definition does.
+-- `admit::row_address_ok` meets its contract: the address is asked only where one is named.
 use borrow.Author.Needs.{needs}
+use Rattle.words.specs.Logic.{_or_}
 use Rattle.admit.proofs.row_address_ok.Statement.{statement}
 use Rattle.admit.proofs.row_address_ok.Tie as tie
 
@@ -15,11 +16,15 @@ either-requires c κs = search needs
 row-ok-requires : tie.Need-row-ok-requires
 row-ok-requires c κs = search needs
 
-either-requires-2 : tie.Need-either-requires-2
-either-requires-2 c κs = search needs
-
 returns : tie.Need-returns
-returns c = rw (c .either2 .ensures, c .before .row-ok .ensures, c .before .before .either .ensures, c .before .before .before .writes-row .ensures, c .before .before .before .before .reads-row .ensures)
+unfolding _or_
+returns c =
+    rw (← c .before .before .before .before .reads-row .ensures, ← c .before .before .before .writes-row .ensures, ← c .before .before .either .ensures, c .before .if1 .taken) (c .row-ok .ensures)
+
+returns-2 : tie.Need-returns-2
+unfolding _or_
+returns-2 c =
+    rw (← c .before .before .before .reads-row .ensures, ← c .before .before .writes-row .ensures, ← c .before .either .ensures, c .if1 .left)
 
 pub row-address-ok-spec : {M : Type 1} → statement M
 row-address-ok-spec =
@@ -29,5 +34,5 @@ row-address-ok-spec =
     writes-row-requires
     either-requires
     row-ok-requires
-    either-requires-2
-    returns)
+    returns
+    returns-2)

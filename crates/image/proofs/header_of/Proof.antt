@@ -1,6 +1,7 @@
 -- `image::header_of` meets its contract: byte by byte it is the header's definition.
-use Rattle.image.proofs.Laws.{header-as}
 use borrow.Author.Needs.{needs}
+use Rattle.heads.specs.Heads.{bare}
+use Rattle.image.proofs.Laws.{header-as}
 use Rattle.image.proofs.header_of.Statement.{statement}
 use Rattle.image.proofs.header_of.Tie as tie
 
@@ -104,7 +105,7 @@ array-read-t88 : tie.Need-array-read-t88
 array-read-t88 c = search needs
 
 returns : tie.Need-returns
-returns c = header-as (c .before .before .before .before .before .before .before .before .before .before .args .part) _ _ _ _ _ _ _ (c .before .before .before .before .before .before .before .before .before .cells-of .ensures) (c .before .before .before .before .before .before .before .bit-of .ensures) (c .before .before .before .before .before .before .bit-of2 .ensures) (c .before .before .before .before .before .bit-of3 .ensures) (c .before .before .before .before .bytes-of .ensures) (c .before .before .before .bytes-of2 .ensures) (c .before .before .bytes-of3 .ensures)
+returns c = header-as (bare (c .before .before .before .before .before .before .before .before .before .before .args .head)) _ _ _ _ _ _ _ (c .before .before .before .before .before .before .before .before .before .cells-of .ensures) (c .before .before .before .before .before .before .before .bit-of .ensures) (c .before .before .before .before .before .before .bit-of2 .ensures) (c .before .before .before .before .before .bit-of3 .ensures) (c .before .before .before .before .bytes-of .ensures) (c .before .before .before .bytes-of2 .ensures) (c .before .before .bytes-of3 .ensures)
 
 pub header-of-spec : {M : Type 1} → statement M
 header-of-spec =

@@ -1,81 +1,21 @@
--- `record::is_sound` meets its contract: it joins the six tests as the definition does.
+-- `record::is_sound` meets its contract: the record is taken in two.
 use borrow.Author.Needs.{needs}
-use Rattle.paper.specs.Soundness.{sound}
 use Rattle.record.proofs.is_sound.Statement.{statement}
 use Rattle.record.proofs.is_sound.Tie as tie
 
-cast-size-ok : tie.Need-cast-size-ok
-cast-size-ok c = search needs
+head-of-requires : tie.Need-head-of-requires
+head-of-requires c κs = search needs
 
-size-ok-requires : tie.Need-size-ok-requires
-size-ok-requires c κs = search needs
+slice-aggregate-is-sound-head : tie.Need-slice-aggregate-is-sound-head
+slice-aggregate-is-sound-head c = search needs
 
-is-idle-requires : tie.Need-is-idle-requires
-is-idle-requires c κs = search needs
-
-either-requires : tie.Need-either-requires
-either-requires c κs = search needs
-
-latch-ok-requires : tie.Need-latch-ok-requires
-latch-ok-requires c κs = search needs
-
-phase-ok-requires : tie.Need-phase-ok-requires
-phase-ok-requires c κs = search needs
-
-bits-ok-requires : tie.Need-bits-ok-requires
-bits-ok-requires c κs = search needs
-
-page-ok-requires : tie.Need-page-ok-requires
-page-ok-requires c κs = search needs
-
-both-requires : tie.Need-both-requires
-both-requires c κs = search needs
-
-both-requires-2 : tie.Need-both-requires-2
-both-requires-2 c κs = search needs
-
-both-requires-3 : tie.Need-both-requires-3
-both-requires-3 c κs = search needs
-
-both-requires-4 : tie.Need-both-requires-4
-both-requires-4 c κs = search needs
-
-both-requires-5 : tie.Need-both-requires-5
-both-requires-5 c κs = search needs
+is-sound-head-requires : tie.Need-is-sound-head-requires
+is-sound-head-requires c κs = search needs
 
 returns : tie.Need-returns
-unfolding sound
-returns c =
-    rw (
-      c .both5 .ensures,
-      c .before .both4 .ensures,
-      c .before .before .both3 .ensures,
-      c .before .before .before .both2 .ensures,
-      c .before .before .before .before .both .ensures,
-      c .before .before .before .before .before .page-ok .ensures,
-      c .before .before .before .before .before .before .bits-ok .ensures,
-      c .before .before .before .before .before .before .before .phase-ok .ensures,
-      c .before .before .before .before .before .before .before .before .latch-ok .ensures,
-      c .before .before .before .before .before .before .before .before .before .either .ensures,
-      c .before .before .before .before .before .before .before .before .before .before .before .is-idle .ensures,
-      c .before .before .before .before .before .before .before .before .before .before .before .before .size-ok .ensures,
-    )
+returns c = rw (c .before .before .head-of .ensures) at (c .is-sound-head .ensures)
 
 pub is-sound-spec : {M : Type 1} → statement M
 is-sound-spec =
     tie.close
-    (tie.spec
-    cast-size-ok
-    size-ok-requires
-    is-idle-requires
-    either-requires
-    latch-ok-requires
-    phase-ok-requires
-    bits-ok-requires
-    page-ok-requires
-    both-requires
-    both-requires-2
-    both-requires-3
-    both-requires-4
-    both-requires-5
-    returns)
+    (tie.spec head-of-requires slice-aggregate-is-sound-head is-sound-head-requires returns)

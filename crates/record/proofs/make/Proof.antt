@@ -1,43 +1,16 @@
--- `record::make` meets its contract: each register is its stored bits and the bits that other fields define, which do not overlap.
-use native.Mathlib.Omega.{arith}
+-- `record::make` meets its contract: a head with page data.
 use borrow.Author.Needs.{needs}
-use Rattle.paper.proofs.Records.{status-low-le, function-low-le}
 use Rattle.record.proofs.make.Statement.{statement}
 use Rattle.record.proofs.make.Tie as tie
 
-held-byte-requires : tie.Need-held-byte-requires
-held-byte-requires c κs = search needs
+make-head-requires : tie.Need-make-head-requires
+make-head-requires c κs = search needs
 
-status-low-requires : tie.Need-status-low-requires
-status-low-requires c κs = search needs
-
-held-byte-requires-2 : tie.Need-held-byte-requires-2
-held-byte-requires-2 c κs = search needs
-
-function-low-requires : tie.Need-function-low-requires
-function-low-requires c κs = search needs
-
-add-t15 : tie.Need-add-t15
-add-t15 c =
-    let a = c .before .before .before .before .args in
-    omega (arith, c .before .before .before .held-byte .ensures, c .before .before .status-low .ensures, status-low-le (a .phase) (a .wel))
-
-add-t16 : tie.Need-add-t16
-add-t16 c =
-    let a = c .before .before .before .before .args in
-    omega (arith, c .before .held-byte2 .ensures, c .function-low .ensures, function-low-le (a .phase))
+join-requires : tie.Need-join-requires
+join-requires c κs = search needs
 
 returns : tie.Need-returns
-returns c = rw (c .before .before .before .held-byte .ensures, c .before .before .status-low .ensures, c .before .held-byte2 .ensures, c .function-low .ensures)
+returns c = rw (c .join .ensures, c .before .make-head .ensures)
 
 pub make-spec : {M : Type 1} → statement M
-make-spec =
-    tie.close
-    (tie.spec
-    held-byte-requires
-    status-low-requires
-    held-byte-requires-2
-    function-low-requires
-    add-t15
-    add-t16
-    returns)
+make-spec = tie.close (tie.spec make-head-requires join-requires returns)

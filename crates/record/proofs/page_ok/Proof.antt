@@ -4,9 +4,6 @@ use Rattle.paper.specs.Soundness.{pageOk}
 use Rattle.record.proofs.page_ok.Statement.{statement}
 use Rattle.record.proofs.page_ok.Tie as tie
 
-slice-aggregate-zero-from : tie.Need-slice-aggregate-zero-from
-slice-aggregate-zero-from c = search needs
-
 kept-in-requires : tie.Need-kept-in-requires
 kept-in-requires c κs = search needs
 
@@ -19,4 +16,4 @@ returns c = rw (← c .before .kept-in .ensures) (c .zero-from .ensures)
 
 pub page-ok-spec : {M : Type 1} → statement M
 page-ok-spec =
-    tie.close (tie.spec slice-aggregate-zero-from kept-in-requires zero-from-requires returns)
+    tie.close (tie.spec kept-in-requires zero-from-requires returns)

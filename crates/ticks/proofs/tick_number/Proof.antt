@@ -1,6 +1,6 @@
 -- `ticks::tick_number` meets its contract: it joins the four numbers in the paper's order.
 use borrow.Author.Needs.{needs}
-use Rattle.paper.specs.Numbers.{ticksNumber, tickNumber}
+use Rattle.paper.specs.Numbers.{soundNumber, ticksNumber, tickNumber}
 use Rattle.ticks.proofs.tick_number.Statement.{statement}
 use Rattle.ticks.proofs.tick_number.Tie as tie
 
@@ -9,6 +9,9 @@ size-number-requires c κs = search needs
 
 rows-number-requires : tie.Need-rows-number-requires
 rows-number-requires c κs = search needs
+
+is-sound-requires : tie.Need-is-sound-requires
+is-sound-requires c κs = search needs
 
 sound-number-requires : tie.Need-sound-number-requires
 sound-number-requires c κs = search needs
@@ -26,7 +29,7 @@ or-else-requires-3 : tie.Need-or-else-requires-3
 or-else-requires-3 c κs = search needs
 
 returns : tie.Need-returns
-unfolding tickNumber ticksNumber
+unfolding tickNumber ticksNumber soundNumber
 returns c =
     rw (
       c .or-else3 .ensures,
@@ -34,8 +37,9 @@ returns c =
       c .before .before .or-else .ensures,
       c .before .before .before .number-unless .ensures,
       c .before .before .before .before .sound-number .ensures,
-      c .before .before .before .before .before .rows-number .ensures,
-      c .before .before .before .before .before .before .size-number .ensures,
+      c .before .before .before .before .before .is-sound .ensures,
+      c .before .before .before .before .before .before .rows-number .ensures,
+      c .before .before .before .before .before .before .before .size-number .ensures,
     )
 
 pub tick-number-spec : {M : Type 1} → statement M
@@ -44,6 +48,7 @@ tick-number-spec =
     (tie.spec
     size-number-requires
     rows-number-requires
+    is-sound-requires
     sound-number-requires
     number-unless-requires
     or-else-requires

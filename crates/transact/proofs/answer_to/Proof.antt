@@ -8,6 +8,7 @@ use Rattle.paper.proofs.Numbers.{command-taken}
 use Rattle.paper.specs.Numbers.{commandNumber}
 use Rattle.paper.specs.Reads.{outputOf}
 use Rattle.paper.specs.Table.{columns}
+use Rattle.heads.specs.Heads.{bare}
 use Rattle.transact.proofs.Driven.{has-bytes}
 use Rattle.transact.proofs.answer_to.Statement.{statement}
 use Rattle.transact.proofs.answer_to.Tie as tie
@@ -28,8 +29,8 @@ returns : tie.Need-returns
 returns c =
     let s = c .before .before .before .before .before .before .before .before .before .before .before in
     let a = s .args in
-    let n : c .before .before .before .before .before .command-number .result ≡ commandNumber (columns (a .command)) (a .part) (now (a .input)) (a .wp) =
-    c .before .before .before .before .before .command-number .ensures ∙ ap (λ (x : Columns). commandNumber x (a .part) (now (a .input)) (a .wp)) (c .before .before .before .before .before .before .columns-of .ensures) in
+    let n : c .before .before .before .before .before .command-number .result ≡ commandNumber (columns (a .command)) (bare (a .part)) (now (a .input)) (a .wp) =
+    c .before .before .before .before .before .command-number .ensures ∙ ap (λ (x : Columns). commandNumber x (bare (a .part)) (now (a .input)) (a .wp)) (c .before .before .before .before .before .before .columns-of .ensures) in
     let z = ne-eqb _ _ (c .before .before .before .before .if1 .taken) in
     (rw (← n, z) (c .before .before .ignore .ensures .0), rw (← n, z, ← s .pre .3) (c .before .before .ignore .ensures .1))
 
@@ -37,11 +38,11 @@ show-requires : tie.Need-show-requires
 show-requires c κs =
     let s = c .before .before .before .before .before .before .before .before in
     let a = s .args in
-    let t = command-taken _ (a .part) (now (a .input)) (a .wp) (sym (c .before .before .command-number .ensures) ∙ c .before .if1 .left) in
-    (has-bytes (a .part) (now (a .array)) (now (a .rows)) (now (a .input)) (s .pre .0) (s .pre .1) (s .pre .2) (c .before .before .before .columns-of .result) (t .row-address-ok), s .pre .3)
+    let t = command-taken _ (bare (a .part)) (now (a .input)) (a .wp) (sym (c .before .before .command-number .ensures) ∙ c .before .if1 .left) in
+    (has-bytes (bare (a .part)) (now (a .array)) (now (a .rows)) (now (a .input)) (s .pre .0) (s .pre .1) (s .pre .2) (c .before .before .before .columns-of .result) (t .row-address-ok), s .pre .3)
 
-after-executed-requires : tie.Need-after-executed-requires
-after-executed-requires c κs = search needs
+change-by-requires : tie.Need-change-by-requires
+change-by-requires c κs = search needs
 
 first-driven-requires : tie.Need-first-driven-requires
 first-driven-requires c κs = search needs
@@ -52,11 +53,11 @@ same-length-2 c = search needs
 returns-2 : tie.Need-returns-2
 returns-2 c =
     let a = c .before .before .before .before .before .before .before .before .before .before .before .before .before .args in
-    let n : c .before .before .before .before .before .before .before .command-number .result ≡ commandNumber (columns (a .command)) (a .part) (now (a .input)) (a .wp) =
-    c .before .before .before .before .before .before .before .command-number .ensures ∙ ap (λ (x : Columns). commandNumber x (a .part) (now (a .input)) (a .wp)) (c .before .before .before .before .before .before .before .before .columns-of .ensures) in
+    let n : c .before .before .before .before .before .before .before .command-number .result ≡ commandNumber (columns (a .command)) (bare (a .part)) (now (a .input)) (a .wp) =
+    c .before .before .before .before .before .before .before .command-number .ensures ∙ ap (λ (x : Columns). commandNumber x (bare (a .part)) (now (a .input)) (a .wp)) (c .before .before .before .before .before .before .before .before .columns-of .ensures) in
     let z = eq-eqb _ _ (c .before .before .before .before .before .before .if1 .left) in (
-      rw (← n, z, c .before .after-executed .ensures, c .first-driven .ensures, c .before .before .before .before .before .before .before .before .columns-of .ensures),
-      rw (← n, z) (c .before .before .before .before .show .ensures ∙ ap (λ (x : Columns). outputOf x (a .part) (now (a .array)) (now (a .rows)) (now (a .input))) (c .before .before .before .before .before .before .before .before .columns-of .ensures)),
+      rw (← n, z, c .before .change-by .ensures, c .first-driven .ensures, c .before .before .before .before .before .before .before .before .columns-of .ensures),
+      rw (← n, z) (c .before .before .before .before .show .ensures ∙ ap (λ (x : Columns). outputOf x (bare (a .part)) (now (a .array)) (now (a .rows)) (now (a .input))) (c .before .before .before .before .before .before .before .before .columns-of .ensures)),
     )
 
 pub answer-to-spec : {M : Type 1} → statement M
@@ -69,7 +70,7 @@ answer-to-spec =
     same-length
     returns
     show-requires
-    after-executed-requires
+    change-by-requires
     first-driven-requires
     same-length-2
     returns-2)

@@ -1,85 +1,63 @@
--- `transact::transact` meets its contract: the refusal decides, then the decoding, then the command's number.
-use mathlib.Core.Path.{_≡_, sym, ap, _∙_}
-use lib.ListN.{getD}
+-- `transact::transact` meets its contract: what the transaction makes of the record's head, applied to the record.
+use mathlib.Core.Path.{_≡_, _∙_}
+use lib.ListN.{length}
 use denote.Ref.{now}
-use borrow.Author.Tests.{eq-eqb, ne-eqb}
 use borrow.Author.Needs.{needs}
-use Rattle.types.specs.declared.Decoded.the-variants.{Known, Unknown}
-use Rattle.paper.proofs.Numbers.{transaction-taken}
-use Rattle.paper.specs.Calls.{transacted, outputAfter}
-use Rattle.paper.specs.Table.{decoded}
+use Rattle.words.specs.Logic.{bit}
+use Rattle.paper.specs.Soundness.{sound}
+use Rattle.heads.proofs.Outcomes.{outcome-told, output-told, level-bit, output-bit}
+use Rattle.heads.specs.Heads.{headOf}
+use Rattle.heads.specs.Outcomes.{outcomeOf}
 use Rattle.transact.proofs.transact.Statement.{statement}
 use Rattle.transact.proofs.transact.Tie as tie
 
-refusal-requires : tie.Need-refusal-requires
-refusal-requires c κs = search needs
+head-of-requires : tie.Need-head-of-requires
+head-of-requires c κs = search needs
 
-returns : tie.Need-returns
-unfolding transacted outputAfter
-returns c =
-    let n = c .before .refusal .ensures in
-    let z = ne-eqb _ _ (c .if1 .taken) in
-    (rw (← n, z), rw (← n, z))
+is-sound-requires : tie.Need-is-sound-requires
+is-sound-requires c κs = search needs
 
-byte-at-requires : tie.Need-byte-at-requires
-byte-at-requires c κs = search needs
+bit-of-requires : tie.Need-bit-of-requires
+bit-of-requires c κs = search needs
 
-decode-requires : tie.Need-decode-requires
-decode-requires c κs = search needs
+cast-transact-head : tie.Need-cast-transact-head
+cast-transact-head c = search needs
 
-enum-known-decoded : tie.Need-enum-known-decoded
-enum-known-decoded c = search needs
+transact-head-requires : tie.Need-transact-head-requires
+transact-head-requires c κs = search needs
 
-enum-told : tie.Need-enum-told
-enum-told c = search needs
-
-ignore-requires : tie.Need-ignore-requires
-ignore-requires c κs = search needs
+apply-requires : tie.Need-apply-requires
+apply-requires c κs = search needs
 
 same-length : tie.Need-same-length
 same-length c = search needs
 
-returns-2 : tie.Need-returns-2
-unfolding transacted outputAfter
-returns-2 c =
-    let i = now (c .before .before .before .before .before .before .before .before .before .before .before .before .before .before .args .input) in
-    let n = c .before .before .before .before .before .before .before .before .before .refusal .ensures in
-    let e = c .before .before .before .before .before .before .before .before .if1 .left in
-    let t = transaction-taken _ _ _ _ _ (sym n ∙ e) in
-    let d : decoded (getD i 0 0) ≡ Unknown = ap decoded (sym (c .before .before .before .before .before .before .before .byte-at .ensures)) ∙ sym (c .before .before .before .before .before .before .decode .ensures) ∙ c .before .before .before .before .enum-told .given .1 in
-    let z = eq-eqb _ _ e in
-    (rw (← n, z, d) (c .before .before .ignore .ensures .0), rw (← n, z, d, ← t .same) (c .before .before .ignore .ensures .1))
-
-answer-to-requires : tie.Need-answer-to-requires
-answer-to-requires c κs =
-    let t = transaction-taken _ _ _ _ _ (sym (c .before .before .before .before .before .before .before .refusal .ensures) ∙ c .before .before .before .before .before .before .if1 .left) in
-    (t .is-sound, t .size, t .rows, t .same)
-
-same-length-2 : tie.Need-same-length-2
-same-length-2 c = search needs
-
-returns-3 : tie.Need-returns-3
-unfolding transacted outputAfter
-returns-3 c =
-    let i = now (c .before .before .before .before .before .before .before .before .before .before .before .before .before .before .before .args .input) in
-    let n = c .before .before .before .before .before .before .before .before .before .before .refusal .ensures in
-    let d : decoded (getD i 0 0) ≡ Known (c .before .before .before .before .before .decoded .given .0 .0) = ap decoded (sym (c .before .before .before .before .before .before .before .before .byte-at .ensures)) ∙ sym (c .before .before .before .before .before .before .before .decode .ensures) ∙ c .before .before .before .before .before .decoded .given .1 in
-    let z = eq-eqb _ _ (c .before .before .before .before .before .before .before .before .before .if1 .left) in
-    (rw (← n, z, d) (c .before .before .answer-to .ensures .0), rw (← n, z, d) (c .before .before .answer-to .ensures .1))
+returns : tie.Need-returns
+returns c =
+    let s = c .before .before .before .before .before .before .before .before .before .before .before .before in
+    let a = s .args in
+    let p = a .part in
+    let xs = now (a .array) in
+    let rs = now (a .rows) in
+    let i = now (a .input) in
+    let o = now (a .output) in
+    let h = c .before .before .before .before .before .before .before .head-of .ensures in
+    let d = c .before .before .before .before .before .before .is-sound .ensures in
+    let l = c .before .before .before .before .before .bit-of .ensures in
+    let u = c .before .before .before .transact-head .ensures in
+    let v : c .before .before .before .transact-head .result ≡ outcomeOf (headOf p) (sound p) (length xs) (length rs) (bit (a .wp)) i (length o) = rw (h, d, l) at (u .0) in
+    let w = rw (h, d, l) at (u .1) in
+    (rw (c .apply .ensures, v) (outcome-told p (bit (a .wp)) i (length xs) (length rs) (length o) ∙ level-bit p (length xs) (length rs) (a .wp) i (length o)), w ∙ output-told p (bit (a .wp)) i xs rs o ∙ output-bit p xs rs (a .wp) i o)
 
 pub transact-spec : {M : Type 1} → statement M
 transact-spec =
     tie.close
     (tie.spec
-    refusal-requires
-    returns
-    byte-at-requires
-    decode-requires
-    enum-known-decoded
-    enum-told
-    ignore-requires
+    head-of-requires
+    is-sound-requires
+    bit-of-requires
+    cast-transact-head
+    transact-head-requires
+    apply-requires
     same-length
-    returns-2
-    answer-to-requires
-    same-length-2
-    returns-3)
+    returns)

@@ -1,84 +1,65 @@
--- `yawlspar::yawlspar_transact` meets its contract: bytes that hold no record are left alone, a number that is no pin is refused, and else the call's next record is written.
-use Rattle.yawlspar.proofs.Face.{next-written, unheld-answer, unheld-image, unheld-output, pin-answer, pin-image, pin-output, call-answer, call-image, call-output}
-use Rattle.yawlspar.proofs.Laws.{first-few}
+-- `yawlspar::yawlspar_transact` meets its contract: bytes that hold no record are left alone, and else what the call makes of the record is written.
+use mathlib.Core.Path.{refl, sym, ap, _∙_}
+use denote.Ref.{now}
 use borrow.Author.Tests.{not-true, not-false}
-use mathlib.Core.Path.{_∙_}
 use borrow.Author.Needs.{needs}
+use Rattle.image.specs.declared.Found.{Found}
+use Rattle.image.specs.Read.{recordIn}
+use Rattle.yawlspar.proofs.Face.{unheld-answer, unheld-image, unheld-output, told-few, told-answer, told-image, told-output}
 use Rattle.yawlspar.proofs.yawlspar_transact.Statement.{statement}
 use Rattle.yawlspar.proofs.yawlspar_transact.Tie as tie
 
-read-record-requires : tie.Need-read-record-requires
-read-record-requires c κs = search needs
+read-part-requires : tie.Need-read-part-requires
+read-part-requires c κs = search needs
 
 same-length : tie.Need-same-length
 same-length c = search needs
 
 returns : tie.Need-returns
 returns c =
-    let h = c .before .before .read-record in
-    let n = not-true _ (c .if1 .taken) in
-    (rw (← h .ensures) (unheld-answer (h .result) _ _ _ _ _ n), (rw (← h .ensures) (unheld-image (h .result) _ _ _ _ _ _ n), rw (← h .ensures) (unheld-output (h .result) _ _ _ _ _ n)))
+    let f = c .before .before .read-part in
+    let h = recordIn (now (c .before .before .before .before .before .before .before .before .before .args .bytes)) in
+    let n = ap (λ (x : Found). x .ok) (sym (f .ensures)) ∙ not-true _ (c .if1 .taken) in
+    (unheld-answer h _ _ _ _ _ n, (unheld-image h _ _ _ _ _ _ n, unheld-output h _ _ _ _ _ n))
 
-refusal-requires : tie.Need-refusal-requires
-refusal-requires c κs = search needs
+transact-head-requires : tie.Need-transact-head-requires
+transact-head-requires c κs = search needs
 
-or-else-requires : tie.Need-or-else-requires
-or-else-requires c κs = search needs
+write-change-requires : tie.Need-write-change-requires
+write-change-requires c κs = search needs
 
-cast-result : tie.Need-cast-result
-cast-result c = search needs
+pack-requires : tie.Need-pack-requires
+pack-requires c κs =
+    let f = c .before .before .before .before .before .before .before .before .before .before .before .read-part in
+    let h = recordIn (now (c .before .before .before .before .before .before .before .before .before .before .before .before .before .before .before .before .before .before .args .bytes)) in
+    let e = ap (λ (x : Found). x .ok) (sym (f .ensures)) ∙ not-false _ (c .before .before .before .before .before .before .before .before .before .if1 .left) in
+    told-few h _ _ _ _ _ _ e (rw (f .ensures) at (c .before .before .before .before .before .before .transact-head .ensures .0))
 
 same-length-2 : tie.Need-same-length-2
 same-length-2 c = search needs
 
-returns-2 : tie.Need-returns-2
-returns-2 c =
-    let h = c .before .before .before .before .before .before .read-record in
-    let n = not-false _ (c .before .before .before .before .if1 .left) in
-    let w = c .before .before .if2 .taken in
-    (rw (← h .ensures) (c .or-else .ensures ∙ rw (c .before .refusal .ensures) (pin-answer (h .result) _ _ _ _ _ n w)), (rw (← h .ensures) (pin-image (h .result) _ _ _ _ _ _ (h .ensures) n w), rw (← h .ensures) (pin-output (h .result) _ _ _ _ _ n w)))
-
-transact-requires : tie.Need-transact-requires
-transact-requires c κs = search needs
-
-write-record-requires : tie.Need-write-record-requires
-write-record-requires c κs = search needs
-
-pack-requires : tie.Need-pack-requires
-pack-requires c κs =
-    let h = c .before .before .before .before .before .before .before .before .before .before .before .before .before .read-record in
-    let t = c .before .before .before .before .before .before .before .transact in
-    rw (t .ensures .0) (first-few _ _ _ _ _ _)
-
 same-length-3 : tie.Need-same-length-3
 same-length-3 c = search needs
 
-same-length-4 : tie.Need-same-length-4
-same-length-4 c = search needs
-
-returns-3 : tie.Need-returns-3
-returns-3 c =
-    let h = c .before .before .before .before .before .before .before .before .before .before .before .before .before .before .read-record in
-    let n = not-false _ (c .before .before .before .before .before .before .before .before .before .before .before .before .if1 .left) in
-    let w = c .before .before .before .before .before .before .before .before .before .before .if2 .left in
-    let t = c .before .before .before .before .before .before .before .before .transact in
-    (rw (← h .ensures) (c .pack .ensures ∙ call-answer (h .result) _ _ _ _ _ (t .result) n w (t .ensures .0)), (rw (← h .ensures) (c .before .before .before .write-record .ensures ∙ next-written (h .result) _ _ (h .ensures) n ∙ call-image (h .result) _ _ _ _ _ (t .result) n w (t .ensures .0) _), rw (← h .ensures) (t .ensures .1 ∙ call-output (h .result) _ _ _ _ _ n w)))
+returns-2 : tie.Need-returns-2
+returns-2 c =
+    let f = c .before .before .before .before .before .before .before .before .before .before .before .before .read-part in
+    let h = recordIn (now (c .before .before .before .before .before .before .before .before .before .before .before .before .before .before .before .before .before .before .before .args .bytes)) in
+    let e = ap (λ (x : Found). x .ok) (sym (f .ensures)) ∙ not-false _ (c .before .before .before .before .before .before .before .before .before .before .if1 .left) in
+    let t = c .before .before .before .before .before .before .before .transact-head .ensures in
+    let u = rw (f .ensures) at (t .0) in
+    (c .pack .ensures ∙ told-answer h _ _ _ _ _ _ e u, (c .before .before .before .write-change .ensures ∙ told-image h _ _ _ _ _ _ e u _ refl, rw (f .ensures) at (t .1) ∙ told-output h _ _ _ _ _ e))
 
 pub yawlspar-transact-spec : {M : Type 1} → statement M
 yawlspar-transact-spec =
     tie.close
     (tie.spec
-    read-record-requires
+    read-part-requires
     same-length
     returns
-    refusal-requires
-    or-else-requires
-    cast-result
-    same-length-2
-    returns-2
-    transact-requires
-    write-record-requires
+    transact-head-requires
+    write-change-requires
     pack-requires
+    same-length-2
     same-length-3
-    same-length-4
-    returns-3)
+    returns-2)

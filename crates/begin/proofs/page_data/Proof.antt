@@ -1,0 +1,50 @@
+-- `begin::page_data` meets its contract: the kept bytes, the input's last, are copied over zeros.
+use mathlib.Core.Path.{_∙_}
+use native.Mathlib.Omega.{arith}
+use lib.ListN.{length-drop}
+use denote.Ref.{now}
+use borrow.Author.Needs.{needs}
+use Rattle.paper.specs.Program.{noData}
+use Rattle.begin.proofs.PageCopied.{page-copied}
+use Rattle.begin.proofs.page_data.Statement.{statement}
+use Rattle.begin.proofs.page_data.Tie as tie
+
+kept-count-requires : tie.Need-kept-count-requires
+kept-count-requires c κs = search needs
+
+sub-from : tie.Need-sub-from
+sub-from c = omega (arith, simp length-drop at (c .kept-count .ensures))
+
+sub-copy : tie.Need-sub-copy
+sub-copy c = search needs
+
+part-copy-start : tie.Need-part-copy-start
+part-copy-start c = search needs
+
+part-copy-end : tie.Need-part-copy-end
+part-copy-end c = search needs
+
+slice-aggregate-copy : tie.Need-slice-aggregate-copy
+slice-aggregate-copy c = search needs
+
+copy-requires : tie.Need-copy-requires
+copy-requires c κs = search needs
+
+returns : tie.Need-returns
+unfolding noData
+returns c =
+    let i = now (c .before .before .before .before .before .before .args .input) in
+    c .before .copy .ensures .1 ∙ page-copied i _ (c .before .before .before .before .kept-count .ensures)
+
+pub page-data-spec : {M : Type 1} → statement M
+page-data-spec =
+    tie.close
+    (tie.spec
+    kept-count-requires
+    sub-from
+    sub-copy
+    part-copy-start
+    part-copy-end
+    slice-aggregate-copy
+    copy-requires
+    returns)

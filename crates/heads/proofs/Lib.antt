@@ -1,0 +1,3 @@
+pub mod Heads
+pub mod Outcomes
+pub mod Tight
