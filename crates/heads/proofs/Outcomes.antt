@@ -26,13 +26,13 @@ use Rattle.paper.specs.Sizes.{sizeOk, arrayBytes, rowsBytes}
 use Rattle.paper.specs.Records.{marked}
 use Rattle.paper.specs.Suspend.{suspendedIn, resumedIn}
 use Rattle.paper.specs.Soundness.{sound}
-use Rattle.paper.specs.Commands.{afterExecuted, afterIgnored}
+use Rattle.paper.specs.Commands.{afterExecuted}
 use Rattle.paper.specs.Table.{isRead, decoded, columns}
 use Rattle.paper.specs.Numbers.{sizeNumber, rowsNumber, outputNumber, soundNumber, transactionRefusal, commandNumber}
 use Rattle.paper.specs.Reads.{undrivenByte, sourceBytes, sourceStart, outputOf}
 use Rattle.paper.specs.Calls.{answerTo, transacted, outputTo, outputAfter}
 use Rattle.heads.specs.Heads.{headOf, bare, whole}
-use Rattle.heads.specs.Outcomes.{changed, changeBy, changeIgnored, refusalFor, levelRefusal, outcomeTo, outcomeOf, outputFor, answerOf, transactedAt, outputAt}
+use Rattle.heads.specs.Outcomes.{changed, changeBy, refusalFor, levelRefusal, outcomeTo, outcomeOf, outputFor, answerOf, transactedAt, outputAt}
 
 -- the page data of a suspended or resumed record is the one before
 suspended-whole : (p : Record) (f : Phase) → whole (headOf (marked (suspendedIn (bare (headOf p)) f) false)) (p .page) ≡ marked (suspendedIn p f) false
@@ -58,9 +58,6 @@ change-told Sleeps p i = refl
 change-told Wakes p i = refl
 change-told Arms p i = refl
 change-told Resets p i = refl
-
-pub ignored-told : (d : Decoded) (number : ℕ) (p : Record) (i : List ℕ) → changed (changeIgnored d number (bare (headOf p))) p i ≡ afterIgnored d number p
-ignored-told d number p i = refl
 
 -- what does not go by page data
 command-bare : (k : Columns) (p : Record) (i : List ℕ) (wp : Bool) → commandNumber k (bare (headOf p)) i wp ≡ commandNumber k p i wp

@@ -410,7 +410,7 @@ fn none_found() -> Found
     }
 }
 
-// The record that bytes hold, where its phase is idle: the cells that no phase has are 0, and a mark is 0 or 1.
+// The record that bytes hold, where its phase is idle: a mark is 0 or 1, and what stands for an operation is 0.
 fn idle_in(bytes: &[u8]) -> Found
     requires { ⌜ (length (now bytes) ≡ recordLength) × (getD (now bytes) 11 0 ≡ 0) ⌝ }
     ensures { λ r. ⌜ r ≡ found (recordIn (now (bytes .entry))) ⌝ }
