@@ -71,24 +71,17 @@ static void power_up_registers(void)
 
 static void power_up_numbers_that_fit_no_byte(void)
 {
-    size_t i;
+    size_t i, k;
 
-    for (i = 0; i < COUNT(no_bytes); i++) {
-        struct call good = fitting(POWER_UP), call;
+    for (i = 0; i < COUNT(no_bytes); i++)
+        for (k = 0; k < 6; k++) {
+            struct call call = fitting(POWER_UP);
+            uint64_t *const numbers[6] = {&call.maker,  &call.type,   &call.capacity,
+                                          &call.device, &call.status, &call.function};
 
-        call = good, call.maker = no_bytes[i];
-        number_is(&call, 5);
-        call = good, call.type = no_bytes[i];
-        number_is(&call, 5);
-        call = good, call.capacity = no_bytes[i];
-        number_is(&call, 5);
-        call = good, call.device = no_bytes[i];
-        number_is(&call, 5);
-        call = good, call.status = no_bytes[i];
-        number_is(&call, 5);
-        call = good, call.function = no_bytes[i];
-        number_is(&call, 5);
-    }
+            *numbers[k] = no_bytes[i];
+            number_is(&call, 5);
+        }
 }
 
 static void power_up_numbers(void)
