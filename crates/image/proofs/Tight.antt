@@ -1,11 +1,11 @@
 -- Two results that a contract of this crate allows are equal.
 use denote.Ref.{now}
 use Rattle.words.proofs.Allowed.{OneResult, OneExit, agree}
-use Rattle.image.proofs.write_record.Reads as write-record
-use Rattle.image.proofs.write_change.Reads as write-change
-use Rattle.image.proofs.read_part.Reads as read-part
-use Rattle.image.proofs.read_record.Reads as read-record
-use Rattle.image.proofs.read_back.Reads as read-back
+use Rattle.image.proofs.writing.write_record.Reads as write-record
+use Rattle.image.proofs.writing.write_change.Reads as write-change
+use Rattle.image.proofs.reading.read_part.Reads as read-part
+use Rattle.image.proofs.reading.read_record.Reads as read-record
+use Rattle.image.proofs.reading.read_back.Reads as read-back
 
 pub write-record-one : OneExit write-record.Learnt (λ κ s. now (s .1 .0))
 write-record-one κ a x y s t p q = agree p q

@@ -85,7 +85,7 @@ pub extern "C" fn yawlspar_power_up(
         return up.number as u64;
     }
     let next = up.next;
-    image::write_record(next, bytes);
+    image::writing::write_record(next, bytes);
     0
 }
 
@@ -104,14 +104,14 @@ pub extern "C" fn yawlspar_transact(
     ensures image { λ _. ⌜ now (bytes .exit) ≡ transactImage (recordIn (now (bytes .entry))) (length (now (array .entry))) (length (now (rows .entry))) wp (now (input .entry)) (length (now (output .entry))) (now (bytes .entry)) ⌝ }
     ensures output { λ _. ⌜ now (output .exit) ≡ transactOutput (recordIn (now (bytes .entry))) (now (array .entry)) (now (rows .entry)) wp (now (input .entry)) (now (output .entry)) ⌝ }
 {
-    let found = image::read_part(bytes);
+    let found = image::reading::read_part(bytes);
     if !found.ok {
         return 5;
     }
     let head = found.head;
     let outcome = transact::transact_head(head, found.sound, array, rows, wp, input, output);
     let change = outcome.change;
-    image::write_change(change, input, bytes);
+    image::writing::write_change(change, input, bytes);
     pack(outcome.number, outcome.first)
 }
 
@@ -128,13 +128,13 @@ pub extern "C" fn yawlspar_tick(
     ensures array { λ _. ⌜ now (array .exit) ≡ tickMemory Array (recordIn (now (bytes .entry))) (length (now (array .entry))) (length (now (rows .entry))) count (now (array .entry)) ⌝ }
     ensures rows { λ _. ⌜ now (rows .exit) ≡ tickMemory Rows (recordIn (now (bytes .entry))) (length (now (array .entry))) (length (now (rows .entry))) count (now (rows .entry)) ⌝ }
 {
-    let held = image::read_record(bytes);
+    let held = image::reading::read_record(bytes);
     if !held.ok {
         return 5;
     }
     let part = held.part;
     let ticked = ticks::tick(part, array, rows, count as usize);
     let next = ticked.next;
-    image::write_record(next, bytes);
+    image::writing::write_record(next, bytes);
     pack(ticked.number, ticked.done)
 }
