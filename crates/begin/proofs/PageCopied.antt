@@ -1,5 +1,5 @@
 -- The kept bytes of an input, copied over page data of zeros, are its page data.
-use Prim.Native.Nat.{ℕ, zero, suc, _+_, _-_, _≤_, _<_}
+use Prim.Native.Nat.{ℕ, zero, suc, _+_, _-_, _≤_, _<_, min}
 use mathlib.Core.Path.{_≡_, refl, _∙_}
 use mathlib.Core.Bool.{Bool, true, false}
 use mathlib.Core.List.{List, _++_}
@@ -27,12 +27,21 @@ last-kept-as i false e =
     let m : length i ≤ 4 + passedCount (dataSent i) = omega arith in
     rw (drop-drop, drop-of-length-le i l, drop-of-length-le i m)
 
-pub page-copied : (i : List ℕ) (count : ℕ) → count ≡ keptCount (dataSent i)
-    → let s = take (length i - (length i - count)) (drop (length i - count) i) in take (length s) s ++ drop (length s) noData ≡ pageData (dataSent i)
+-- the kept bytes are the last
+kept-last : (i : List ℕ) → min 4 (length i) + passedCount (dataSent i) ≡ length i - keptCount (dataSent i)
+kept-last i = simp length-drop (omega arith)
+
+-- the bytes after those passed over are copied, as many as are kept
+pub page-copied : (i : List ℕ) (first passed count : ℕ)
+    → first ≡ min 4 (length i) → passed ≡ passedCount (dataSent i) → count ≡ keptCount (dataSent i)
+    → let from = first + passed in
+    let s = take (from + count - from) (drop from i) in
+    take (length s) s ++ drop (length s) noData ≡ pageData (dataSent i)
 unfolding pageData noData
-page-copied i count q =
+page-copied i first passed count p q r =
     let k : keptCount (dataSent i) ≤ length i = simp length-drop (omega arith) in
-    let e : length i - (length i - keptCount (dataSent i)) ≡ keptCount (dataSent i) = omega arith in
-    let l : length (drop (length i - keptCount (dataSent i)) i) ≡ keptCount (dataSent i) = length-drop (length i - keptCount (dataSent i)) i ∙ e in
+    let f : first + passed ≡ length i - keptCount (dataSent i) = rw (p, q) (kept-last i) in
+    let e : first + passed + count - (first + passed) ≡ keptCount (dataSent i) = omega (arith, r) in
+    let l : length (drop (length i - keptCount (dataSent i)) i) ≡ keptCount (dataSent i) = length-drop (length i - keptCount (dataSent i)) i ∙ omega (arith, k) in
     let w : take (keptCount (dataSent i)) (drop (length i - keptCount (dataSent i)) i) ≡ drop (length i - keptCount (dataSent i)) i = take-all (keptCount (dataSent i)) (drop (length i - keptCount (dataSent i)) i) (omega (arith, l)) in
-    rw (q, e, w, take-length, l, drop-replicate (keptCount (dataSent i)) pageBytes 0 (omega arith), last-kept-as i _ refl)
+    rw (e, f, w, take-length, l, drop-replicate (keptCount (dataSent i)) pageBytes 0 (omega arith), last-kept-as i _ refl)

@@ -98,9 +98,10 @@ pub fn page_data(input: &[u8]) -> [u8; 256]
     ensures { λ r. ⌜ r ≡ pageData (dataSent (now (input .entry))) ⌝ }
 {
     let mut page = [0u8; 256];
-    let count = kept_count(input);
-    let end = input.len();
-    let from = end - count;
+    let first = words::lesser(4, input.len());
+    let passed = passed_count(input);
+    let from = first + passed;
+    let end = from + kept_count(input);
     bytes::copy(&input[from..end], &mut page);
     page
 }

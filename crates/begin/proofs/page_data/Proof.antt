@@ -1,4 +1,4 @@
--- `begin::page_data` meets its contract: the kept bytes, the input's last, are copied over zeros.
+-- `begin::page_data` meets its contract: the bytes after those passed over are copied over zeros.
 use mathlib.Core.Path.{_∙_}
 use native.Mathlib.Omega.{arith}
 use lib.ListN.{length-drop}
@@ -9,11 +9,21 @@ use Rattle.begin.proofs.PageCopied.{page-copied}
 use Rattle.begin.proofs.page_data.Statement.{statement}
 use Rattle.begin.proofs.page_data.Tie as tie
 
+lesser-requires : tie.Need-lesser-requires
+lesser-requires c κs = search needs
+
+passed-count-requires : tie.Need-passed-count-requires
+passed-count-requires c κs = search needs
+
+add-from : tie.Need-add-from
+add-from c = omega (arith, c .before .lesser .ensures, simp length-drop at (c .passed-count .ensures))
+
 kept-count-requires : tie.Need-kept-count-requires
 kept-count-requires c κs = search needs
 
-sub-from : tie.Need-sub-from
-sub-from c = omega (arith, simp length-drop at (c .kept-count .ensures))
+add-end : tie.Need-add-end
+add-end c =
+    omega (arith, c .before .before .lesser .ensures, simp length-drop at (c .before .passed-count .ensures), simp length-drop at (c .kept-count .ensures))
 
 sub-copy : tie.Need-sub-copy
 sub-copy c = search needs
@@ -22,7 +32,8 @@ part-copy-start : tie.Need-part-copy-start
 part-copy-start c = search needs
 
 part-copy-end : tie.Need-part-copy-end
-part-copy-end c = search needs
+part-copy-end c =
+    omega (arith, c .before .before .lesser .ensures, simp length-drop at (c .before .passed-count .ensures), simp length-drop at (c .kept-count .ensures))
 
 slice-aggregate-copy : tie.Need-slice-aggregate-copy
 slice-aggregate-copy c = search needs
@@ -33,15 +44,19 @@ copy-requires c κs = search needs
 returns : tie.Need-returns
 unfolding noData
 returns c =
-    let i = now (c .before .before .before .before .before .before .args .input) in
-    c .before .copy .ensures .1 ∙ page-copied i _ (c .before .before .before .before .kept-count .ensures)
+    let i = now (c .before .before .before .before .before .before .before .before .args .input) in
+    c .before .copy .ensures .1
+    ∙ page-copied i _ _ _ (c .before .before .before .before .before .before .lesser .ensures) (c .before .before .before .before .before .passed-count .ensures) (c .before .before .before .before .kept-count .ensures)
 
 pub page-data-spec : {M : Type 1} → statement M
 page-data-spec =
     tie.close
     (tie.spec
+    lesser-requires
+    passed-count-requires
+    add-from
     kept-count-requires
-    sub-from
+    add-end
     sub-copy
     part-copy-start
     part-copy-end
