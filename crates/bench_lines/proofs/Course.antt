@@ -1,23 +1,45 @@
 -- What a line does is what its call does, and lines one after another do what all of them do.
-use Prim.Native.Nat.{ℕ, suc, _+_, _-_, _≤_, _<_, min}
+use Prim.Native.Nat.{ℕ, suc, _+_, _*_, _-_, _/_, _≤_, _<_, min}
 use mathlib.Core.Path.{_≡_, refl, sym, ap, subst, _∙_}
 use mathlib.Core.Bool.{Bool, true, false, cond}
 use mathlib.Core.List.{List, [], _∷_}
 use native.Mathlib.Omega.{arith}
 use lib.Dec.{eqb}
 use lib.ListN.{length, take, drop, replicate, length-replicate, length-drop, drop-of-length-le}
-use lib.Seq.{take-length, drop-drop}
+use lib.Seq.{sets, take-all, take-length, length-take-le, drop-drop}
 use Rattle.types.specs.declared.Record.{Record}
 use Rattle.types.specs.declared.Answer.{Answer}
 use Rattle.types.specs.declared.PoweredUp.{PoweredUp}
+use Rattle.types.specs.declared.Line.the-variants.{Transaction}
 use Rattle.bytes.specs.Bytes.{indexOf, indexAfter, slice}
 use Rattle.paper.specs.Erase.{erasedByte}
 use Rattle.paper.specs.Reads.{undriven, undrivenByte}
 use Rattle.paper.specs.Calls.{poweredUp, transacted, outputAfter}
-use Rattle.paper.specs.Bench.{LF, before, linesOf, lineOf, Board, boardOf, sentTo, drivenBy, afterSent, benchIdentity, benchBoard, lineText, lineAfter, textOf, boardAfter}
+use Rattle.paper.specs.Bench.{LF, before, linesOf, pairs, lineOf, Board, boardOf, sentTo, drivenBy, afterSent, benchIdentity, benchBoard, lineText, lineAfter, textOf, boardAfter}
 use Rattle.words.proofs.Lists.{take-min, drop-min}
-use Rattle.bench_lines.specs.Printed.{Prints}
-use Rattle.bench_lines.proofs.Text.{prints-empty, prints-then, prints-length}
+use Rattle.lines.proofs.Numerals.{pairs-whole}
+use Rattle.lines.proofs.Lines.{pairs-count, Says, line-says}
+use Rattle.printing.specs.Printed.{Prints}
+use Rattle.printing.proofs.Text.{prints-empty, prints-then, prints-length}
+
+-- a line that says a transaction has a byte or more, and there is room for them in s and t, each of which is as long as there may be pairs
+pub line-room : (most : ℕ) (l s t : List ℕ) (wp : Bool) → lineOf most l ≡ Transaction wp → most ≤ length s → most ≤ length t
+    → (1 ≤ length l / 2) × (length l / 2 - 1 ≤ length s) × (length l / 2 - 1 ≤ length t) × (length l ≡ 2 * length (take (length l / 2 - 1 - 0) s) + 2) × (length (take (length l / 2 - 1 - 0) t) ≡ length (take (length l / 2 - 1 - 0) s))
+line-room most l s t wp e h k =
+    let c = pairs-count most (drop 2 l) (subst (Says most l) e (line-says most l)) in
+    let d : length (drop 2 l) ≡ length l - 2 = length-drop 2 l in
+    let a : 1 ≤ length l / 2 = omega (arith, c) in
+    let u : length l / 2 - 1 ≤ length s = omega (arith, c) in
+    let v : length l / 2 - 1 ≤ length t = omega (arith, c) in
+    let f : length (take (length l / 2 - 1 - 0) s) ≡ length l / 2 - 1 - 0 = length-take-le (length l / 2 - 1 - 0) s (omega arith) in
+    let g : length (take (length l / 2 - 1 - 0) t) ≡ length l / 2 - 1 - 0 = length-take-le (length l / 2 - 1 - 0) t (omega arith) in
+    (a, u, v, omega (arith, c), g ∙ sym f)
+
+-- the bytes of its pairs, which were put into a buffer s that has just room for them
+pub sent-pairs : (l s s₁ : List ℕ) → length l ≡ 2 * length s + 2 → s₁ ≡ sets s 0 (pairs (take (length l - 2) (drop 2 l))) → s₁ ≡ pairs (drop 2 l)
+sent-pairs l s s₁ h e =
+    let n : length (drop 2 l) ≡ length l - 2 = length-drop 2 l in
+    e ∙ rw (take-all (length l - 2) (drop 2 l) (omega arith)) (pairs-whole (drop 2 l) s (omega arith))
 
 -- a transaction of the bytes i, with a buffer of as many bytes that was set to FFh
 pub sent-as : (p : Record) (xs rs : List ℕ) (wp : Bool) (i sent back back₁ back₂ : List ℕ) (a : Answer) → sent ≡ i → length back ≡ length sent → back₁ ≡ undriven (length back)

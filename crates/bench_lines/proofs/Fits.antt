@@ -1,12 +1,11 @@
 -- What is printed for an input is at most four times as long as the input, so an output of four times its length holds all of it.
 use Prim.Native.Nat.{ℕ, suc, _+_, _*_, _-_, _≤_}
-use mathlib.Core.Path.{_≡_, refl, _∙_}
+use mathlib.Core.Path.{_≡_}
 use mathlib.Core.Bool.{Bool, true, false, cond}
-use mathlib.Core.List.{List, [], _∷_, _++_}
+use mathlib.Core.List.{List, [], _∷_}
 use native.Mathlib.Omega.{arith}
-use lib.Dec.{leb, eqb}
+use lib.Dec.{eqb}
 use lib.ListN.{length, take, drop, getD, length-append, length-drop, length-replicate}
-use lib.Seq.{sets-eq, take-at}
 use Rattle.types.specs.declared.Decoded.{Decoded}
 use Rattle.types.specs.declared.Decoded.the-variants.{Known, Unknown}
 use Rattle.types.specs.declared.Record.{Record}
@@ -17,46 +16,12 @@ use Rattle.paper.specs.Numbers.{transactionRefusal, ignoredNumber}
 use Rattle.paper.specs.Table.{decoded, columns}
 use Rattle.paper.specs.Reads.{undrivenByte, undriven, outputByte, outputOf}
 use Rattle.paper.specs.Calls.{outputTo, outputAfter}
-use Rattle.paper.specs.Bench.{LF, before, linesOf, pairs, pairsOk, digitsOk, lineOf, leading, decimal, hexPairs, placeText, answerText, ticksText, otherText, Board, sentTo, drivenBy, sentText, waited, waitedText, lineText, lineAfter, textOf}
-use Rattle.bench_lines.specs.Printed.{Prints}
-use Rattle.bench_lines.proofs.Lines.{digits-count, pairs-count, Says, line-says}
-
--- a number has at most five digits
-if-some : (t : Bool) (x : ℕ) → length (cond t (x ∷ []) []) ≤ 1
-if-some true x = omega arith
-if-some false x = omega arith
-
-leading-fits : (d n : ℕ) → length (leading d n) ≤ 1
-unfolding leading
-leading-fits d n = if-some (leb d n) _
-
-decimal-fits : (n : ℕ) → length (decimal n) ≤ 5
-unfolding decimal
-decimal-fits n =
-    let a = leading-fits 10000 n in
-    let b = leading-fits 1000 n in
-    let c = leading-fits 100 n in
-    let d = leading-fits 10 n in
-    simp length-append (omega arith)
-
--- and so has a place, or it is one character
-place-as : (t : Bool) (x n : ℕ) → length (cond t (x ∷ []) (decimal n)) ≤ 5
-place-as true x n = omega arith
-place-as false x n = decimal-fits n
-
-place-fits : (first n : ℕ) → length (placeText first n) ≤ 5
-unfolding placeText
-place-fits first n = place-as (eqb first n) _ first
-
--- a byte has two hex digits
-length-hex : (xs : List ℕ) → length (hexPairs xs) ≡ 2 * length xs
-length-hex [] = refl
-length-hex (x ∷ xs) = let e = length-hex xs in omega arith
-
-length-pairs : (xs : List ℕ) → 2 * length (pairs xs) ≤ length xs
-length-pairs [] = omega arith
-length-pairs (h ∷ []) = omega arith
-length-pairs (h ∷ l ∷ xs) = let e = length-pairs xs in omega arith
+use Rattle.paper.specs.Bench.{LF, before, linesOf, pairs, pairsOk, digitsOk, lineOf, otherText, Board, sentTo, drivenBy, sentText, waited, waitedText, lineText, lineAfter, textOf}
+use Rattle.lines.proofs.Numerals.{length-pairs}
+use Rattle.lines.proofs.Lines.{digits-count, pairs-count, Says, line-says}
+use Rattle.printing.specs.Printed.{Prints}
+use Rattle.printing.proofs.Text.{prints-whole}
+use Rattle.printing.proofs.Lengths.{answer-fits, ticks-fit}
 
 -- an output is as long as the input
 length-either : (t : Bool) (xs ys : List ℕ) (n : ℕ) → length xs ≡ n → length ys ≡ n → length (cond t xs ys) ≡ n
@@ -81,22 +46,6 @@ module _ (p : Record) (xs rs : List ℕ) (wp : Bool) (i : List ℕ) where
 length-driven : (b : Board) (wp : Bool) (i : List ℕ) → length (drivenBy b wp i) ≡ length i
 length-driven b wp i =
     length-after (b .part) (b .array) (b .rows) wp i (undriven (length i)) (length-replicate (length i) undrivenByte)
-
--- what is printed for a transaction of so many bytes, and for ticks
-answer-fits : (number first : ℕ) (out : List ℕ) → length (answerText number first out) ≤ 13 + 2 * length out
-unfolding answerText
-answer-fits number first out =
-    let a = decimal-fits number in
-    let b = place-fits first (length out) in
-    let c = length-hex out in
-    simp length-append (omega arith)
-
-ticks-fit : (number done : ℕ) → length (ticksText number done) ≤ 12
-unfolding ticksText
-ticks-fit number done =
-    let a = decimal-fits number in
-    let b = decimal-fits done in
-    simp length-append (omega arith)
 
 -- the characters that a line takes: those that it has, and an empty one its LF
 abbrev taken : List ℕ → ℕ
@@ -174,16 +123,9 @@ text-fits most xs b =
     let e = lines-take xs in
     omega arith
 
--- a text that an output has room for is printed whole
-whole : (o t o′ : List ℕ) (at : ℕ) → length t ≤ length o → Prints o 0 t o′ at → (at ≡ length t) × (take at o′ ≡ t)
-whole o t o′ at h p =
-    let n : at ≡ length t = omega (arith, p .place) in
-    let e : o′ ≡ t ++ drop (0 + length t) o = p .written ∙ sets-eq t o 0 (omega arith) in
-    (n, rw (e, n) (take-at t (drop (0 + length t) o) (length t) refl))
-
 -- an output of four times the input's length holds all that is printed
 pub printed-whole : (most : ℕ) (xs : List ℕ) (b : Board) (o o′ : List ℕ) (at : ℕ) → 4 * length xs ≤ length o → Prints o 0 (textOf most (linesOf xs) b) o′ at
     → (at ≡ length (textOf most (linesOf xs) b)) × (take at o′ ≡ textOf most (linesOf xs) b)
 printed-whole most xs b o o′ at h p =
     let f = text-fits most xs b in
-    whole o (textOf most (linesOf xs) b) o′ at (omega arith) p
+    prints-whole o (textOf most (linesOf xs) b) o′ at (omega arith) p

@@ -1,23 +1,15 @@
 -- Two results that the contract of a function of this crate allows are equal: what it answers, and what it leaves in array, rows and output.
 use Prim.Native.Nat.{ℕ}
 use mathlib.Core.Path.{_≡_, ap, _∙_}
-use mathlib.Core.List.{List}
 use denote.Ref.{now}
 use Rattle.types.specs.declared.Record.{Record}
 use Rattle.words.proofs.Allowed.{OneResult, OneExit, agree}
 use Rattle.paper.specs.Bench.{Board}
+use Rattle.printing.proofs.Text.{one-output, one-place}
 use Rattle.bench_lines.specs.declared.Ran.{Ran}
-use Rattle.bench_lines.specs.Printed.{Prints}
 use Rattle.bench_lines.proofs.run.Reads as run
 use Rattle.bench_lines.proofs.on_part.Reads as on-part
 use Rattle.bench_lines.proofs.bench.Reads as bench
-
--- a text printed from one place of one output
-one-output : {o t o₁ o₂ : List ℕ} {at at₁ at₂ : ℕ} → Prints o at t o₁ at₁ → Prints o at t o₂ at₂ → o₁ ≡ o₂
-one-output p q = agree (p .written) (q .written)
-
-one-place : {o t o₁ o₂ : List ℕ} {at at₁ at₂ : ℕ} → Prints o at t o₁ at₁ → Prints o at t o₂ at₂ → at₁ ≡ at₂
-one-place p q = agree (p .place) (q .place)
 
 ran-same : (x y : Ran) → x .next ≡ y .next → x .printed ≡ y .printed → x ≡ y
 ran-same x y e f =

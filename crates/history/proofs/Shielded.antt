@@ -17,7 +17,7 @@ use Rattle.types.specs.declared.Phase.{Phase}
 use Rattle.types.specs.declared.Phase.the-variants.{Idle, Busy, Suspended}
 use Rattle.types.specs.declared.Record.{Record}
 use Rattle.words.specs.Logic.{_and_, _or_}
-use Rattle.words.proofs.Tests.{and-l, and-r}
+use Rattle.words.proofs.Tests.{and-l, and-r, and-false}
 use Rattle.paper.specs.Sizes.{arrayBytes, rowsBytes, pageBytes, blockBytes, sameMemory}
 use Rattle.paper.specs.Protection.{codeOf, blocksAsked, protectedBlocks, protected, locked}
 use Rattle.paper.specs.Program.{pageBase, pagePlace, narrowedByte}
@@ -34,11 +34,6 @@ use Rattle.paper.proofs.CallKept.{call-sound}
 use Rattle.history.specs.Run.{Run}
 use Rattle.history.proofs.Touches.{bytes-append}
 use Rattle.history.proofs.Told.{run-told}
-
-and-false : (a : Bool) → (a and false) ≡ false
-unfolding _and_
-and-false true = refl
-and-false false = refl
 
 -- a code of 0 protects nothing
 none-protected : (n k : ℕ) → protected 0 n k ≡ false

@@ -9,7 +9,7 @@ use native.Mathlib.Numerals.{add-one}
 use borrow.Author.Tests.{eq-eqb, ne-eqb, le-leb, lt-leb}
 use lib.Dec.{leb}
 use lib.ListN.{length, take, drop, getD, replicate, length-append, length-drop, take-append-drop, replicate-append-replicate}
-use lib.Seq.{take-suc, take-at, drop-at, drop-drop, getD-drop, length-take-le, take-all, drop-length}
+use lib.Seq.{sets, set-out, take-suc, take-at, drop-at, drop-drop, getD-drop, length-take-le, take-all, drop-length}
 use Rattle.words.specs.Lists.{upTo, round, driven}
 
 -- to take more than there is takes all
@@ -27,6 +27,11 @@ drop-min (suc k) [] = let e : min (suc k) 0 ≡ 0 = omega arith in rw e
 drop-min (suc k) (x ∷ xs) =
     let e : min (suc k) (suc (length xs)) ≡ suc (min k (length xs)) = omega arith in
     rw e (drop-min k xs)
+
+-- and to set places past the end sets none
+pub sets-out : (o : List ℕ) (at : ℕ) (t : List ℕ) → length o ≤ at → sets o at t ≡ o
+sets-out o at [] h = refl
+sets-out o at (x ∷ t) h = rw (set-out o at x h) (sets-out o (suc at) t (omega arith))
 
 pub length-upTo : (n : ℕ) (f : ℕ → ℕ) → length (upTo n f) ≡ n
 length-upTo zero f = refl

@@ -33,6 +33,11 @@ unfolding _and_
 and-true true = refl
 and-true false = refl
 
+pub and-false : (a : Bool) → (a and false) ≡ false
+unfolding _and_
+and-false true = refl
+and-false false = refl
+
 pub or-cases : (a b : Bool) → (a or b) ≡ true → (a ≡ true) ⊎ (b ≡ true)
 unfolding _or_
 or-cases true b e = inl refl

@@ -2,7 +2,7 @@
 use mathlib.Core.Path.{sym}
 use lib.Seq.{length-take-le}
 use borrow.Author.Needs.{needs}
-use Rattle.bench_lines.proofs.Text.{prints-within}
+use Rattle.printing.proofs.Text.{prints-within}
 use Rattle.bench.proofs.answer.Statement.{statement}
 use Rattle.bench.proofs.answer.Tie as tie
 

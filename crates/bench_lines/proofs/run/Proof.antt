@@ -52,7 +52,7 @@ run-line-requires : tie.Need-run-line-requires Inv-loop μ-loop
 run-line-requires c κs =
     let e = c .before .before .before .before .before .before .before .before .before .before .before .before .lesser .ensures in
     let l = c .before .before .before .before .before .before .before .before .before .loop in
-    (omega (arith, e), omega (arith, e, l .inv .3), omega (arith, e, l .inv .4))
+    (omega (arith, e, l .inv .3), omega (arith, e, l .inv .4))
 
 after-requires : tie.Need-after-requires Inv-loop μ-loop
 after-requires c κs = search needs

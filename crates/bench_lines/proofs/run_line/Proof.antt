@@ -1,10 +1,8 @@
 -- `bench_lines::run_line` meets its contract, for each thing that a line can say.
-use Rattle.bench_lines.proofs.Lines.{line-room}
-use Rattle.paper.specs.Bench.{otherText, boardOf}
-use Rattle.bench_lines.proofs.Course.{sent-board}
+use Rattle.paper.specs.Bench.{boardOf}
+use Rattle.bench_lines.proofs.Course.{line-room, sent-board}
 use mathlib.Core.Path.{refl, sym, _∙_}
 use denote.Ref.{now}
-use native.Mathlib.Omega.{arith}
 use borrow.Author.Needs.{needs}
 use Rattle.bench_lines.proofs.run_line.Statement.{statement}
 use Rattle.bench_lines.proofs.run_line.Tie as tie
@@ -18,7 +16,7 @@ enum-known-said c = search needs
 sub-n : tie.Need-sub-n
 sub-n c =
     let s = c .before .before .before .before .before .before .before .before .before .before in
-    line-room (s .args .most) (now (s .args .line)) (now (s .args .sent)) (now (s .args .back)) _ (sym (c .before .before .before .line-of .ensures) ∙ c .before .said .given .1) (s .pre .1) (s .pre .2) .0
+    line-room (s .args .most) (now (s .args .line)) (now (s .args .sent)) (now (s .args .back)) _ (sym (c .before .before .before .line-of .ensures) ∙ c .before .said .given .1) (s .pre .0) (s .pre .1) .0
 
 sub-send : tie.Need-sub-send
 sub-send c = search needs
@@ -29,7 +27,7 @@ part-send-start c = search needs
 part-send-end : tie.Need-part-send-end
 part-send-end c =
     let s = c .before .before .before .before .before .before .before .before .before .before .before .before in
-    line-room (s .args .most) (now (s .args .line)) (now (s .args .sent)) (now (s .args .back)) _ (sym (c .before .before .before .before .before .line-of .ensures) ∙ c .before .before .before .said .given .1) (s .pre .1) (s .pre .2) .1
+    line-room (s .args .most) (now (s .args .line)) (now (s .args .sent)) (now (s .args .back)) _ (sym (c .before .before .before .before .before .line-of .ensures) ∙ c .before .before .before .said .given .1) (s .pre .0) (s .pre .1) .1
 
 sub-send-2 : tie.Need-sub-send-2
 sub-send-2 c = search needs
@@ -40,12 +38,12 @@ part-send-start-2 c = search needs
 part-send-end-2 : tie.Need-part-send-end-2
 part-send-end-2 c =
     let s = c .before .before .before .before .before .before .before .before .before .before .before .before .before in
-    line-room (s .args .most) (now (s .args .line)) (now (s .args .sent)) (now (s .args .back)) _ (sym (c .before .before .before .before .before .before .line-of .ensures) ∙ c .before .before .before .before .said .given .1) (s .pre .1) (s .pre .2) .2
+    line-room (s .args .most) (now (s .args .line)) (now (s .args .sent)) (now (s .args .back)) _ (sym (c .before .before .before .before .before .before .line-of .ensures) ∙ c .before .before .before .before .said .given .1) (s .pre .0) (s .pre .1) .2
 
 send-requires : tie.Need-send-requires
 send-requires c κs =
     let s = c .before .before .before .before .before .before .before .before .before .before .before .before .before .before .before in
-    let r = line-room (s .args .most) (now (s .args .line)) (now (s .args .sent)) (now (s .args .back)) _ (sym (c .before .before .before .before .before .before .before .before .line-of .ensures) ∙ c .before .before .before .before .before .before .said .given .1) (s .pre .1) (s .pre .2) in
+    let r = line-room (s .args .most) (now (s .args .line)) (now (s .args .sent)) (now (s .args .back)) _ (sym (c .before .before .before .before .before .before .before .before .line-of .ensures) ∙ c .before .before .before .before .before .before .said .given .1) (s .pre .0) (s .pre .1) in
     (r .3, r .4)
 
 enum-known-said-2 : tie.Need-enum-known-said-2
@@ -57,8 +55,8 @@ wait-requires c κs = search needs
 enum-told : tie.Need-enum-told
 enum-told c = search needs
 
-put-two-requires : tie.Need-put-two-requires
-put-two-requires c κs = search needs
+put-other-requires : tie.Need-put-other-requires
+put-other-requires c κs = search needs
 
 same-length : tie.Need-same-length
 same-length c = refl
@@ -99,10 +97,9 @@ same-length-9 : tie.Need-same-length-9
 same-length-9 c = c .before .output3 .given
 
 returns-3 : tie.Need-returns-3
-unfolding otherText
 returns-3 c =
     let e = sym (c .before .before .before .before .before .before .line-of .ensures) ∙ c .before .before .before .before .enum-told .given .1 in
-    rw e (refl, c .before .before .put-two .ensures)
+    rw e (refl, c .before .before .put-other .ensures)
 
 pub run-line-spec : {M : Type 1} → statement M
 run-line-spec =
@@ -121,7 +118,7 @@ run-line-spec =
     enum-known-said-2
     wait-requires
     enum-told
-    put-two-requires
+    put-other-requires
     same-length
     same-length-2
     same-length-3

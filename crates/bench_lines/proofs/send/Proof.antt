@@ -1,5 +1,5 @@
 -- `bench_lines::send` meets its contract: the call is made with the bytes of the pairs and a buffer of FFh, and its answer is printed.
-use Rattle.bench_lines.proofs.Course.{sent-as}
+use Rattle.bench_lines.proofs.Course.{sent-pairs, sent-as}
 use Rattle.paper.specs.Bench.{pairs}
 use Rattle.types.specs.declared.Answer.{Answer}
 use mathlib.Core.Path.{ap, _∙_}
@@ -9,6 +9,15 @@ use denote.Ref.{now}
 use borrow.Author.Needs.{needs}
 use Rattle.bench_lines.proofs.send.Statement.{statement}
 use Rattle.bench_lines.proofs.send.Tie as tie
+
+sub-bytes-of : tie.Need-sub-bytes-of
+sub-bytes-of c = search needs
+
+part-bytes-of-start : tie.Need-part-bytes-of-start
+part-bytes-of-start c = search needs
+
+part-bytes-of-end : tie.Need-part-bytes-of-end
+part-bytes-of-end c = search needs
 
 bytes-of-requires : tie.Need-bytes-of-requires
 bytes-of-requires c κs = search needs
@@ -33,15 +42,18 @@ same-length-3 c = c .before .output .given
 
 returns : tie.Need-returns
 returns c =
-    let s = c .before .before .before .before .before .before .before .before .before .before .before .before .before .before .before .before .before .before .before .before .before .before .before .before .before in
+    let s = c .before .before .before .before .before .before .before .before .before .before .before .before .before .before .before .before .before .before .before .before .before .before .before .before .before .before in
     let a = s .args in
-    let r = sent-as (a .part) (now (a .array)) (now (a .rows)) (a .wp) (pairs (drop 2 (now (a .line)))) (c .before .before .before .before .before .before .before .before .before .before .before .before .before .before .before .before .before .bytes-of .last .1 .0) (now (a .back)) (c .before .before .before .before .before .before .before .before .before .before .before .before .before .blank .last .0) (c .before .before .before .before .before .before .before .before .transact .last .1 .1 .1 .1 .1 .0) (c .before .before .before .before .before .before .before .before .transact .result) (c .before .before .before .before .before .before .before .before .before .before .before .before .before .before .before .before .before .bytes-of .ensures) (omega (arith, s .pre, c .before .before .before .before .before .before .before .before .before .before .before .before .before .before .before .before .sent .given, c .before .before .before .before .before .before .before .before .before .before .before .before .back .given)) (c .before .before .before .before .before .before .before .before .before .before .before .before .before .blank .ensures) (c .before .before .before .before .before .before .before .before .transact .ensures .0) (c .before .before .before .before .before .before .before .before .transact .ensures .1) in
+    let r = sent-as (a .part) (now (a .array)) (now (a .rows)) (a .wp) (pairs (drop 2 (now (a .line)))) (c .before .before .before .before .before .before .before .before .before .before .before .before .before .before .before .before .before .bytes-of .last .1 .0) (now (a .back)) (c .before .before .before .before .before .before .before .before .before .before .before .before .before .blank .last .0) (c .before .before .before .before .before .before .before .before .transact .last .1 .1 .1 .1 .1 .0) (c .before .before .before .before .before .before .before .before .transact .result) (sent-pairs (now (a .line)) (now (a .sent)) _ (s .pre .0) (c .before .before .before .before .before .before .before .before .before .before .before .before .before .before .before .before .before .bytes-of .ensures)) (omega (arith, s .pre, c .before .before .before .before .before .before .before .before .before .before .before .before .before .before .before .before .sent .given, c .before .before .before .before .before .before .before .before .before .before .before .before .back .given)) (c .before .before .before .before .before .before .before .before .before .before .before .before .before .blank .ensures) (c .before .before .before .before .before .before .before .before .transact .ensures .0) (c .before .before .before .before .before .before .before .before .transact .ensures .1) in
     (ap (λ (x : Answer). x .next) (r .0), rw (← r .0, ← r .1) (c .before .before .put-answer .ensures))
 
 pub send-spec : {M : Type 1} → statement M
 send-spec =
     tie.close
     (tie.spec
+    sub-bytes-of
+    part-bytes-of-start
+    part-bytes-of-end
     bytes-of-requires
     blank-requires
     transact-requires

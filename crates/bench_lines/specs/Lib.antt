@@ -1,2 +1,0 @@
-pub mod Characters
-pub mod Printed

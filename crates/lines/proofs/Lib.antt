@@ -1,0 +1,4 @@
+pub mod Characters
+pub mod Numerals
+pub mod Lines
+pub mod Tight
