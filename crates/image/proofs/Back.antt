@@ -1,79 +1,30 @@
 -- A record's bytes are read as that record, and bytes that are read as a record are its bytes.
-use Prim.Native.Nat.{ℕ, zero, suc, _+_, _*_, _/_, _%_, _^_, _<_}
+use Prim.Native.Nat.{ℕ}
 use mathlib.Core.Path.{_≡_, refl, sym, ap, _∙_}
 use mathlib.Core.Bool.{Bool, true, false, false≢true}
 use mathlib.Core.List.{List, [], _∷_, _++_}
-use native.Mathlib.Omega.{arith}
 use lib.Dec.{eqb}
-use lib.Pow.{pow-add}
 use lib.ListN.{length, take, drop, length-append, take-append-drop}
-use lib.Seq.{take-all, take-at, take-append-seam, getD-append-seam}
+use lib.Seq.{take-at}
 use borrow.Author.Tests.{eq-eqb, eqb-true}
-use Rattle.types.specs.declared.Memory.the-variants.{Array, Rows}
-use Rattle.types.specs.declared.EraseUnit.the-variants.{Sector, Block32, Block64, Chip, Row}
-use Rattle.types.specs.declared.Register.the-variants.{Status, Function}
-use Rattle.types.specs.declared.Operation.{Operation}
-use Rattle.types.specs.declared.Operation.the-variants.{Program, Erase, Write}
 use Rattle.types.specs.declared.Phase.{Phase}
-use Rattle.types.specs.declared.Phase.the-variants.{Idle, Busy, Suspended}
 use Rattle.types.specs.declared.Identity.{Identity}
 use Rattle.types.specs.declared.Record.{Record}
 use Rattle.words.specs.Logic.{_and_, bit}
 use Rattle.words.proofs.Tests.{and-l, and-r}
 use Rattle.words.proofs.Allowed.{agree}
-use Rattle.paper.specs.Address.{highFirst}
-use Rattle.paper.proofs.Addresses.{high-first-none, high-first-more}
-use Rattle.image.specs.declared.Cells.{Cells}
+use Rattle.address.proofs.Bytes.{number-back}
+use Rattle.cells.specs.Phases.{cellsOf, phaseOf}
+use Rattle.cells.proofs.Back.{phase-back, same-cells}
 use Rattle.image.specs.declared.Held.{Held}
-use Rattle.image.specs.Layout.{cells, operationCells, cellsOf, bytesOf, header, recordBytes, written}
-use Rattle.image.specs.Read.{operationOf, phaseOf, sameBytes, cellsIn, headIn, fieldsIn, holds, nothing, held, recordIn, Fits}
+use Rattle.image.specs.Layout.{header, recordBytes, written}
+use Rattle.image.specs.Read.{sameBytes, cellsIn, headIn, fieldsIn, holds, nothing, held, recordIn, Fits}
 use Rattle.image.proofs.Laws.{header-length, holds-as}
 
--- one byte more
-high-first-snoc : (xs : List ℕ) (b : ℕ) → highFirst (xs ++ (b ∷ [])) ≡ highFirst xs * 256 + b
-high-first-snoc xs b =
-    let l : length (xs ++ (b ∷ [])) ≡ suc (length xs) = simp length-append (omega arith) in
-    let m : highFirst (take (suc (length xs)) (xs ++ (b ∷ []))) ≡ highFirst (take (length xs) (xs ++ (b ∷ []))) * 256 + _ = high-first-more (xs ++ (b ∷ [])) (length xs) (omega arith) in
-    rw (take-all (suc (length xs)) (xs ++ (b ∷ [])) (omega arith), take-append-seam, getD-append-seam) at m
-
--- the bytes of a number that fits them are that number
-pub number-back : (k n : ℕ) → n < 2 ^ (8 * k) → highFirst (bytesOf k n) ≡ n
-number-back zero n h = high-first-none [] ∙ omega arith
-number-back (suc k) n h =
-    let e : 8 * suc k ≡ 8 * k + 8 = omega arith in
-    let q : 2 ^ (8 * suc k) ≡ 2 ^ (8 * k) * 256 = rw (e, pow-add) in
-    high-first-snoc (bytesOf k (n / 256)) (n % 256) ∙ rw (number-back k (n / 256) (omega arith)) (omega arith)
-
--- an operation and a phase come back from their cells, a mark from its byte
-operation-back : (f : ℕ) (o : Operation) → operationOf (operationCells f o .kind) (operationCells f o) ≡ o
-unfolding operationOf
-operation-back f (Program Array b s k d) = refl
-operation-back f (Program Rows b s k d) = refl
-operation-back f (Erase Sector b d) = refl
-operation-back f (Erase Block32 b d) = refl
-operation-back f (Erase Block64 b d) = refl
-operation-back f (Erase Chip b d) = refl
-operation-back f (Erase Row b d) = refl
-operation-back f (Write Status v) = refl
-operation-back f (Write Function v) = refl
-
-operation-phase : (f : ℕ) (o : Operation) → operationCells f o .phase ≡ f
-operation-phase f (Program m b s k d) = refl
-operation-phase f (Erase u b d) = refl
-operation-phase f (Write r v) = refl
-
-phase-back : (f : Phase) → phaseOf (cellsOf f .phase) (cellsOf f) ≡ f
-unfolding phaseOf
-phase-back Idle = refl
-phase-back (Busy o) = rw (operation-phase 1 o) (ap Busy (operation-back 1 o))
-phase-back (Suspended o) = rw (operation-phase 2 o) (ap Suspended (operation-back 2 o))
-
+-- a mark comes back from its byte
 mark-back : (m : Bool) → eqb (bit m) 1 ≡ m
 mark-back true = refl
 mark-back false = refl
-
-same-cells : (f k v b b′ n n′ d d′ : ℕ) → b ≡ b′ → n ≡ n′ → d ≡ d′ → cells f k v b n d ≡ cells f k v b′ n′ d′
-same-cells f k v b b′ n n′ d d′ p q r = rw (p, q, r)
 
 cells-back : (p : Record) → Fits p → cellsIn (recordBytes p) ≡ cellsOf (p .phase)
 unfolding cellsIn recordBytes header
@@ -87,7 +38,7 @@ fields-back : (p : Record) → Fits p → fieldsIn (recordBytes p) ≡ p
 unfolding fieldsIn headIn recordBytes header
 fields-back p h =
     same-fields _ _ (p .identity) (p .status) (p .function) _ _ _ _ _ _ _ _ (p .page) (number-back 2 (p .blocks) (h .blocks)) (mark-back (p .wel)) (mark-back (p .armed)) (mark-back (p .asleep))
-    (ap (λ (s : Cells). phaseOf (s .phase) s) (cells-back p h) ∙ phase-back (p .phase))
+    (ap phaseOf (cells-back p h) ∙ phase-back (p .phase))
 
 same-bytes : (xs : List ℕ) → sameBytes xs xs ≡ true
 unfolding _and_

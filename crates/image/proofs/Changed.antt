@@ -14,7 +14,8 @@ use Rattle.words.proofs.Tests.{and-l}
 use Rattle.paper.specs.Records.{marked}
 use Rattle.heads.specs.Heads.{whole}
 use Rattle.heads.specs.Outcomes.{changed}
-use Rattle.image.specs.Layout.{cellsOf, header, recordBytes, bytesChanged, imageChanged}
+use Rattle.cells.specs.Phases.{cellsOf}
+use Rattle.image.specs.Layout.{header, recordBytes, bytesChanged, imageChanged}
 use Rattle.image.specs.declared.Held.{Held}
 use Rattle.image.specs.Read.{fieldsIn, holds, recordIn}
 use Rattle.image.proofs.Laws.{header-bare}

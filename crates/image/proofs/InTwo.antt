@@ -18,11 +18,12 @@ use Rattle.words.proofs.Lists.{upTo-part}
 use Rattle.paper.specs.Soundness.{sound}
 use Rattle.heads.specs.Heads.{headOf, whole, bare, idleSound}
 use Rattle.heads.proofs.Heads.{idle-sound}
-use Rattle.image.specs.declared.Cells.{Cells}
+use Rattle.cells.specs.declared.Cells.{Cells}
+use Rattle.cells.specs.Phases.{cellsOf, phaseOf}
 use Rattle.image.specs.declared.Held.{Held}
 use Rattle.image.specs.declared.Found.{Found}
-use Rattle.image.specs.Layout.{cellsOf, header}
-use Rattle.image.specs.Read.{phaseOf, sameBytes, cellsIn, headIn, fieldsIn, holds, nothing, held, recordIn, found}
+use Rattle.image.specs.Layout.{header}
+use Rattle.image.specs.Read.{sameBytes, cellsIn, headIn, fieldsIn, holds, nothing, held, recordIn, found}
 use Rattle.image.proofs.Laws.{header-bare, two-bytes, holds-as}
 use Rattle.image.proofs.Back.{taken, ok-as}
 
@@ -78,7 +79,7 @@ module _ (bs : List ℕ) (l : length bs ≡ 294) where
   head-bytes = rw (two-bytes bs (omega arith))
 
   module _ (e : getD bs 11 0 ≡ 0) where
-    idle-phase : phaseOf (cellsIn bs .phase) (cellsIn bs) ≡ Idle
+    idle-phase : phaseOf (cellsIn bs) ≡ Idle
     unfolding phaseOf cellsIn
     idle-phase = rw e
 
@@ -109,10 +110,10 @@ idle-sounds bs h s l eh es =
     ∙ sym (idle-sound (whole h (drop 38 bs)) (ap (λ (x : Head). x .phase) eh))
 
 -- in another phase the header is compared
-pub any-fields : (bs : List ℕ) (s : Cells) (f : Phase) (h : Head) → s ≡ cellsIn bs → f ≡ phaseOf (s .phase) s → h ≡ headIn bs f → whole h (drop 38 bs) ≡ fieldsIn bs
+pub any-fields : (bs : List ℕ) (s : Cells) (f : Phase) (h : Head) → s ≡ cellsIn bs → f ≡ phaseOf s → h ≡ headIn bs f → whole h (drop 38 bs) ≡ fieldsIn bs
 unfolding fieldsIn
 any-fields bs s f h es ef eh =
-    ap (λ (x : Head). whole x (drop 38 bs)) (eh ∙ ap (λ (y : Phase). headIn bs y) (ef ∙ ap (λ (x : Cells). phaseOf (x .phase) x) es))
+    ap (λ (x : Head). whole x (drop 38 bs)) (eh ∙ ap (λ (y : Phase). headIn bs y) (ef ∙ ap phaseOf es))
 
 pub any-test : (bs : List ℕ) (h : Head) (x : List ℕ) (t : Bool) → length bs ≡ 294 → whole h (drop 38 bs) ≡ fieldsIn bs → x ≡ header (bare h) (cellsOf (h .phase)) → t ≡ sameBytes x (take 38 bs) → holds bs ≡ t
 any-test bs h x t l ef ex et =

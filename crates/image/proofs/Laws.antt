@@ -15,8 +15,10 @@ use Rattle.paper.specs.Address.{highFirst}
 use Rattle.paper.specs.Program.{noData}
 use Rattle.paper.proofs.Addresses.{high-first-none, high-first-more}
 use Rattle.heads.specs.Heads.{headOf, whole, bare}
-use Rattle.image.specs.declared.Cells.{Cells}
-use Rattle.image.specs.Layout.{cellsOf, bytesOf, header}
+use Rattle.address.specs.Bytes.{highFirstBytes}
+use Rattle.cells.specs.declared.Cells.{Cells}
+use Rattle.cells.specs.Phases.{cellsOf}
+use Rattle.image.specs.Layout.{header}
 use Rattle.image.specs.Read.{sameBytes, fieldsIn, holds}
 
 -- of at most eight bytes the first eight are all
@@ -87,7 +89,7 @@ abbrev eight : List ℕ → List ℕ → List ℕ
 eight b rest =
     getD b 0 0 ∷ getD b 1 0 ∷ getD b 2 0 ∷ getD b 3 0 ∷ getD b 4 0 ∷ getD b 5 0 ∷ getD b 6 0 ∷ getD b 7 0 ∷ rest
 
-eight-of : (n : ℕ) (b rest : List ℕ) → b ≡ bytesOf 8 n → eight b rest ≡ bytesOf 8 n ++ rest
+eight-of : (n : ℕ) (b rest : List ℕ) → b ≡ highFirstBytes 8 n → eight b rest ≡ highFirstBytes 8 n ++ rest
 eight-of n b rest e = ap (λ (l : List ℕ). eight l rest) e
 
 -- a header, byte by byte
@@ -101,13 +103,13 @@ marked : (p : Record) (s : Cells) (w a z : ℕ) (rest : List ℕ) → w ≡ bit 
 marked p s w a z rest ew ea ez = rw (ew, ea, ez)
 
 pub header-as : (p : Record) (s : Cells) (w a z : ℕ) (b k d : List ℕ) → s ≡ cellsOf (p .phase) → w ≡ bit (p .wel) → a ≡ bit (p .armed) → z ≡ bit (p .asleep)
-    → b ≡ bytesOf 8 (s .base) → k ≡ bytesOf 8 (s .count) → d ≡ bytesOf 8 (s .done)
+    → b ≡ highFirstBytes 8 (s .base) → k ≡ highFirstBytes 8 (s .count) → d ≡ highFirstBytes 8 (s .done)
     → begins p s w a z (eight b (eight k (eight d []))) ≡ header p (cellsOf (p .phase))
 unfolding header
 header-as p s w a z b k d es ew ea ez eb ek ed =
     ap (begins p s w a z) (eight-of (s .base) b (eight k (eight d [])) eb
-    ∙ ap (λ (t : List ℕ). bytesOf 8 (s .base) ++ t) (eight-of (s .count) k (eight d []) ek
-    ∙ ap (λ (t : List ℕ). bytesOf 8 (s .count) ++ t) (eight-of (s .done) d [] ed)))
+    ∙ ap (λ (t : List ℕ). highFirstBytes 8 (s .base) ++ t) (eight-of (s .count) k (eight d []) ek
+    ∙ ap (λ (t : List ℕ). highFirstBytes 8 (s .count) ++ t) (eight-of (s .done) d [] ed)))
     ∙ marked p s w a z _ ew ea ez
     ∙ ap (header p) es
 

@@ -5,16 +5,7 @@ use mathlib.Core.Bool.{Bool, true, false, cond}
 use mathlib.Core.List.{List, [], _∷_}
 use lib.Dec.{eqb}
 use lib.ListN.{length, getD, take, drop}
-use Rattle.types.specs.declared.Memory.{Memory}
-use Rattle.types.specs.declared.Memory.the-variants.{Array, Rows}
-use Rattle.types.specs.declared.EraseUnit.{EraseUnit}
-use Rattle.types.specs.declared.EraseUnit.the-variants.{Sector, Block32, Block64, Chip, Row}
-use Rattle.types.specs.declared.Register.{Register}
-use Rattle.types.specs.declared.Register.the-variants.{Status, Function}
-use Rattle.types.specs.declared.Operation.{Operation}
-use Rattle.types.specs.declared.Operation.the-variants.{Program, Erase, Write}
 use Rattle.types.specs.declared.Phase.{Phase}
-use Rattle.types.specs.declared.Phase.the-variants.{Idle, Busy, Suspended}
 use Rattle.types.specs.declared.Record.{Record}
 use Rattle.types.specs.declared.Head.{Head}
 use Rattle.words.specs.Logic.{_and_}
@@ -23,37 +14,11 @@ use Rattle.paper.specs.Records.{fresh}
 use Rattle.paper.specs.Soundness.{sound}
 use Rattle.paper.specs.Calls.{noIdentity}
 use Rattle.heads.specs.Heads.{headOf, whole}
-use Rattle.image.specs.declared.Cells.{Cells}
+use Rattle.cells.specs.declared.Cells.{Cells}
+use Rattle.cells.specs.Phases.{cells, cellsOf, phaseOf}
 use Rattle.image.specs.declared.Held.{Held}
 use Rattle.image.specs.declared.Found.{Found}
-use Rattle.image.specs.Layout.{headerLength, recordLength, cells, cellsOf, header}
-
--- the operation of each kind
-abbrev pub programIn : Memory → Cells → Operation
-programIn m s = Program m (s .base) (s .value) (s .count) (s .done)
-
-abbrev pub eraseIn : EraseUnit → Cells → Operation
-eraseIn u s = Erase u (s .base) (s .done)
-
-abbrev pub writeIn : Register → Cells → Operation
-writeIn r s = Write r (s .value)
-
--- the operation of a kind; of one that is none, a function write
-unfoldable pub operationOf : ℕ → Cells → Operation
-operationOf k s =
-    cond (eqb k 1) (programIn Array s)
-    (cond (eqb k 2) (programIn Rows s)
-    (cond (eqb k 3) (eraseIn Sector s)
-    (cond (eqb k 4) (eraseIn Block32 s)
-    (cond (eqb k 5) (eraseIn Block64 s)
-    (cond (eqb k 6) (eraseIn Chip s)
-    (cond (eqb k 7) (eraseIn Row s) (cond (eqb k 8) (writeIn Status s) (writeIn Function s))))))))
-
--- the phase of a number; of one that is none, suspended
-unfoldable pub phaseOf : ℕ → Cells → Phase
-phaseOf f s =
-    cond (eqb f 0) Idle
-    (cond (eqb f 1) (Busy (operationOf (s .kind) s)) (Suspended (operationOf (s .kind) s)))
+use Rattle.image.specs.Layout.{headerLength, recordLength, header}
 
 -- the number that k bytes from a place on are
 abbrev pub numberAt : List ℕ → ℕ → ℕ → ℕ
@@ -70,7 +35,7 @@ headIn bs f =
 
 -- the fields at their places, whatever stands there
 unfoldable pub fieldsIn : List ℕ → Record
-fieldsIn bs = whole (headIn bs (phaseOf (cellsIn bs .phase) (cellsIn bs))) (drop headerLength bs)
+fieldsIn bs = whole (headIn bs (phaseOf (cellsIn bs))) (drop headerLength bs)
 
 -- two lists are one
 abbrev pub sameBytes : List ℕ → List ℕ → Bool

@@ -3,9 +3,9 @@ ghost use mathlib.Core.Path.{_≡_};
 ghost use lib.ListN.{length, getD, drop};
 ghost use Rattle.image.specs.Layout.{headerLength, recordLength};
 ghost use Rattle.image.specs.Read.{sameBytes, cellsIn, headIn, nothing, held, recordIn, found, Fits};
-use crate::Cells;
 use crate::Found;
 use crate::Held;
+use cells::Cells;
 use types::Head;
 use types::Identity;
 use types::Phase;
@@ -138,7 +138,7 @@ fn any_in(bytes: &[u8]) -> Found
     ensures { λ r. ⌜ r ≡ found (recordIn (now (bytes .entry))) ⌝ }
 {
     let cells = cells_in(bytes);
-    let head = head_in(bytes, crate::phase_of(cells.phase, cells));
+    let head = head_in(bytes, cells::phase_of(cells));
     let header = crate::header_of(head);
     if is_same(&header, &bytes[0..38]) {
         let sound = record::is_sound_head(head, &bytes[38..294]);
@@ -186,7 +186,7 @@ fn fits(part: Record)
     ensures { λ _. ⌜ Fits part ⌝ }
 {
     let phase = part.phase;
-    let cells = crate::cells_of(phase);
+    let cells = cells::cells_of(phase);
 }
 
 // A record that is written and read back is that record, whatever it is.

@@ -14,15 +14,19 @@ read-on-snoc : (a : ℕ) (bs : List ℕ) (b : ℕ) → readOn a (bs ++ (b ∷ []
 read-on-snoc a [] b = refl
 read-on-snoc a (x ∷ xs) b = read-on-snoc (a * 256 + x) xs b
 
+-- one byte more
+pub high-first-snoc : (bs : List ℕ) (b : ℕ) → highFirst (bs ++ (b ∷ [])) ≡ highFirst bs * 256 + b
+unfolding highFirst
+high-first-snoc bs b = read-on-snoc 0 bs b
+
 module _ (bs : List ℕ) where
   pub high-first-none : highFirst (take 0 bs) ≡ 0
   unfolding highFirst
   high-first-none = refl
 
-  -- one byte more
+  -- the same for the first bytes of a list
   pub high-first-more : (i : ℕ) → i < length bs → highFirst (take (suc i) bs) ≡ highFirst (take i bs) * 256 + getD bs i 0
-  unfolding highFirst
-  high-first-more i h = rw (take-suc bs i 0 h) (read-on-snoc 0 (take i bs) (getD bs i 0))
+  high-first-more i h = rw (take-suc bs i 0 h) (high-first-snoc (take i bs) (getD bs i 0))
 
   -- so many bytes are below so many times eight bits
   pub high-first-fits : ((i : ℕ) → getD bs i 0 < 256) → (i : ℕ) → i ≤ length bs → highFirst (take i bs) < 2 ^ (8 * i)

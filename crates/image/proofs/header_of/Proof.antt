@@ -17,14 +17,14 @@ bit-of-requires-2 c κs = search needs
 bit-of-requires-3 : tie.Need-bit-of-requires-3
 bit-of-requires-3 c κs = search needs
 
-bytes-of-requires : tie.Need-bytes-of-requires
-bytes-of-requires c κs = search needs
+high-first-bytes-requires : tie.Need-high-first-bytes-requires
+high-first-bytes-requires c κs = search needs
 
-bytes-of-requires-2 : tie.Need-bytes-of-requires-2
-bytes-of-requires-2 c κs = search needs
+high-first-bytes-requires-2 : tie.Need-high-first-bytes-requires-2
+high-first-bytes-requires-2 c κs = search needs
 
-bytes-of-requires-3 : tie.Need-bytes-of-requires-3
-bytes-of-requires-3 c κs = search needs
+high-first-bytes-requires-3 : tie.Need-high-first-bytes-requires-3
+high-first-bytes-requires-3 c κs = search needs
 
 cast-t14 : tie.Need-cast-t14
 cast-t14 c = search needs
@@ -105,7 +105,7 @@ array-read-t88 : tie.Need-array-read-t88
 array-read-t88 c = search needs
 
 returns : tie.Need-returns
-returns c = header-as (bare (c .before .before .before .before .before .before .before .before .before .before .args .head)) _ _ _ _ _ _ _ (c .before .before .before .before .before .before .before .before .before .cells-of .ensures) (c .before .before .before .before .before .before .before .bit-of .ensures) (c .before .before .before .before .before .before .bit-of2 .ensures) (c .before .before .before .before .before .bit-of3 .ensures) (c .before .before .before .before .bytes-of .ensures) (c .before .before .before .bytes-of2 .ensures) (c .before .before .bytes-of3 .ensures)
+returns c = header-as (bare (c .before .before .before .before .before .before .before .before .before .before .args .head)) _ _ _ _ _ _ _ (c .before .before .before .before .before .before .before .before .before .cells-of .ensures) (c .before .before .before .before .before .before .before .bit-of .ensures) (c .before .before .before .before .before .before .bit-of2 .ensures) (c .before .before .before .before .before .bit-of3 .ensures) (c .before .before .before .before .high-first-bytes .ensures) (c .before .before .before .high-first-bytes2 .ensures) (c .before .before .high-first-bytes3 .ensures)
 
 pub header-of-spec : {M : Type 1} → statement M
 header-of-spec =
@@ -115,9 +115,9 @@ header-of-spec =
     bit-of-requires
     bit-of-requires-2
     bit-of-requires-3
-    bytes-of-requires
-    bytes-of-requires-2
-    bytes-of-requires-3
+    high-first-bytes-requires
+    high-first-bytes-requires-2
+    high-first-bytes-requires-3
     cast-t14
     cast-t16
     array-read-t19

@@ -1,5 +1,5 @@
 -- `image::reading::fits` meets its contract: the cells of a phase are numbers of their types, and so are the record's fields.
-use Rattle.image.specs.declared.Cells.{Cells}
+use Rattle.cells.specs.declared.Cells.{Cells}
 use mathlib.Core.Path.{ap}
 use Prim.Native.Nat.{_^_, _<_}
 use borrow.Author.Needs.{needs}

@@ -1,9 +1,9 @@
--- `image::operation_of` meets its contract: an arm of one kind rewrites the kind and the definition computes; in the last the kind is none of those before.
+-- `cells::operation_of` meets its contract: an arm of one kind rewrites the kind and the definition computes; in the last the kind is none of those before.
 use borrow.Author.Tests.{ne-eqb}
-use Rattle.image.specs.Read.{operationOf}
+use Rattle.cells.specs.Phases.{operationOf}
 use borrow.Author.Needs.{needs}
-use Rattle.image.proofs.operation_of.Statement.{statement}
-use Rattle.image.proofs.operation_of.Tie as tie
+use Rattle.cells.proofs.operation_of.Statement.{statement}
+use Rattle.cells.proofs.operation_of.Tie as tie
 
 program-in-requires : tie.Need-program-in-requires
 program-in-requires c κs = search needs

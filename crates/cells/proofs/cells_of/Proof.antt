@@ -1,7 +1,7 @@
--- `image::cells_of` meets its contract: an arm for each phase.
+-- `cells::cells_of` meets its contract: an arm for each phase.
 use borrow.Author.Needs.{needs}
-use Rattle.image.proofs.cells_of.Statement.{statement}
-use Rattle.image.proofs.cells_of.Tie as tie
+use Rattle.cells.proofs.cells_of.Statement.{statement}
+use Rattle.cells.proofs.cells_of.Tie as tie
 
 enum-told : tie.Need-enum-told
 enum-told c = search needs

@@ -1,7 +1,7 @@
--- `image::operation_cells` meets its contract: an arm for each operation, with the number of its kind.
+-- `cells::operation_cells` meets its contract: an arm for each operation, with the number of its kind.
 use borrow.Author.Needs.{needs}
-use Rattle.image.proofs.operation_cells.Statement.{statement}
-use Rattle.image.proofs.operation_cells.Tie as tie
+use Rattle.cells.proofs.operation_cells.Statement.{statement}
+use Rattle.cells.proofs.operation_cells.Tie as tie
 
 enum-known-op : tie.Need-enum-known-op
 enum-known-op c = search needs

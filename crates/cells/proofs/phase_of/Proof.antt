@@ -1,9 +1,10 @@
--- `image::phase_of` meets its contract: an arm for each number; in the last it is neither 0 nor 1.
-use borrow.Author.Tests.{ne-eqb}
-use Rattle.image.specs.Read.{phaseOf}
+-- `cells::phase_of` meets its contract: an arm for each number; in the last it is neither 0 nor 1.
+use native.Mathlib.Omega.{arith}
+use borrow.Author.Tests.{eq-eqb, ne-eqb}
+use Rattle.cells.specs.Phases.{phaseOf}
 use borrow.Author.Needs.{needs}
-use Rattle.image.proofs.phase_of.Statement.{statement}
-use Rattle.image.proofs.phase_of.Tie as tie
+use Rattle.cells.proofs.phase_of.Statement.{statement}
+use Rattle.cells.proofs.phase_of.Tie as tie
 
 operation-of-requires : tie.Need-operation-of-requires
 operation-of-requires c κs = search needs
@@ -17,7 +18,9 @@ returns c = rw (c .match .keys1)
 
 returns-2 : tie.Need-returns-2
 unfolding phaseOf
-returns-2 c = rw (c .before .match .keys2, c .operation-of .ensures)
+returns-2 c =
+    let e = c .before .match .keys2 in
+    rw (ne-eqb (c .before .before .args .cells .phase) 0 (λ q. omega (arith, e, q)), eq-eqb _ _ e, c .operation-of .ensures)
 
 returns-3 : tie.Need-returns-3
 unfolding phaseOf

@@ -1,0 +1,75 @@
+-- A phase in plain numbers, its cells, and the phase of cells.
+use Prim.Native.Nat.{ℕ}
+use mathlib.Core.Bool.{cond}
+use lib.Dec.{eqb}
+use Rattle.types.specs.declared.Memory.{Memory}
+use Rattle.types.specs.declared.Memory.the-variants.{Array, Rows}
+use Rattle.types.specs.declared.EraseUnit.{EraseUnit}
+use Rattle.types.specs.declared.EraseUnit.the-variants.{Sector, Block32, Block64, Chip, Row}
+use Rattle.types.specs.declared.Register.{Register}
+use Rattle.types.specs.declared.Register.the-variants.{Status, Function}
+use Rattle.types.specs.declared.Operation.{Operation}
+use Rattle.types.specs.declared.Operation.the-variants.{Program, Erase, Write}
+use Rattle.types.specs.declared.Phase.{Phase}
+use Rattle.types.specs.declared.Phase.the-variants.{Idle, Busy, Suspended}
+use Rattle.cells.specs.declared.Cells.{Cells}
+
+-- a kind for each operation: 1 and 2 programs, 3 to 7 erases, 8 and 9 register writes
+abbrev pub programKind : Memory → ℕ
+programKind Array = 1
+programKind Rows = 2
+
+abbrev pub eraseKind : EraseUnit → ℕ
+eraseKind Sector = 3
+eraseKind Block32 = 4
+eraseKind Block64 = 5
+eraseKind Chip = 6
+eraseKind Row = 7
+
+abbrev pub writeKind : Register → ℕ
+writeKind Status = 8
+writeKind Function = 9
+
+-- the cells of a phase: its number, the operation's kind, and the operation's numbers
+abbrev pub cells : ℕ → ℕ → ℕ → ℕ → ℕ → ℕ → Cells
+cells phase kind value base count done =
+    record { phase = phase; kind = kind; value = value; base = base; count = count; done = done }
+
+-- the operation in cells: value is a program's start or the byte that a register write holds; what an operation does not have is 0
+abbrev pub operationCells : ℕ → Operation → Cells
+operationCells f (Program m b s k d) = cells f (programKind m) s b k d
+operationCells f (Erase u b d) = cells f (eraseKind u) 0 b 0 d
+operationCells f (Write r v) = cells f (writeKind r) v 0 0 0
+
+-- a phase: 0 idle, 1 busy, 2 suspended
+abbrev pub cellsOf : Phase → Cells
+cellsOf Idle = cells 0 0 0 0 0 0
+cellsOf (Busy o) = operationCells 1 o
+cellsOf (Suspended o) = operationCells 2 o
+
+-- the operation of each kind
+abbrev pub programIn : Memory → Cells → Operation
+programIn m s = Program m (s .base) (s .value) (s .count) (s .done)
+
+abbrev pub eraseIn : EraseUnit → Cells → Operation
+eraseIn u s = Erase u (s .base) (s .done)
+
+abbrev pub writeIn : Register → Cells → Operation
+writeIn r s = Write r (s .value)
+
+-- the operation of a kind; of one that is none, a function write
+unfoldable pub operationOf : ℕ → Cells → Operation
+operationOf k s =
+    cond (eqb k 1) (programIn Array s)
+    (cond (eqb k 2) (programIn Rows s)
+    (cond (eqb k 3) (eraseIn Sector s)
+    (cond (eqb k 4) (eraseIn Block32 s)
+    (cond (eqb k 5) (eraseIn Block64 s)
+    (cond (eqb k 6) (eraseIn Chip s)
+    (cond (eqb k 7) (eraseIn Row s) (cond (eqb k 8) (writeIn Status s) (writeIn Function s))))))))
+
+-- the phase of cells; where its number is none, suspended
+unfoldable pub phaseOf : Cells → Phase
+phaseOf s =
+    cond (eqb (s .phase) 0) Idle
+    (cond (eqb (s .phase) 1) (Busy (operationOf (s .kind) s)) (Suspended (operationOf (s .kind) s)))

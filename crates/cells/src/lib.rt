@@ -1,0 +1,180 @@
+// A phase in plain numbers, its cells, and the phase of cells. A phase that is made into cells comes back.
+ghost use mathlib.Core.Path.{_≡_};
+ghost use Rattle.cells.specs.Phases.{programKind, eraseKind, writeKind, operationCells, cellsOf, programIn, eraseIn, writeIn, operationOf, phaseOf};
+use types::EraseUnit;
+use types::Memory;
+use types::Operation;
+use types::Phase;
+use types::Register;
+
+// Which phase it is, the kind of its operation, and that operation's numbers.
+// What a phase or an operation does not have is 0.
+pub struct Cells {
+    pub phase: u8,
+    pub kind: u8,
+    pub value: u8,
+    pub base: usize,
+    pub count: usize,
+    pub done: usize,
+}
+
+// The number that stands for a program of a memory.
+fn program_kind(memory: Memory) -> u8
+    ensures { λ r. ⌜ r ≡ programKind memory ⌝ }
+{
+    match memory {
+        Memory::Array => 1,
+        Memory::Rows => 2,
+    }
+}
+
+// The number that stands for an erase of a unit.
+fn erase_kind(unit: EraseUnit) -> u8
+    ensures { λ r. ⌜ r ≡ eraseKind unit ⌝ }
+{
+    match unit {
+        EraseUnit::Sector => 3,
+        EraseUnit::Block32 => 4,
+        EraseUnit::Block64 => 5,
+        EraseUnit::Chip => 6,
+        EraseUnit::Row => 7,
+    }
+}
+
+// The number that stands for a write of a register.
+fn write_kind(register: Register) -> u8
+    ensures { λ r. ⌜ r ≡ writeKind register ⌝ }
+{
+    match register {
+        Register::Status => 8,
+        Register::Function => 9,
+    }
+}
+
+// The cells of a phase with an operation.
+fn operation_cells(phase: u8, op: Operation) -> Cells
+    ensures { λ r. ⌜ r ≡ operationCells phase op ⌝ }
+{
+    match op {
+        Operation::Program {
+            memory,
+            base,
+            start,
+            count,
+            done,
+        } => {
+            let kind = program_kind(memory);
+            Cells {
+                phase: phase,
+                kind: kind,
+                value: start,
+                base: base,
+                count: count,
+                done: done,
+            }
+        }
+        Operation::Erase { unit, base, done } => {
+            let kind = erase_kind(unit);
+            Cells {
+                phase: phase,
+                kind: kind,
+                value: 0,
+                base: base,
+                count: 0,
+                done: done,
+            }
+        }
+        Operation::Write { register, value } => {
+            let kind = write_kind(register);
+            Cells {
+                phase: phase,
+                kind: kind,
+                value: value,
+                base: 0,
+                count: 0,
+                done: 0,
+            }
+        }
+    }
+}
+
+// The cells of a phase.
+pub fn cells_of(phase: Phase) -> Cells
+    ensures { λ r. ⌜ r ≡ cellsOf phase ⌝ }
+{
+    match phase {
+        Phase::Idle => Cells {
+            phase: 0,
+            kind: 0,
+            value: 0,
+            base: 0,
+            count: 0,
+            done: 0,
+        },
+        Phase::Busy(op) => operation_cells(1, op),
+        Phase::Suspended(op) => operation_cells(2, op),
+    }
+}
+
+// The program of a memory that stands in cells.
+fn program_in(memory: Memory, cells: Cells) -> Operation
+    ensures { λ r. ⌜ r ≡ programIn memory cells ⌝ }
+{
+    Operation::Program {
+        memory: memory,
+        base: cells.base,
+        start: cells.value,
+        count: cells.count,
+        done: cells.done,
+    }
+}
+
+// The erase of a unit that stands in cells.
+fn erase_in(unit: EraseUnit, cells: Cells) -> Operation
+    ensures { λ r. ⌜ r ≡ eraseIn unit cells ⌝ }
+{
+    Operation::Erase {
+        unit: unit,
+        base: cells.base,
+        done: cells.done,
+    }
+}
+
+// The write of a register that stands in cells.
+fn write_in(register: Register, cells: Cells) -> Operation
+    ensures { λ r. ⌜ r ≡ writeIn register cells ⌝ }
+{
+    Operation::Write {
+        register: register,
+        value: cells.value,
+    }
+}
+
+// The operation of a kind; of one that is none, a function write.
+fn operation_of(kind: u8, cells: Cells) -> Operation
+    ensures { λ r. ⌜ r ≡ operationOf kind cells ⌝ }
+{
+    match kind {
+        1 => program_in(Memory::Array, cells),
+        2 => program_in(Memory::Rows, cells),
+        3 => erase_in(EraseUnit::Sector, cells),
+        4 => erase_in(EraseUnit::Block32, cells),
+        5 => erase_in(EraseUnit::Block64, cells),
+        6 => erase_in(EraseUnit::Chip, cells),
+        7 => erase_in(EraseUnit::Row, cells),
+        8 => write_in(Register::Status, cells),
+        _ => write_in(Register::Function, cells),
+    }
+}
+
+// The phase of cells, whatever stands there: a kind that is none is a function write, a phase that is none is suspended.
+pub fn phase_of(cells: Cells) -> Phase
+    ensures { λ r. ⌜ r ≡ phaseOf cells ⌝ }
+{
+    let phase = cells.phase;
+    match phase {
+        0 => Phase::Idle,
+        1 => Phase::Busy(operation_of(cells.kind, cells)),
+        _ => Phase::Suspended(operation_of(cells.kind, cells)),
+    }
+}
