@@ -167,20 +167,8 @@ pub fn command_number(k: Columns, part: Head, input: &[u8], wp: bool) -> u8
     let latch = words::either(!k.wel, part.wel);
     let row = row_address_ok(k, input);
     let free = free_ok(effect, part.blocks, part.status, part.function, input, wp);
-    let n27 = words::or_else(
-        words::number_unless(row, 27),
-        words::number_unless(free, 28),
-    );
-    let n25 = words::or_else(
-        words::number_unless(state, 25),
-        words::or_else(words::number_unless(latch, 26), n27),
-    );
-    let n23 = words::or_else(
-        words::number_unless(whole, 23),
-        words::or_else(words::number_unless(long, 24), n25),
-    );
-    words::or_else(
-        words::number_unless(awake, 21),
-        words::or_else(words::number_unless(at_rest, 22), n23),
-    )
+    let n27 = words::number_or(row, 27, words::number_or(free, 28, 0));
+    let n25 = words::number_or(state, 25, words::number_or(latch, 26, n27));
+    let n23 = words::number_or(whole, 23, words::number_or(long, 24, n25));
+    words::number_or(awake, 21, words::number_or(at_rest, 22, n23))
 }

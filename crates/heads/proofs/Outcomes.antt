@@ -21,7 +21,7 @@ use Rattle.types.specs.declared.Outcome.{Outcome}
 use Rattle.types.specs.declared.Answer.{Answer}
 use Rattle.words.specs.Logic.{_and_, bit, unless, _orElse_, whenZero}
 use Rattle.words.specs.Lists.{upTo, round}
-use Rattle.words.proofs.Tests.{and-l, and-r, unless-zero, orElse-zero}
+use Rattle.words.proofs.Tests.{and-l, and-r, unless-zero, orElse-zero, orElse-none}
 use Rattle.paper.specs.Sizes.{sizeOk, arrayBytes, rowsBytes}
 use Rattle.paper.specs.Records.{marked}
 use Rattle.paper.specs.Suspend.{suspendedIn, resumedIn}
@@ -98,12 +98,7 @@ refusal-told : (p : Record) (a r l o : ℕ) → refusalFor (p .blocks) (sound p)
 unfolding refusalFor transactionRefusal soundNumber
 refusal-told p a r l o = refl
 
--- a number, and another where that is 0
-or-zero : (m : ℕ) → m orElse 0 ≡ m
-unfolding _orElse_
-or-zero zero = refl
-or-zero (suc m) = refl
-
+-- a number, or 5 where that is 0
 or-five : (m : ℕ) → eqb (m orElse 5) 0 ≡ false
 unfolding _orElse_
 or-five zero = refl
@@ -113,7 +108,7 @@ module _ (p : Record) (wp : ℕ) (i : List ℕ) where
   outcome-as : (a r o : ℕ) (t : Bool) → leb wp 1 ≡ t → answerOf (outcomeOf (headOf p) (sound p) a r wp i o) p i ≡ transactedAt p a r wp i o
   unfolding outcomeOf levelRefusal transacted unless
   outcome-as a r o true e =
-      rw (e, refusal-told p a r (length i) o, or-zero (transactionRefusal p a r (length i) o), decided (eqb (transactionRefusal p a r (length i) o) 0), to-told (decoded (getD i 0 0)) p (eqb wp 1) i)
+      rw (e, refusal-told p a r (length i) o, orElse-none (transactionRefusal p a r (length i) o), decided (eqb (transactionRefusal p a r (length i) o) 0), to-told (decoded (getD i 0 0)) p (eqb wp 1) i)
   outcome-as a r o false e = rw (e, refusal-told p a r (length i) o, or-five (transactionRefusal p a r (length i) o))
 
   pub outcome-told : (a r o : ℕ) → answerOf (outcomeOf (headOf p) (sound p) a r wp i o) p i ≡ transactedAt p a r wp i o
@@ -122,7 +117,7 @@ module _ (p : Record) (wp : ℕ) (i : List ℕ) where
   output-as : (xs rs o : List ℕ) (t : Bool) → leb wp 1 ≡ t → outputFor (headOf p) (sound p) xs rs wp i o ≡ outputAt p xs rs wp i o
   unfolding outputFor levelRefusal outputAfter unless
   output-as xs rs o true e =
-      rw (e, refusal-told p (length xs) (length rs) (length i) (length o), or-zero (transactionRefusal p (length xs) (length rs) (length i) (length o)), output-to (decoded (getD i 0 0)) p xs rs (eqb wp 1) i)
+      rw (e, refusal-told p (length xs) (length rs) (length i) (length o), orElse-none (transactionRefusal p (length xs) (length rs) (length i) (length o)), output-to (decoded (getD i 0 0)) p xs rs (eqb wp 1) i)
   output-as xs rs o false e =
       rw (e, refusal-told p (length xs) (length rs) (length i) (length o), or-five (transactionRefusal p (length xs) (length rs) (length i) (length o)))
 

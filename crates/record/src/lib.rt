@@ -121,14 +121,15 @@ pub fn make(
 pub fn make_fresh(blocks: u16, identity: Identity, status: u8, function: u8) -> Record
     ensures { λ r. ⌜ r ≡ fresh blocks identity status function ⌝ }
 {
+    let off = false;
     make(
         blocks,
         identity,
         status,
         function,
-        false,
-        false,
-        false,
+        off,
+        off,
+        off,
         Phase::Idle,
         no_data(),
     )
@@ -235,9 +236,9 @@ pub fn is_sound(part: Record) -> bool
 fn power_up_number(blocks: u16, status: u8, function: u8) -> u8
     ensures { λ r. ⌜ r ≡ powerUpNumber blocks status function ⌝ }
 {
-    let size = words::number_unless(sizes::size_ok(blocks as u64), 1);
+    let size = sizes::size_ok(blocks as u64);
     let bits = bits_ok(Phase::Idle, false, status, function);
-    words::or_else(size, words::number_unless(bits, 5))
+    words::number_or(size, 1, words::number_or(bits, 5, 0))
 }
 
 // Power-up: an idle, awake, unarmed record with WEL 0 and page data zero; refused, with 1 or 5, an idle

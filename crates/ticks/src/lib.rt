@@ -244,12 +244,10 @@ fn run(part: Record, array: &mut [u8], rows: &mut [u8], ticks: usize) -> Ticked
 fn tick_number(part: Record, array: usize, rows: usize, ticks: usize) -> u8
     ensures { λ r. ⌜ r ≡ tickNumber part array rows ticks ⌝ }
 {
-    let size = refusals::size_number(part.blocks, array);
-    let row = refusals::rows_number(rows);
-    let unsound = refusals::sound_number(record::is_sound(part));
+    let sound = record::is_sound(part);
     let few = ticks <= 4096;
-    let many = words::number_unless(few, 6);
-    words::or_else(size, words::or_else(row, words::or_else(unsound, many)))
+    let later = words::number_or(sound, 5, words::number_or(few, 6, 0));
+    refusals::memory_number_or(part.blocks, array, rows, later)
 }
 
 // So many ticks. It answers the next record, the number, and how many ticks did work; refused, with 1, 2, 5

@@ -131,22 +131,14 @@ fn answer_to(
 fn refusal(blocks: u16, sound: bool, array: usize, rows: usize, n: usize, o: usize, wp: u64) -> u8
     ensures { λ r. ⌜ r ≡ levelRefusal blocks sound array rows n o wp ⌝ }
 {
-    let size = refusals::size_number(blocks, array);
-    let row = refusals::rows_number(rows);
     let some = 1 <= n;
     let few = n <= 4096;
-    let long = words::number_unless(words::both(some, few), 3);
+    let long = words::both(some, few);
     let same = o == n;
-    let other = words::number_unless(same, 4);
-    let unsound = refusals::sound_number(sound);
-    let level = words::number_unless(wp <= 1, 5);
-    words::or_else(
-        words::or_else(
-            size,
-            words::or_else(row, words::or_else(long, words::or_else(other, unsound))),
-        ),
-        level,
-    )
+    let level = wp <= 1;
+    let n5 = words::number_or(sound, 5, words::number_or(level, 5, 0));
+    let n3 = words::number_or(long, 3, words::number_or(same, 4, n5));
+    refusals::memory_number_or(blocks, array, rows, n3)
 }
 
 // A transaction on a record's head, of a record that is sound or is not, as the caller says. WP# is low for 0, high

@@ -52,6 +52,16 @@ unfolding _orElse_
 orElse-first zero n h = absurd (h refl)
 orElse-first (suc m) n h = refl
 
+pub orElse-none : (m : ℕ) → (m orElse 0) ≡ m
+unfolding _orElse_
+orElse-none zero = refl
+orElse-none (suc m) = refl
+
+pub orElse-assoc : (m n k : ℕ) → ((m orElse n) orElse k) ≡ (m orElse n orElse k)
+unfolding _orElse_
+orElse-assoc zero n k = refl
+orElse-assoc (suc m) n k = refl
+
 suc-not-zero : {n : ℕ} → suc n ≡ 0 → ⊥
 suc-not-zero e = omega arith
 

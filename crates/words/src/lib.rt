@@ -25,18 +25,14 @@ pub fn bit_of(test: bool) -> u8
     if test { 1 } else { 0 }
 }
 
-// The number where the test fails, else 0.
-pub fn number_unless(ok: bool, number: u8) -> u8
-    ensures { λ r. ⌜ r ≡ unless ok number ⌝ }
+// The number where the test fails, else the rest: the number of the tests after it, 0 for none.
+pub fn number_or(ok: bool, number: u8, rest: u8) -> u8
+    ensures { λ r. ⌜ r ≡ (unless ok number orElse rest) ⌝ }
 {
-    if ok { 0 } else { number }
-}
-
-// The first number that is not 0.
-pub fn or_else(first: u8, second: u8) -> u8
-    ensures { λ r. ⌜ r ≡ (first orElse second) ⌝ }
-{
-    if first == 0 { second } else { first }
+    if ok {
+        return rest;
+    }
+    if number == 0 { rest } else { number }
 }
 
 // The lesser of two numbers.

@@ -31,7 +31,7 @@ fn given_number(
 ) -> u8
     ensures { λ r. ⌜ r ≡ givenNumber length blocks maker kind capacity device status function ⌝ }
 {
-    let size = words::number_unless(sizes::size_ok(blocks), 1);
+    let size = sizes::size_ok(blocks);
     let whole = length == 294;
     let m = maker <= 255;
     let t = kind <= 255;
@@ -43,7 +43,7 @@ fn given_number(
         m,
         words::both(t, words::both(c, words::both(d, words::both(s, f)))),
     );
-    words::or_else(size, words::number_unless(words::both(whole, bytes), 5))
+    words::number_or(size, 1, words::number_or(words::both(whole, bytes), 5, 0))
 }
 
 // Power-up into a buffer of a record's length. The number is 0, 1 or 5; refused, the buffer is as it was.

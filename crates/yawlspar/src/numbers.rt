@@ -7,9 +7,9 @@ ghost use Rattle.paper.specs.CBench.{protectionNumber, protectedAnswer, placeAn
 pub extern "C" fn yawlspar_protection_number(code: u64, blocks: u64, address: u64) -> u64
     ensures { λ r. ⌜ r ≡ protectionNumber code blocks ⌝ }
 {
-    let size = words::number_unless(sizes::size_ok(blocks), 1);
+    let size = sizes::size_ok(blocks);
     let known = code <= 15;
-    words::or_else(size, words::number_unless(known, 5)) as u64
+    words::number_or(size, 1, words::number_or(known, 5, 0)) as u64
 }
 
 // 1 where the address, taken modulo the size, is protected, else 0, also when refused.

@@ -1,5 +1,7 @@
 -- `admit::command_number` meets its contract: it joins the eight numbers in the paper's order.
+use mathlib.Core.Path.{_∙_}
 use borrow.Author.Needs.{needs}
+use Rattle.words.proofs.Tests.{orElse-none}
 use Rattle.paper.specs.Numbers.{commandNumber}
 use Rattle.admit.proofs.command_number.Statement.{statement}
 use Rattle.admit.proofs.command_number.Tie as tie
@@ -34,80 +36,52 @@ row-address-ok-requires c κs = search needs
 free-ok-requires : tie.Need-free-ok-requires
 free-ok-requires c κs = search needs
 
-number-unless-requires : tie.Need-number-unless-requires
-number-unless-requires c κs = search needs
+number-or-requires : tie.Need-number-or-requires
+number-or-requires c κs = search needs
 
-number-unless-requires-2 : tie.Need-number-unless-requires-2
-number-unless-requires-2 c κs = search needs
+number-or-requires-2 : tie.Need-number-or-requires-2
+number-or-requires-2 c κs = search needs
 
-or-else-requires : tie.Need-or-else-requires
-or-else-requires c κs = search needs
+number-or-requires-3 : tie.Need-number-or-requires-3
+number-or-requires-3 c κs = search needs
 
-number-unless-requires-3 : tie.Need-number-unless-requires-3
-number-unless-requires-3 c κs = search needs
+number-or-requires-4 : tie.Need-number-or-requires-4
+number-or-requires-4 c κs = search needs
 
-number-unless-requires-4 : tie.Need-number-unless-requires-4
-number-unless-requires-4 c κs = search needs
+number-or-requires-5 : tie.Need-number-or-requires-5
+number-or-requires-5 c κs = search needs
 
-or-else-requires-2 : tie.Need-or-else-requires-2
-or-else-requires-2 c κs = search needs
+number-or-requires-6 : tie.Need-number-or-requires-6
+number-or-requires-6 c κs = search needs
 
-or-else-requires-3 : tie.Need-or-else-requires-3
-or-else-requires-3 c κs = search needs
+number-or-requires-7 : tie.Need-number-or-requires-7
+number-or-requires-7 c κs = search needs
 
-number-unless-requires-5 : tie.Need-number-unless-requires-5
-number-unless-requires-5 c κs = search needs
-
-number-unless-requires-6 : tie.Need-number-unless-requires-6
-number-unless-requires-6 c κs = search needs
-
-or-else-requires-4 : tie.Need-or-else-requires-4
-or-else-requires-4 c κs = search needs
-
-or-else-requires-5 : tie.Need-or-else-requires-5
-or-else-requires-5 c κs = search needs
-
-number-unless-requires-7 : tie.Need-number-unless-requires-7
-number-unless-requires-7 c κs = search needs
-
-number-unless-requires-8 : tie.Need-number-unless-requires-8
-number-unless-requires-8 c κs = search needs
-
-or-else-requires-6 : tie.Need-or-else-requires-6
-or-else-requires-6 c κs = search needs
-
-or-else-requires-7 : tie.Need-or-else-requires-7
-or-else-requires-7 c κs = search needs
+number-or-requires-8 : tie.Need-number-or-requires-8
+number-or-requires-8 c κs = search needs
 
 returns : tie.Need-returns
 unfolding commandNumber
 returns c =
     rw (
-      c .or-else7 .ensures,
-      c .before .or-else6 .ensures,
-      c .before .before .number-unless8 .ensures,
-      c .before .before .before .number-unless7 .ensures,
-      c .before .before .before .before .or-else5 .ensures,
-      c .before .before .before .before .before .or-else4 .ensures,
-      c .before .before .before .before .before .before .number-unless6 .ensures,
-      c .before .before .before .before .before .before .before .number-unless5 .ensures,
-      c .before .before .before .before .before .before .before .before .or-else3 .ensures,
-      c .before .before .before .before .before .before .before .before .before .or-else2 .ensures,
-      c .before .before .before .before .before .before .before .before .before .before .number-unless4 .ensures,
-      c .before .before .before .before .before .before .before .before .before .before .before .number-unless3 .ensures,
-      c .before .before .before .before .before .before .before .before .before .before .before .before .or-else .ensures,
-      c .before .before .before .before .before .before .before .before .before .before .before .before .before .number-unless2 .ensures,
-      c .before .before .before .before .before .before .before .before .before .before .before .before .before .before .number-unless .ensures,
-      c .before .before .before .before .before .before .before .before .before .before .before .before .before .before .before .free-ok .ensures,
-      c .before .before .before .before .before .before .before .before .before .before .before .before .before .before .before .before .row-address-ok .ensures,
-      c .before .before .before .before .before .before .before .before .before .before .before .before .before .before .before .before .before .either4 .ensures,
-      c .before .before .before .before .before .before .before .before .before .before .before .before .before .before .before .before .before .before .before .state-ok .ensures,
-      c .before .before .before .before .before .before .before .before .before .before .before .before .before .before .before .before .before .before .before .before .length-ok .ensures,
-      c .before .before .before .before .before .before .before .before .before .before .before .before .before .before .before .before .before .before .before .before .before .either3 .ensures,
-      c .before .before .before .before .before .before .before .before .before .before .before .before .before .before .before .before .before .before .before .before .before .before .is-suspended .ensures,
-      c .before .before .before .before .before .before .before .before .before .before .before .before .before .before .before .before .before .before .before .before .before .before .before .either2 .ensures,
-      c .before .before .before .before .before .before .before .before .before .before .before .before .before .before .before .before .before .before .before .before .before .before .before .before .is-busy .ensures,
-      c .before .before .before .before .before .before .before .before .before .before .before .before .before .before .before .before .before .before .before .before .before .before .before .before .before .either .ensures,
+      c .number-or8 .ensures,
+      c .before .number-or7 .ensures,
+      c .before .before .number-or6 .ensures,
+      c .before .before .before .number-or5 .ensures,
+      c .before .before .before .before .number-or4 .ensures,
+      c .before .before .before .before .before .number-or3 .ensures,
+      c .before .before .before .before .before .before .number-or2 .ensures,
+      c .before .before .before .before .before .before .before .number-or .ensures ∙ orElse-none _,
+      c .before .before .before .before .before .before .before .before .free-ok .ensures,
+      c .before .before .before .before .before .before .before .before .before .row-address-ok .ensures,
+      c .before .before .before .before .before .before .before .before .before .before .either4 .ensures,
+      c .before .before .before .before .before .before .before .before .before .before .before .before .state-ok .ensures,
+      c .before .before .before .before .before .before .before .before .before .before .before .before .before .length-ok .ensures,
+      c .before .before .before .before .before .before .before .before .before .before .before .before .before .before .either3 .ensures,
+      c .before .before .before .before .before .before .before .before .before .before .before .before .before .before .before .is-suspended .ensures,
+      c .before .before .before .before .before .before .before .before .before .before .before .before .before .before .before .before .either2 .ensures,
+      c .before .before .before .before .before .before .before .before .before .before .before .before .before .before .before .before .before .is-busy .ensures,
+      c .before .before .before .before .before .before .before .before .before .before .before .before .before .before .before .before .before .before .either .ensures,
     )
 
 pub command-number-spec : {M : Type 1} → statement M
@@ -124,19 +98,12 @@ command-number-spec =
     either-requires-4
     row-address-ok-requires
     free-ok-requires
-    number-unless-requires
-    number-unless-requires-2
-    or-else-requires
-    number-unless-requires-3
-    number-unless-requires-4
-    or-else-requires-2
-    or-else-requires-3
-    number-unless-requires-5
-    number-unless-requires-6
-    or-else-requires-4
-    or-else-requires-5
-    number-unless-requires-7
-    number-unless-requires-8
-    or-else-requires-6
-    or-else-requires-7
+    number-or-requires
+    number-or-requires-2
+    number-or-requires-3
+    number-or-requires-4
+    number-or-requires-5
+    number-or-requires-6
+    number-or-requires-7
+    number-or-requires-8
     returns)
