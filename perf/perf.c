@@ -127,6 +127,12 @@ static void ignored_job(const struct one_model *on)
     must_be(on->transact(1), 20);
 }
 
+static void enable_job(const struct one_model *on)
+{
+    input[0] = 0x06;
+    must_be(on->transact(1), 0);
+}
+
 static void read_job(const struct one_model *on)
 {
     put(0x03, 0x001234);
@@ -195,6 +201,7 @@ static const struct job jobs[] = {
     {"05h of 2 bytes, 16 blocks", 16, 1, NULL, status_job, NULL},
     {"05h of 2 bytes, busy, 16 blocks", 16, 1, begin_erase, status_job, NULL},
     {"ignored, 1 byte, 16 blocks", 16, 0, NULL, ignored_job, NULL},
+    {"06h, 16 blocks", 16, 0, NULL, enable_job, NULL},
     {"03h of 4,096 bytes, 16 blocks", 16, 4092, NULL, read_job, read_bytes},
     {"06h, 02h, 256 ticks, 16 blocks", 16, 256, NULL, program_job, NULL},
     {"06h, D7h, 16 ticks, 16 blocks", 16, 4096, NULL, sector_job, sector_bytes},
