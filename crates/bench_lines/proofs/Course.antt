@@ -14,8 +14,9 @@ use Rattle.types.specs.declared.Line.the-variants.{Transaction}
 use Rattle.bytes.specs.Bytes.{indexOf, indexAfter, slice}
 use Rattle.paper.specs.Erase.{erasedByte}
 use Rattle.paper.specs.Reads.{undriven, undrivenByte}
-use Rattle.paper.specs.Calls.{poweredUp, transacted, outputAfter}
-use Rattle.paper.specs.Bench.{LF, before, linesOf, pairs, lineOf, Board, boardOf, sentTo, drivenBy, afterSent, benchIdentity, benchBoard, lineText, lineAfter, textOf, boardAfter}
+use Rattle.paper.specs.Calls.{noStored, poweredUp, transacted, transactedOutput}
+use Rattle.paper.specs.Board.{Board, boardOf, sentTo, drivenBy, afterSent}
+use Rattle.paper.specs.Bench.{LF, before, linesOf, pairs, lineOf, benchIdentity, benchBoard, lineText, lineAfter, textOf, boardAfter}
 use Rattle.words.proofs.Lists.{take-min, drop-min}
 use Rattle.lines.proofs.Numerals.{pairs-whole}
 use Rattle.lines.proofs.Lines.{pairs-count, Says, line-says}
@@ -43,7 +44,7 @@ sent-pairs l s s₁ h e =
 
 -- a transaction of the bytes i, with a buffer of as many bytes that was set to FFh
 pub sent-as : (p : Record) (xs rs : List ℕ) (wp : Bool) (i sent back back₁ back₂ : List ℕ) (a : Answer) → sent ≡ i → length back ≡ length sent → back₁ ≡ undriven (length back)
-    → a ≡ transacted p (length xs) (length rs) wp sent (length back₁) → back₂ ≡ outputAfter p xs rs wp sent back₁
+    → a ≡ transacted p (length xs) (length rs) wp sent (length back₁) → back₂ ≡ transactedOutput p xs rs wp sent back₁
     → (a ≡ sentTo (boardOf p xs rs) wp i) × (back₂ ≡ drivenBy (boardOf p xs rs) wp i)
 sent-as p xs rs wp i sent back back₁ back₂ a e n f g h =
     let m : length back₁ ≡ length i = ap length f ∙ length-replicate (length back) undrivenByte ∙ n ∙ ap length e in
@@ -121,7 +122,7 @@ module _ (most : ℕ) (input : List ℕ) (b₀ : Board) (o₀ : List ℕ) (from 
       (rw d at (g .board), g .text o at (rw d (prints-empty o at (g .fits))))
 
 -- a part that was powered up, with memory that was set to FFh, is the bench's
-pub bench-board : (n : ℕ) (up : PoweredUp) (xs rs : List ℕ) (a r : ℕ) → up ≡ poweredUp n benchIdentity 0 0 → xs ≡ replicate a erasedByte → rs ≡ replicate r erasedByte → boardOf (up .next) xs rs ≡ benchBoard n a r
+pub bench-board : (n : ℕ) (up : PoweredUp) (xs rs : List ℕ) (a r : ℕ) → up ≡ poweredUp n benchIdentity noStored → xs ≡ replicate a erasedByte → rs ≡ replicate r erasedByte → boardOf (up .next) xs rs ≡ benchBoard n a r
 bench-board n up xs rs a r e f g = rw (e, f, g)
 
 -- what bench leaves and prints goes by the bytes that it reads

@@ -8,15 +8,18 @@ use lib.Dec.{eqb}
 use lib.ListN.{length, take, drop, getD, length-append, length-drop, length-replicate}
 use Rattle.types.specs.declared.Decoded.{Decoded}
 use Rattle.types.specs.declared.Decoded.the-variants.{Known, Unknown}
-use Rattle.types.specs.declared.Record.{Record}
+use Rattle.types.specs.declared.Phase.{Phase}
+use Rattle.types.specs.declared.Part.{Part}
 use Rattle.types.specs.declared.Line.{Line}
 use Rattle.types.specs.declared.Line.the-variants.{Transaction, Ticks, Neither}
 use Rattle.words.proofs.Lists.{length-upTo}
+use Rattle.paper.specs.Soundness.{sound}
 use Rattle.paper.specs.Numbers.{transactionRefusal, ignoredNumber}
 use Rattle.paper.specs.Table.{decoded, columns}
 use Rattle.paper.specs.Reads.{undrivenByte, undriven, outputByte, outputOf}
 use Rattle.paper.specs.Calls.{outputTo, outputAfter}
-use Rattle.paper.specs.Bench.{LF, before, linesOf, pairs, pairsOk, digitsOk, lineOf, otherText, Board, sentTo, drivenBy, sentText, waited, waitedText, lineText, lineAfter, textOf}
+use Rattle.paper.specs.Board.{Board, sentTo, drivenBy, waited}
+use Rattle.paper.specs.Bench.{LF, before, linesOf, pairs, pairsOk, digitsOk, lineOf, otherText, sentText, waitedText, lineText, lineAfter, textOf}
 use Rattle.lines.proofs.Numerals.{length-pairs}
 use Rattle.lines.proofs.Lines.{digits-count, pairs-count, Says, line-says}
 use Rattle.printing.specs.Printed.{Prints}
@@ -28,24 +31,24 @@ length-either : (t : Bool) (xs ys : List ℕ) (n : ℕ) → length xs ≡ n → 
 length-either true xs ys n e f = e
 length-either false xs ys n e f = f
 
-module _ (p : Record) (xs rs : List ℕ) (wp : Bool) (i : List ℕ) where
-  length-output : (d : Decoded) → length (outputTo d p xs rs wp i) ≡ length i
+module _ (p : Part) (f : Phase) (s : Bool) (xs rs : List ℕ) (wp : Bool) (i : List ℕ) where
+  length-output : (d : Decoded) → length (outputTo d p f xs rs wp i) ≡ length i
   unfolding outputOf
   length-output (Known k) =
-      length-either (eqb (ignoredNumber (Known k) p i wp) 0) (outputOf (columns k) p xs rs i) (undriven (length i)) (length i)
+      length-either (eqb (ignoredNumber (Known k) p f i wp) 0) (outputOf (columns k) p xs rs i) (undriven (length i)) (length i)
       (length-upTo (length i) (outputByte (columns k) p xs rs i))
       (length-replicate (length i) undrivenByte)
   length-output Unknown = length-replicate (length i) undrivenByte
 
-  length-after : (o : List ℕ) → length o ≡ length i → length (outputAfter p xs rs wp i o) ≡ length i
+  length-after : (o : List ℕ) → length o ≡ length i → length (outputAfter p f s xs rs wp i o) ≡ length i
   unfolding outputAfter
   length-after o e =
-      length-either (eqb (transactionRefusal p (length xs) (length rs) (length i) (length o)) 0) (outputTo (decoded (getD i 0 0)) p xs rs wp i) o (length i)
+      length-either (eqb (transactionRefusal (p .blocks) s (length xs) (length rs) (length i) (length o)) 0) (outputTo (decoded (getD i 0 0)) p f xs rs wp i) o (length i)
       (length-output (decoded (getD i 0 0))) e
 
 length-driven : (b : Board) (wp : Bool) (i : List ℕ) → length (drivenBy b wp i) ≡ length i
 length-driven b wp i =
-    length-after (b .part) (b .array) (b .rows) wp i (undriven (length i)) (length-replicate (length i) undrivenByte)
+    length-after (b .state .part) (b .state .phase) (sound (b .state)) (b .array) (b .rows) wp i (undriven (length i)) (length-replicate (length i) undrivenByte)
 
 -- the characters that a line takes: those that it has, and an empty one its LF
 abbrev taken : List ℕ → ℕ

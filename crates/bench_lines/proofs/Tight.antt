@@ -4,7 +4,7 @@ use mathlib.Core.Path.{_≡_, ap, _∙_}
 use denote.Ref.{now}
 use Rattle.types.specs.declared.Record.{Record}
 use Rattle.words.proofs.Allowed.{OneResult, OneExit, agree}
-use Rattle.paper.specs.Bench.{Board}
+use Rattle.paper.specs.Board.{Board}
 use Rattle.printing.proofs.Text.{one-output, one-place}
 use Rattle.bench_lines.specs.declared.Ran.{Ran}
 use Rattle.bench_lines.proofs.run.Reads as run
@@ -17,7 +17,7 @@ ran-same x y e f =
 
 pub run-one : OneResult run.Learnt
 run-one κ a x y s t p q =
-    ran-same x y (ap (λ (d : Board). d .part) (agree (p .0) (q .0))) (one-place (p .1) (q .1))
+    ran-same x y (ap (λ (d : Board). d .state) (agree (p .0) (q .0))) (one-place (p .1) (q .1))
 
 pub run-one-array : OneExit run.Learnt (λ κ s. now (s .1 .0))
 run-one-array κ a x y s t p q = ap (λ (d : Board). d .array) (agree (p .0) (q .0))

@@ -3,7 +3,8 @@ ghost use mathlib.Core.Path.{_≡_};
 ghost use Prim.Native.Nat.{_+_, _*_, _≤_, min};
 ghost use lib.ListN.{length, drop};
 ghost use Rattle.paper.specs.Sizes.{transactionLimit};
-ghost use Rattle.paper.specs.Bench.{pairs, lineOf, boardOf, sentTo, sentText, waitedText, afterTicks, lineText, lineAfter, linesOf, textOf, boardAfter, benchBoard, benchText, benchAfter};
+ghost use Rattle.paper.specs.Board.{boardOf, sentTo, afterTicks};
+ghost use Rattle.paper.specs.Bench.{pairs, lineOf, sentText, waitedText, lineText, lineAfter, linesOf, textOf, boardAfter, benchBoard, benchText, benchAfter};
 ghost use Rattle.printing.specs.Printed.{Prints};
 use types::Identity;
 use types::Line;
@@ -17,7 +18,7 @@ pub struct Ran {
 
 // A line that is a transaction. The bytes that are sent and those that are driven are lent room.
 fn send(
-    part: Record,
+    state: Record,
     array: &[u8],
     rows: &[u8],
     wp: bool,
@@ -28,12 +29,12 @@ fn send(
     at: usize,
 ) -> Ran
     requires { ⌜ (length (now line) ≡ 2 * length (now sent) + 2) × (length (now back) ≡ length (now sent)) ⌝ }
-    ensures next { λ r. ⌜ r .next ≡ sentTo (boardOf part (now (array .entry)) (now (rows .entry))) wp (pairs (drop 2 (now (line .entry)))) .next ⌝ }
-    ensures output { λ r. ⌜ Prints (now (output .entry)) at (sentText (boardOf part (now (array .entry)) (now (rows .entry))) wp (pairs (drop 2 (now (line .entry))))) (now (output .exit)) (r .printed) ⌝ }
+    ensures next { λ r. ⌜ r .next ≡ sentTo (boardOf state (now (array .entry)) (now (rows .entry))) wp (pairs (drop 2 (now (line .entry)))) .next ⌝ }
+    ensures output { λ r. ⌜ Prints (now (output .entry)) at (sentText (boardOf state (now (array .entry)) (now (rows .entry))) wp (pairs (drop 2 (now (line .entry))))) (now (output .exit)) (r .printed) ⌝ }
 {
     lines::bytes_of(&line[2..], sent);
     runs::blank(back);
-    let answer = transact::transact(part, array, rows, wp, sent, back);
+    let answer = transact::transact(state, array, rows, wp, sent, back);
     let next = answer.next;
     let printed = printing::put_answer(output, at, answer.number, answer.first, back);
     Ran {
@@ -44,17 +45,17 @@ fn send(
 
 // So many ticks.
 fn wait(
-    part: Record,
+    state: Record,
     array: &mut [u8],
     rows: &mut [u8],
     ticks: usize,
     output: &mut [u8],
     at: usize,
 ) -> Ran
-    ensures after { λ r. ⌜ boardOf (r .next) (now (array .exit)) (now (rows .exit)) ≡ afterTicks (boardOf part (now (array .entry)) (now (rows .entry))) ticks ⌝ }
-    ensures output { λ r. ⌜ Prints (now (output .entry)) at (waitedText (boardOf part (now (array .entry)) (now (rows .entry))) ticks) (now (output .exit)) (r .printed) ⌝ }
+    ensures after { λ r. ⌜ boardOf (r .next) (now (array .exit)) (now (rows .exit)) ≡ afterTicks (boardOf state (now (array .entry)) (now (rows .entry))) ticks ⌝ }
+    ensures output { λ r. ⌜ Prints (now (output .entry)) at (waitedText (boardOf state (now (array .entry)) (now (rows .entry))) ticks) (now (output .exit)) (r .printed) ⌝ }
 {
-    let ticked = ticks::tick(part, array, rows, ticks);
+    let ticked = ticks::tick(state, array, rows, ticks);
     let next = ticked.next;
     let printed = printing::put_ticks(output, at, ticked.number, ticked.done);
     Ran {
@@ -65,7 +66,7 @@ fn wait(
 
 // One line.
 fn run_line(
-    part: Record,
+    state: Record,
     array: &mut [u8],
     rows: &mut [u8],
     most: usize,
@@ -76,15 +77,15 @@ fn run_line(
     at: usize,
 ) -> Ran
     requires { ⌜ (most ≤ length (now sent)) × (most ≤ length (now back)) ⌝ }
-    ensures after { λ r. ⌜ boardOf (r .next) (now (array .exit)) (now (rows .exit)) ≡ lineAfter (lineOf most (now (line .entry))) (now (line .entry)) (boardOf part (now (array .entry)) (now (rows .entry))) ⌝ }
-    ensures output { λ r. ⌜ Prints (now (output .entry)) at (lineText (lineOf most (now (line .entry))) (now (line .entry)) (boardOf part (now (array .entry)) (now (rows .entry)))) (now (output .exit)) (r .printed) ⌝ }
+    ensures after { λ r. ⌜ boardOf (r .next) (now (array .exit)) (now (rows .exit)) ≡ lineAfter (lineOf most (now (line .entry))) (now (line .entry)) (boardOf state (now (array .entry)) (now (rows .entry))) ⌝ }
+    ensures output { λ r. ⌜ Prints (now (output .entry)) at (lineText (lineOf most (now (line .entry))) (now (line .entry)) (boardOf state (now (array .entry)) (now (rows .entry)))) (now (output .exit)) (r .printed) ⌝ }
 {
     let said = lines::line_of(most, line);
     match said {
         Line::Transaction(wp) => {
             let n = line.len() / 2 - 1;
             send(
-                part,
+                state,
                 array,
                 rows,
                 wp,
@@ -95,11 +96,11 @@ fn run_line(
                 at,
             )
         }
-        Line::Ticks(ticks) => wait(part, array, rows, ticks, output, at),
+        Line::Ticks(ticks) => wait(state, array, rows, ticks, output, at),
         Line::Neither => {
             let printed = printing::put_other(output, at);
             Ran {
-                next: part,
+                next: state,
                 printed: printed,
             }
         }
@@ -123,21 +124,21 @@ fn room() -> [u8; 4096]
 // All lines of an input, of at most so many pairs, on a part and its memory. What is printed goes into the output
 // from its start on, as far as the output goes.
 pub fn run(
-    part: Record,
+    state: Record,
     array: &mut [u8],
     rows: &mut [u8],
     most: usize,
     input: &[u8],
     output: &mut [u8],
 ) -> Ran
-    ensures after { λ r. ⌜ boardOf (r .next) (now (array .exit)) (now (rows .exit)) ≡ boardAfter (min most transactionLimit) (linesOf (now (input .entry))) (boardOf part (now (array .entry)) (now (rows .entry))) ⌝ }
-    ensures output { λ r. ⌜ Prints (now (output .entry)) 0 (textOf (min most transactionLimit) (linesOf (now (input .entry))) (boardOf part (now (array .entry)) (now (rows .entry)))) (now (output .exit)) (r .printed) ⌝ }
+    ensures after { λ r. ⌜ boardOf (r .next) (now (array .exit)) (now (rows .exit)) ≡ boardAfter (min most transactionLimit) (linesOf (now (input .entry))) (boardOf state (now (array .entry)) (now (rows .entry))) ⌝ }
+    ensures output { λ r. ⌜ Prints (now (output .entry)) 0 (textOf (min most transactionLimit) (linesOf (now (input .entry))) (boardOf state (now (array .entry)) (now (rows .entry)))) (now (output .exit)) (r .printed) ⌝ }
 {
     let few = words::lesser(most, 4096);
     let mut sent = room();
     let mut back = room();
     let mut ran = Ran {
-        next: part,
+        next: state,
         printed: 0,
     };
     let n = input.len();
@@ -184,9 +185,10 @@ pub fn on_part(
         capacity: 0x33,
         device: 0x44,
     };
-    let powered = record::power_up(blocks, identity, 0, 0);
-    let part = powered.next;
-    let ran = run(part, array, rows, most, input, output);
+    let stored = record::no_stored();
+    let powered = record::power_up(blocks, identity, stored);
+    let state = powered.next;
+    let ran = run(state, array, rows, most, input, output);
     ran.printed
 }
 

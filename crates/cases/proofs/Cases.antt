@@ -1,7 +1,7 @@
 -- The proof of each case, and of the list of them.
 use Prim.Native.Nat.{ℕ, _+_, _*_, _/_, _%_, _<_, _≤_, min}
 use mathlib.Core.Path.{_≡_, refl, ap, _∙_}
-use mathlib.Core.Bool.{true, false}
+use mathlib.Core.Bool.{Bool, true, false}
 use mathlib.Core.List.{List, [], _∷_}
 use native.Mathlib.Omega.{arith}
 use native.Mathlib.Nat.{mod-eq-of-lt}
@@ -13,52 +13,53 @@ use Rattle.types.specs.declared.Memory.the-variants.{Array}
 use Rattle.types.specs.declared.Operation.the-variants.{Program}
 use Rattle.types.specs.declared.Command.the-variants.{ReadStatus, WriteEnable, ChipErase, ArmReset, Reset, RowProgram}
 use Rattle.types.specs.declared.Decoded.the-variants.{Known}
-use Rattle.types.specs.declared.Effect.the-variants.{Programs}
 use Rattle.types.specs.declared.Identity.{Identity}
+use Rattle.types.specs.declared.Stored.{Stored}
+use Rattle.types.specs.declared.Part.{Part}
 use Rattle.types.specs.declared.Record.{Record}
 use Rattle.types.specs.declared.Answer.{Answer}
 use Rattle.types.specs.declared.Ticked.{Ticked}
 use Rattle.words.specs.Logic.{_and_, _or_, unless, _orElse_}
 use Rattle.paper.specs.Sizes.{sizeOk, blockBytes}
 use Rattle.paper.specs.Soundness.{sound, bitsOk}
-use Rattle.paper.specs.Numbers.{commandNumber, powerUpNumber}
-use Rattle.paper.specs.Table.{decoded, columns}
-use Rattle.paper.specs.Calls.{executed, ignored, poweredUp}
+use Rattle.paper.specs.Numbers.{commandNumber, powerUpNumber, ignoredNumber}
+use Rattle.paper.specs.Table.{decoded}
+use Rattle.paper.specs.Calls.{poweredUp}
 use Rattle.paper.specs.Address.{highFirst, addressIn, rowOk, rowPlace}
 use Rattle.paper.specs.Program.{pageBase, pagePlace, passedCount, pageData, programOf, narrowed}
 use Rattle.paper.specs.Erase.{eraseOf}
-use Rattle.paper.specs.Commands.{begun, afterExecuted}
 use Rattle.paper.specs.Ticks.{worked, recordAfter, memoryAfter, workingTicks}
 use Rattle.paper.specs.Records.{marked, fresh}
 use Rattle.paper.specs.Protection.{codeOf, blocksAsked, protectedBlocks, protected, locked}
 use Rattle.paper.proofs.Sizes.{size-range}
 use Rattle.paper.proofs.Addresses.{in-page}
-use Rattle.paper.proofs.Soundness.{sound-parts}
-use Rattle.paper.proofs.Kept.{idle-sound}
-use Rattle.cases.proofs.Paper.{send, Ready, Free, Case1, Case2, Case3, Case4, Case5, Case6, Case7, Case8, Case9, Case10, Case11, Parts, Cases}
+use Rattle.paper.proofs.Soundness.{recordOf, sound-parts, marked-sound}
+use Rattle.paper.proofs.Kept.{fresh-sound}
+use Rattle.cases.proofs.Paper.{send, Ready, coded, Free, Case1, Case2, Case3, Case4, Case5, Case6, Case7, Case8, Case9, Case10, Case11, Parts, Cases}
 use Rattle.paper.proofs.Answers.{executes, ignores, arm-number, read-status-number, reset-number}
 use Rattle.cases.proofs.EraseCut.{begins, runs, runs-on, halts, halted-arms, halted-resets}
-use Rattle.cases.proofs.Parts.{enabled, enabled-ready}
+use Rattle.cases.proofs.Parts.{did, enabled, enabled-ready}
+use Rattle.cases.proofs.ProgramRun.{programming}
 use Rattle.cases.proofs.ProgramSent.{program-run, program-ticks, program-array, program-tick}
 
 abbrev number : Answer → ℕ
 number t = t .number
 
-powered : (id : Identity) (c k : ℕ) → poweredUp 16 id (c * 4) (k * 16) ≡ record { next = fresh 16 id (c * 4) (k * 16); number = 0 }
+powered : (id : Identity) (c k : ℕ) → poweredUp 16 id (coded c k) ≡ record { next = fresh 16 id (coded c k); number = 0 }
 unfolding poweredUp powerUpNumber sizeOk bitsOk _and_ _or_ unless _orElse_
 powered id c k =
     let s : c * 4 % 4 ≡ 0 = omega arith in
     let f : k * 16 % 16 ≡ 0 = omega arith in
     rw (s, f)
 
-fresh-ready : (id : Identity) (st fn : ℕ) → Ready (fresh 16 id st fn)
+fresh-ready : (id : Identity) (g : Stored) → Ready (fresh 16 id g)
 unfolding sizeOk _or_
-fresh-ready id st fn = record { is-sound = idle-sound 16 id st fn false false refl; idle = refl; awake = refl }
+fresh-ready id g = record { is-sound = fresh-sound 16 id g refl; idle = refl; awake = refl }
 
 parts : Parts
 parts id c k h =
-    let p = fresh 16 id (c * 4) (k * 16) in
-    let r : Ready p = fresh-ready id (c * 4) (k * 16) in
+    let p = fresh 16 id (coded c k) in
+    let r : Ready p = fresh-ready id (coded c k) in
     rw (powered id c k, enabled p r) (refl, r, enabled-ready p r, refl, refl, omega arith, omega arith)
 
 case-1 : Case1
@@ -79,14 +80,14 @@ none-protected n k =
     let z : min n 0 ≡ 0 = omega arith in
     rw (z, le-leb 0 k (omega arith), le-ltb k 0 (omega arith))
 
-chip-barred : (p : Record) → Ready p → codeOf (p .status) ≡ 15 → p .wel ≡ true → commandNumber (columns ChipErase) p (0xC7 ∷ []) true ≡ 28
-unfolding commandNumber _or_ unless _orElse_ eraseOf
+chip-barred : (p : Record) → Ready p → codeOf (p .part .stored .status) ≡ 15 → p .part .wel ≡ true → ignoredNumber (Known ChipErase) (p .part) (p .phase) (0xC7 ∷ []) true ≡ 28
+unfolding commandNumber _and_ _or_ unless _orElse_ eraseOf
 chip-barred p r c w = rw (r .awake, r .idle, w, c)
 
 case-4 : Case4
 unfolding decoded
 case-4 p r c w h m l d (n, most) = (
-  ap number (program-run p r w h m l d n most (rw c (none-protected (p .blocks) _))),
+  ap number (program-run p r w h m l d n most (rw c (none-protected (p .part .blocks) _))),
   ap number (ignores p (r .is-sound) true ChipErase (0xC7 ∷ []) (omega arith) (omega arith) refl 27 (chip-barred p r c w)),
 )
 
@@ -98,16 +99,16 @@ over-FF xs a d e = rw e
 abbrev three : List ℕ
 three = 0x01 ∷ 0x02 ∷ 0x03 ∷ []
 
-at-FE : (p : Record) → 1 ≤ p .blocks → addressIn (p .blocks) (0x02 ∷ 0x00 ∷ 0x00 ∷ 0xFE ∷ three) ≡ 0xFE
+at-FE : (n : ℕ) → 1 ≤ n → addressIn n (0x02 ∷ 0x00 ∷ 0x00 ∷ 0xFE ∷ three) ≡ 0xFE
 unfolding addressIn highFirst
-at-FE p h = mod-eq-of-lt (omega arith)
+at-FE n h = mod-eq-of-lt (omega arith)
 
-abbrev started : Record → Record
-started p = marked (begun p (Program Array 0x000000 0xFE 3 0) (pageData three)) false
+abbrev started : Part → Record
+started p = programming p (Program Array 0x000000 0xFE 3 0) three
 
-starts : (p : Record) → 1 ≤ p .blocks → afterExecuted (Programs Array) p (0x02 ∷ 0x00 ∷ 0x00 ∷ 0xFE ∷ three) ≡ started p
+starts : (p : Part) → 1 ≤ p .blocks → programming p (programOf Array (p .blocks) (0x02 ∷ 0x00 ∷ 0x00 ∷ 0xFE ∷ three)) three ≡ started p
 unfolding programOf pagePlace
-starts p n = rw (at-FE p n)
+starts p n = rw (at-FE (p .blocks) n)
 
 module _ (xs : List ℕ) (a : getD xs 0x0000FE 0 ≡ 0xFF) (b : getD xs 0x0000FF 0 ≡ 0xFF) (c : getD xs 0x000000 0 ≡ 0xFF) where
   three-written : narrowed (narrowed (narrowed xs 0x0000FE 0x01) 0x0000FF 0x02) 0x000000 0x03 ≡ set (set (set xs 0x0000FE 0x01) 0x0000FF 0x02) 0x000000 0x03
@@ -118,33 +119,33 @@ module _ (xs : List ℕ) (a : getD xs 0x0000FE 0 ≡ 0xFF) (b : getD xs 0x0000FF
       let z : getD zs 0x000000 0 ≡ 0xFF = getD-set-other ys 0x0000FF 0x000000 0x02 0 (omega arith) ∙ getD-set-other xs 0x0000FE 0x000000 0x01 0 (omega arith) ∙ c in
       rw (over-FF xs 0x0000FE 0x01 a, over-FF ys 0x0000FF 0x02 y, over-FF zs 0x000000 0x03 z)
 
-  three-run : (p : Record) → memoryAfter Array 3 (started p) xs ≡ set (set (set xs 0x0000FE 0x01) 0x0000FF 0x02) 0x000000 0x03
+  three-run : (p : Part) → memoryAfter Array 3 (started p) xs ≡ set (set (set xs 0x0000FE 0x01) 0x0000FF 0x02) 0x000000 0x03
   unfolding worked pagePlace pageData
   three-run p = three-written
 
 case-5 : Case5
 unfolding worked
 case-5 p r w f xs l a b c =
-    let n : 1 ≤ p .blocks = size-range (p .blocks) (sound-parts p (r .is-sound) .size) .0 in
-    let g : Free (codeOf (p .status)) (p .blocks) (addressIn (p .blocks) (0x02 ∷ 0x00 ∷ 0x00 ∷ 0xFE ∷ three)) = rw (at-FE p n) f in (
+    let n : 1 ≤ p .part .blocks = size-range (p .part .blocks) (sound-parts p (r .is-sound) .size) .0 in
+    let g : Free (codeOf (p .part .stored .status)) (p .part .blocks) (addressIn (p .part .blocks) (0x02 ∷ 0x00 ∷ 0x00 ∷ 0xFE ∷ three)) = rw (at-FE (p .part .blocks) n) f in (
       ap number (program-run p r w 0x00 0x00 0xFE three (omega arith) (omega arith) g),
-      program-array p r w 0x00 0x00 0xFE three (omega arith) (omega arith) g xs l 3 (omega arith) ∙ ap (λ (q : Record). memoryAfter Array 3 q xs) (starts p n) ∙ three-run xs a b c p,
-      ap (λ (t : Ticked). t .next .phase) (program-ticks p r w 0x00 0x00 0xFE three (omega arith) (omega arith) g 3 (omega arith)) ∙ ap (λ (q : Record). recordAfter 3 q .phase) (starts p n),
-      ap (λ (t : Ticked). t .done) (program-ticks p r w 0x00 0x00 0xFE three (omega arith) (omega arith) g 4 (omega arith)) ∙ ap (workingTicks 4) (starts p n),
+      program-array p r w 0x00 0x00 0xFE three (omega arith) (omega arith) g xs l 3 (omega arith) ∙ ap (λ (q : Record). memoryAfter Array 3 q xs) (starts (p .part) n) ∙ three-run xs a b c (p .part),
+      ap (λ (t : Ticked). t .next .phase) (program-ticks p r w 0x00 0x00 0xFE three (omega arith) (omega arith) g 3 (omega arith)) ∙ ap (λ (q : Record). recordAfter 3 q .phase) (starts (p .part) n),
+      ap (λ (t : Ticked). t .done) (program-ticks p r w 0x00 0x00 0xFE three (omega arith) (omega arith) g 4 (omega arith)) ∙ ap (workingTicks 4) (starts (p .part) n),
     )
 
-offset-2 : (p : Record) (h m : ℕ) (d : List ℕ)
-    → let a = addressIn (p .blocks) (0x02 ∷ h ∷ m ∷ 0x00 ∷ d) in
+offset-2 : (n h m : ℕ) (d : List ℕ)
+    → let a = addressIn n (0x02 ∷ h ∷ m ∷ 0x00 ∷ d) in
     pageBase a + pagePlace a 2 ≡ a + 2
 unfolding highFirst pagePlace
-offset-2 p h m d = omega (arith, in-page (p .blocks) (0x02 ∷ h ∷ m ∷ 0x00 ∷ d))
+offset-2 n h m d = omega (arith, in-page n (0x02 ∷ h ∷ m ∷ 0x00 ∷ d))
 
 case-6 : Case6
 unfolding narrowed
 case-6 p r w h m d n f xs e =
     let two : passedCount d ≡ 2 = omega arith in (
       ap number (program-run p r w h m 0x00 d (omega arith) (omega arith) f),
-      program-tick p r w h m 0x00 d (omega arith) (omega arith) f xs e ∙ rw (two, offset-2 p h m d),
+      program-tick p r w h m 0x00 d (omega arith) (omega arith) f xs e ∙ rw (two, offset-2 (p .part .blocks) h m d),
     )
 
 over-5A : (xs : List ℕ) (a : ℕ) → getD xs a 0 ≡ 0x5A → narrowed xs (pageBase a + pagePlace a 0) 0xA5 ≡ set xs a 0x00
@@ -156,10 +157,10 @@ over-5A xs a b =
 case-7 : Case7
 case-7 p r w h m l f xs e b = (
   ap number (program-run p r w h m l (0xA5 ∷ []) (omega arith) (omega arith) f),
-  program-tick p r w h m l (0xA5 ∷ []) (omega arith) (omega arith) f xs e ∙ over-5A xs (addressIn (p .blocks) (0x02 ∷ h ∷ m ∷ l ∷ 0xA5 ∷ [])) b,
+  program-tick p r w h m l (0xA5 ∷ []) (omega arith) (omega arith) f xs e ∙ over-5A xs (addressIn (p .part .blocks) (0x02 ∷ h ∷ m ∷ l ∷ 0xA5 ∷ [])) b,
 )
 
-two-bytes : (p : Record) (b : ℕ) → Ready p → commandNumber (columns WriteEnable) p (0x06 ∷ b ∷ []) true ≡ 24
+two-bytes : (p : Record) (b : ℕ) → Ready p → ignoredNumber (Known WriteEnable) (p .part) (p .phase) (0x06 ∷ b ∷ []) true ≡ 24
 unfolding commandNumber _or_ unless _orElse_
 two-bytes p b r = rw (r .awake, r .idle)
 
@@ -167,21 +168,28 @@ case-8 : Case8
 unfolding decoded
 case-8 p r b = ap number (ignores p (r .is-sound) true WriteEnable (0x06 ∷ b ∷ []) (omega arith) (omega arith) refl 23 (two-bytes p b r))
 
+-- the record the same but for the armed mark
+abbrev armedAs : Record → Bool → Record
+armedAs p armed = recordOf (marked (p .part) armed) (p .phase) (p .page)
+
+armed-sound : (p : Record) (armed : Bool) → sound p ≡ true → sound (armedAs p armed) ≡ true
+armed-sound p armed s = marked-sound (p .part) (p .phase) (p .page) armed s
+
 case-9 : Case9
-unfolding decoded sound unless
+unfolding decoded unless
 case-9 p s e =
-    let a : send p (0x66 ∷ []) ≡ executed (columns ArmReset) p (0x66 ∷ []) = executes p s true ArmReset (0x66 ∷ []) (omega arith) (omega arith) refl (arm-number p e true) in
-    let b : send (marked p true) (0x05 ∷ []) ≡ executed (columns ReadStatus) (marked p true) (0x05 ∷ []) = executes (marked p true) s true ReadStatus (0x05 ∷ []) (omega arith) (omega arith) refl (read-status-number (marked p true) e true) in
-    let c : send (marked p false) (0x99 ∷ []) ≡ ignored (Known Reset) (marked p false) 25 1 = ignores (marked p false) s true Reset (0x99 ∷ []) (omega arith) (omega arith) refl 24 (reset-number (marked p false) e true false refl) in
+    let a : send p (0x66 ∷ []) ≡ did (armedAs p true) 1 = executes p s true ArmReset (0x66 ∷ []) (omega arith) (omega arith) refl (arm-number (p .part) (p .phase) e true) in
+    let b : send (armedAs p true) (0x05 ∷ []) ≡ did (armedAs p false) 1 = executes (armedAs p true) (armed-sound p true s) true ReadStatus (0x05 ∷ []) (omega arith) (omega arith) refl (read-status-number (marked (p .part) true) (p .phase) e true) in
+    let c : send (armedAs p false) (0x99 ∷ []) .number ≡ 25 = ap number (ignores (armedAs p false) (armed-sound p false s) true Reset (0x99 ∷ []) (omega arith) (omega arith) refl 24 (reset-number (marked (p .part) false) (p .phase) e true false refl)) in
     rw (a, b, c) (refl, refl, refl)
 
-locked-row : (p : Record) → Ready p → p .wel ≡ true → locked (p .function) 1 ≡ true → (d : List ℕ) → 1 ≤ length d
-    → commandNumber (columns RowProgram) p (0x62 ∷ 0x00 ∷ 0x10 ∷ 0x00 ∷ d) true ≡ 28
+locked-row : (p : Record) → Ready p → p .part .wel ≡ true → locked (p .part .stored .function) 1 ≡ true → (d : List ℕ) → 1 ≤ length d
+    → ignoredNumber (Known RowProgram) (p .part) (p .phase) (0x62 ∷ 0x00 ∷ 0x10 ∷ 0x00 ∷ d) true ≡ 28
 unfolding commandNumber _and_ _or_ unless _orElse_ rowOk rowPlace highFirst programOf
 locked-row p r w k d n = rw (r .awake, r .idle, le-leb 5 (length (0x62 ∷ 0x00 ∷ 0x10 ∷ 0x00 ∷ d)) (omega arith), w, k)
 
-no-row : (p : Record) → Ready p → p .wel ≡ true → (d : List ℕ) → 1 ≤ length d
-    → commandNumber (columns RowProgram) p (0x62 ∷ 0x00 ∷ 0x01 ∷ 0x00 ∷ d) true ≡ 27
+no-row : (p : Record) → Ready p → p .part .wel ≡ true → (d : List ℕ) → 1 ≤ length d
+    → ignoredNumber (Known RowProgram) (p .part) (p .phase) (0x62 ∷ 0x00 ∷ 0x01 ∷ 0x00 ∷ d) true ≡ 27
 unfolding commandNumber _and_ _or_ unless _orElse_ rowOk highFirst
 no-row p r w d n = rw (r .awake, r .idle, le-leb 5 (length (0x62 ∷ 0x00 ∷ 0x01 ∷ 0x00 ∷ d)) (omega arith), w)
 

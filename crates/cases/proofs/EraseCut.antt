@@ -13,42 +13,40 @@ use Rattle.types.specs.declared.Operation.{Operation}
 use Rattle.types.specs.declared.Operation.the-variants.{Erase}
 use Rattle.types.specs.declared.Phase.the-variants.{Idle, Busy, Suspended}
 use Rattle.types.specs.declared.Command.the-variants.{BlockErase64, Suspend, ArmReset, Reset}
+use Rattle.types.specs.declared.Decoded.the-variants.{Known}
 use Rattle.types.specs.declared.Record.{Record}
 use Rattle.words.specs.Logic.{_and_, _or_, unless, _orElse_}
 use Rattle.paper.specs.Sizes.{blockBytes, arrayBytes, pageBytes, downTo}
 use Rattle.paper.specs.Address.{highFirst, addressIn}
 use Rattle.paper.specs.Protection.{codeOf}
-use Rattle.paper.specs.Program.{noData}
 use Rattle.paper.specs.Erase.{eraseOf}
 use Rattle.paper.specs.Soundness.{sound, operationOk}
-use Rattle.paper.specs.Numbers.{commandNumber}
-use Rattle.paper.specs.Table.{decoded, columns}
-use Rattle.paper.specs.Records.{marked}
-use Rattle.paper.specs.Commands.{begun}
-use Rattle.paper.specs.Reset.{wasReset}
+use Rattle.paper.specs.Numbers.{commandNumber, ignoredNumber}
+use Rattle.paper.specs.Table.{decoded}
+use Rattle.paper.specs.Records.{fresh}
 use Rattle.paper.specs.Ticks.{recordAfter, workingTicks}
-use Rattle.paper.proofs.MadeSound.{made-again, code-stored}
+use Rattle.paper.proofs.MadeSound.{registers-again, code-stored}
 use Rattle.paper.proofs.Runs.{run-record, run-memory, run-works}
 use Rattle.paper.proofs.EraseRun.{stretch, erase-ran}
 use Rattle.cases.proofs.Paper.{send, tick, arrayTicked, Ready, Free}
 use Rattle.paper.proofs.Answers.{executes, ticks-run, ticks-memory, arm-number, reset-number}
-use Rattle.cases.proofs.Parts.{turned, did, turned-sound, enabled-ready}
+use Rattle.cases.proofs.Parts.{turned, turned-again, did, turned-sound, enabled-ready}
 
 -- BER64 at block 3 with k ticks done
 abbrev erasing : ℕ → Operation
 erasing k = Erase Block64 0x030000 k
 
 -- the part has a block 3 and does not protect it
-module _ (p : Record) (r : Ready p) (has : 3 < p .blocks) (free : Free (codeOf (p .status)) (p .blocks) 0x030000) where
+module _ (p : Record) (r : Ready p) (has : 3 < p .part .blocks) (free : Free (codeOf (p .part .stored .status)) (p .part .blocks) 0x030000) where
   abbrev busy : ℕ → Record
   busy k = turned p (Busy (erasing k)) true false
 
   abbrev halted : ℕ → Bool → Record
   halted k armed = turned p (Suspended (erasing k)) false armed
 
-  operation-ok : (k : ℕ) → k < 256 → operationOk (erasing k) (p .blocks) (p .status) (p .function) ≡ true
+  operation-ok : (k : ℕ) → k < 256 → operationOk (erasing k) (p .part .blocks) (p .part .stored) ≡ true
   unfolding operationOk _and_
-  operation-ok k h = rw (le-leb (0x030000 + blockBytes) (arrayBytes (p .blocks)) (omega arith), free, lt-ltb k 256 h)
+  operation-ok k h = rw (le-leb (0x030000 + blockBytes) (arrayBytes (p .part .blocks)) (omega arith), free, lt-ltb k 256 h)
 
   busy-sound : (k : ℕ) → k < 256 → sound (busy k) ≡ true
   busy-sound k h = turned-sound p r (Busy (erasing k)) true false refl (operation-ok k h) refl
@@ -58,25 +56,24 @@ module _ (p : Record) (r : Ready p) (has : 3 < p .blocks) (free : Free (codeOf (
   halted-sound k armed h = turned-sound p r (Suspended (erasing k)) false armed refl (operation-ok k h) refl
 
   module _ (m l : ℕ) (hm : m < 256) (hl : l < 256) where
-    at-block-3 : eraseOf Block64 (p .blocks) (0xD8 ∷ 0x03 ∷ m ∷ l ∷ []) ≡ erasing 0
+    at-block-3 : eraseOf Block64 (p .part .blocks) (0xD8 ∷ 0x03 ∷ m ∷ l ∷ []) ≡ erasing 0
     unfolding eraseOf addressIn highFirst
     at-block-3 =
         let a = (3 * 256 + m) * 256 + l in
-        let e : a % arrayBytes (p .blocks) ≡ a = mod-eq-of-lt (omega arith) in
+        let e : a % arrayBytes (p .part .blocks) ≡ a = mod-eq-of-lt (omega arith) in
         let b : downTo blockBytes a ≡ 0x030000 = omega arith in
         rw (e, b)
 
-    erases : commandNumber (columns BlockErase64) (turned p Idle true false) (0xD8 ∷ 0x03 ∷ m ∷ l ∷ []) true ≡ 0
-    unfolding commandNumber _or_ unless _orElse_
-    erases = rw (at-block-3, r .awake, code-stored (p .status) 2 (omega arith), free)
+    erases : ignoredNumber (Known BlockErase64) (turned p Idle true false .part) Idle (0xD8 ∷ 0x03 ∷ m ∷ l ∷ []) true ≡ 0
+    unfolding commandNumber _and_ _or_ unless _orElse_
+    erases = rw (at-block-3, r .awake, code-stored (p .part .stored .status) 2 (omega arith), free)
 
     pub begins : send (turned p Idle true false) (0xD8 ∷ 0x03 ∷ m ∷ l ∷ []) ≡ did (busy 0) 4
     unfolding decoded
     begins =
         executes (turned p Idle true false) (enabled-ready p r .is-sound) true BlockErase64 (0xD8 ∷ 0x03 ∷ m ∷ l ∷ []) (omega arith) (omega arith) refl erases
-        ∙ ap (λ (o : Operation). did (marked (begun (turned p Idle true false) o (p .page)) false) 4) at-block-3
-        ∙ ap (λ (q : Record). did q 4)
-        (made-again (p .blocks) (p .identity) (p .status) (p .function) Idle true true false (p .asleep) (Busy (erasing 0)) (p .page))
+        ∙ ap (λ (o : Operation). did (turned (turned p Idle true false) (Busy o) true false) 4) at-block-3
+        ∙ ap (λ (q : Record). did q 4) (turned-again p Idle true false (Busy (erasing 0)) true false)
 
   pub runs : (k : ℕ) → k < 256 → tick (busy 0) k ≡ record { next = busy k; number = 0; done = k }
   runs k h =
@@ -85,14 +82,14 @@ module _ (p : Record) (r : Ready p) (has : 3 < p .blocks) (free : Free (codeOf (
       let b : workingTicks k (busy 0) ≡ k = run-works (busy 0) (erasing 0) refl k (omega arith) in
       ticks-run (busy 0) (busy-sound 0 (omega arith)) k (omega arith) ∙ rw (a, b)
 
-  pub runs-on : (k : ℕ) (xs : List ℕ) → k < 256 → length xs ≡ arrayBytes (p .blocks) → arrayTicked (busy 0) k xs ≡ stretch xs 0x030000 (k * pageBytes)
+  pub runs-on : (k : ℕ) (xs : List ℕ) → k < 256 → length xs ≡ arrayBytes (p .part .blocks) → arrayTicked (busy 0) k xs ≡ stretch xs 0x030000 (k * pageBytes)
   runs-on k xs h e =
       ticks-memory (busy 0) (busy-sound 0 (omega arith)) Array (length xs) k xs e (omega arith)
       ∙ run-memory (busy 0) (erasing 0) refl Array xs k (omega arith)
       ∙ erase-ran k Block64 0x030000 0 (p .page) xs (omega arith)
 
   module _ (k : ℕ) (h : k < 256) where
-    suspends : commandNumber (columns Suspend) (busy k) (0x75 ∷ []) true ≡ 0
+    suspends : ignoredNumber (Known Suspend) (busy k .part) (busy k .phase) (0x75 ∷ []) true ≡ 0
     unfolding commandNumber _or_ unless _orElse_
     suspends = rw (r .awake)
 
@@ -100,16 +97,14 @@ module _ (p : Record) (r : Ready p) (has : 3 < p .blocks) (free : Free (codeOf (
     unfolding decoded
     halts =
         executes (busy k) (busy-sound k h) true Suspend (0x75 ∷ []) (omega arith) (omega arith) refl suspends
-        ∙ ap (λ (q : Record). did q 1)
-        (made-again (p .blocks) (p .identity) (p .status) (p .function) (Busy (erasing k)) true false false (p .asleep) (Suspended (erasing k)) (p .page))
+        ∙ ap (λ (q : Record). did q 1) (turned-again p (Busy (erasing k)) true false (Suspended (erasing k)) false false)
 
     pub halted-arms : send (halted k false) (0x66 ∷ []) ≡ did (halted k true) 1
     unfolding decoded
-    halted-arms = executes (halted k false) (halted-sound k false h) true ArmReset (0x66 ∷ []) (omega arith) (omega arith) refl (arm-number (halted k false) (r .awake) true)
+    halted-arms = executes (halted k false) (halted-sound k false h) true ArmReset (0x66 ∷ []) (omega arith) (omega arith) refl (arm-number (halted k false .part) (halted k false .phase) (r .awake) true)
 
-    pub halted-resets : send (halted k true) (0x99 ∷ []) ≡ did (wasReset p) 1
+    pub halted-resets : send (halted k true) (0x99 ∷ []) ≡ did (fresh (p .part .blocks) (p .part .identity) (p .part .stored)) 1
     unfolding decoded unless
     halted-resets =
-        executes (halted k true) (halted-sound k true h) true Reset (0x99 ∷ []) (omega arith) (omega arith) refl (reset-number (halted k true) (r .awake) true true refl)
-        ∙ ap (λ (q : Record). did q 1)
-        (made-again (p .blocks) (p .identity) (p .status) (p .function) (Suspended (erasing k)) false false false false Idle noData)
+        executes (halted k true) (halted-sound k true h) true Reset (0x99 ∷ []) (omega arith) (omega arith) refl (reset-number (halted k true .part) (halted k true .phase) (r .awake) true true refl)
+        ∙ rw (registers-again (Suspended (erasing k)) false (p .part .stored) Idle false)

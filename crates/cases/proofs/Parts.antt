@@ -7,34 +7,40 @@ use native.Mathlib.Omega.{arith}
 use Rattle.types.specs.declared.Phase.{Phase}
 use Rattle.types.specs.declared.Phase.the-variants.{Idle}
 use Rattle.types.specs.declared.Command.the-variants.{WriteEnable}
+use Rattle.types.specs.declared.Decoded.the-variants.{Known}
 use Rattle.types.specs.declared.Record.{Record}
 use Rattle.types.specs.declared.Answer.{Answer}
 use Rattle.words.specs.Logic.{_or_, unless, _orElse_}
 use Rattle.paper.specs.Records.{marked, settled}
 use Rattle.paper.specs.Soundness.{sound, latchOk, phaseOk, keptIn}
-use Rattle.paper.specs.Numbers.{commandNumber}
-use Rattle.paper.specs.Table.{decoded, columns}
-use Rattle.paper.proofs.Soundness.{sound-parts, marked-sound}
+use Rattle.paper.specs.Numbers.{commandNumber, ignoredNumber}
+use Rattle.paper.specs.Table.{decoded}
+use Rattle.paper.proofs.MadeSound.{registers-again}
+use Rattle.paper.proofs.Soundness.{recordOf, sound-parts, marked-sound}
 use Rattle.paper.proofs.Begun.{settled-empty, idle-empty}
 use Rattle.cases.proofs.Paper.{send, Ready}
 use Rattle.paper.proofs.Answers.{executes}
 
 -- the part in another phase, with this latch and this armed mark
 abbrev pub turned : Record → Phase → Bool → Bool → Record
-turned p f wel armed = marked (settled p f wel (p .page)) armed
+turned p f wel armed = recordOf (marked (settled (p .part) f wel) armed) f (p .page)
+
+-- and then in another one
+pub turned-again : (p : Record) (f : Phase) (wel armed : Bool) (g : Phase) (w a : Bool) → turned (turned p f wel armed) g w a ≡ turned p g w a
+turned-again p f wel armed g w a = rw (registers-again f wel (p .part .stored) g w)
 
 -- the answer to a command that was executed and drove nothing
 abbrev pub did : Record → ℕ → Answer
 did q n = record { next = q; number = 0; first = n }
 
 module _ (p : Record) (r : Ready p) where
-  pub turned-sound : (f : Phase) (wel armed : Bool) → latchOk f wel ≡ true → phaseOk f (p .blocks) (p .status) (p .function) ≡ true → keptIn f ≡ 0
+  pub turned-sound : (f : Phase) (wel armed : Bool) → latchOk f wel ≡ true → phaseOk f (p .part .blocks) (p .part .stored) ≡ true → keptIn f ≡ 0
       → sound (turned p f wel armed) ≡ true
   turned-sound f wel armed l o k =
-      marked-sound (settled p f wel (p .page)) armed
-      (settled-empty p (sound-parts p (r .is-sound) .size) (r .awake) (idle-empty p (r .idle) (r .is-sound)) f wel l o k)
+      marked-sound (settled (p .part) f wel) f (p .page) armed
+      (settled-empty (p .part) (sound-parts p (r .is-sound) .size) (r .awake) (p .page) (idle-empty p (r .idle) (r .is-sound)) f wel l o k)
 
-  enables : commandNumber (columns WriteEnable) p (0x06 ∷ []) true ≡ 0
+  enables : ignoredNumber (Known WriteEnable) (p .part) (p .phase) (0x06 ∷ []) true ≡ 0
   unfolding commandNumber _or_ unless _orElse_
   enables = rw (r .awake, r .idle)
 

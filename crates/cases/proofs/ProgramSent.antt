@@ -1,57 +1,58 @@
 -- 02h sent to a ready part with WEL 1 at a free address: it is executed, and the ticks that follow run.
 use Prim.Native.Nat.{ℕ, _+_, _≤_}
-use mathlib.Core.Path.{_≡_, refl, _∙_}
+use mathlib.Core.Path.{_≡_, refl, ap, _∙_}
 use mathlib.Core.Bool.{true}
 use mathlib.Core.List.{List, _∷_}
 use native.Mathlib.Omega.{arith}
 use lib.ListN.{length, getD}
 use Rattle.types.specs.declared.Memory.the-variants.{Array}
+use Rattle.types.specs.declared.Phase.{Phase}
 use Rattle.types.specs.declared.Command.the-variants.{PageProgram}
-use Rattle.types.specs.declared.Effect.the-variants.{Programs}
 use Rattle.types.specs.declared.Record.{Record}
 use Rattle.paper.specs.Sizes.{arrayBytes, tickLimit}
 use Rattle.paper.specs.Address.{addressIn}
 use Rattle.paper.specs.Protection.{codeOf}
-use Rattle.paper.specs.Program.{pageBase, pagePlace, passedCount, narrowed}
+use Rattle.paper.specs.Program.{pageBase, pagePlace, passedCount, programOf, narrowed}
 use Rattle.paper.specs.Soundness.{sound}
-use Rattle.paper.specs.Commands.{afterExecuted}
 use Rattle.paper.specs.Table.{decoded, columns}
-use Rattle.paper.specs.Calls.{executed}
+use Rattle.paper.specs.Calls.{executed, answered}
 use Rattle.paper.specs.Ticks.{recordAfter, memoryAfter, workingTicks}
 use Rattle.paper.proofs.Soundness.{sound-parts}
-use Rattle.cases.proofs.Paper.{send, tick, arrayTicked, Ready, Free}
 use Rattle.paper.proofs.Answers.{executes, ticks-run, ticks-memory}
-use Rattle.cases.proofs.ProgramRun.{program-number, program-sound, program-first}
+use Rattle.cases.proofs.Paper.{send, tick, arrayTicked, Ready, Free}
+use Rattle.cases.proofs.Parts.{did}
+use Rattle.cases.proofs.ProgramRun.{programming, program-number, program-sound, program-first}
 
-module _ (p : Record) (r : Ready p) (w : p .wel ≡ true) (h m l : ℕ) (d : List ℕ) (n : 1 ≤ length d) (most : length d ≤ 4092) where
+module _ (p : Record) (r : Ready p) (w : p .part .wel ≡ true) (h m l : ℕ) (d : List ℕ) (n : 1 ≤ length d) (most : length d ≤ 4092) where
   abbrev input : List ℕ
   input = 0x02 ∷ h ∷ m ∷ l ∷ d
 
   -- A
   abbrev address : ℕ
-  address = addressIn (p .blocks) input
+  address = addressIn (p .part .blocks) input
 
   -- the part as the program begins
   abbrev begins : Record
-  begins = afterExecuted (Programs Array) p input
+  begins = programming (p .part) (programOf Array (p .part .blocks) input) d
 
-  module _ (free : Free (codeOf (p .status)) (p .blocks) address) where
+  module _ (free : Free (codeOf (p .part .stored .status)) (p .part .blocks) address) where
     begins-sound : sound begins ≡ true
-    begins-sound = program-sound p input (sound-parts p (r .is-sound) .size) (omega arith) free (r .awake)
+    begins-sound = program-sound (p .part) input (sound-parts p (r .is-sound) .size) (omega arith) free (r .awake)
 
-    pub program-run : send p input ≡ executed (columns PageProgram) p input
+    pub program-run : send p input ≡ did begins (length input)
     unfolding decoded
     program-run =
         executes p (r .is-sound) true PageProgram input (omega arith) (omega arith) refl
-        (program-number p input (sound-parts p (r .is-sound) .size) (omega arith) free (r .awake) (r .idle) w true)
+        (program-number (p .part) input (sound-parts p (r .is-sound) .size) (omega arith) free (p .phase) (r .awake) (r .idle) w true)
+        ∙ ap (λ (f : Phase). answered (executed (columns PageProgram) (p .part) f input) input p) (r .idle)
 
     pub program-ticks : (k : ℕ) → k ≤ tickLimit → tick (send p input .next) k ≡ record { next = recordAfter k begins; number = 0; done = workingTicks k begins }
     program-ticks k b = rw program-run (ticks-run begins begins-sound k b)
 
-    module _ (xs : List ℕ) (e : length xs ≡ arrayBytes (p .blocks)) where
+    module _ (xs : List ℕ) (e : length xs ≡ arrayBytes (p .part .blocks)) where
       pub program-array : (k : ℕ) → k ≤ tickLimit → arrayTicked (send p input .next) k xs ≡ memoryAfter Array k begins xs
       program-array k b = rw program-run (ticks-memory begins begins-sound Array (length xs) k xs e b)
 
       -- the first tick
       pub program-tick : arrayTicked (send p input .next) 1 xs ≡ narrowed xs (pageBase address + pagePlace address (passedCount d)) (getD d (passedCount d) 0)
-      program-tick = program-array 1 (omega arith) ∙ program-first p input (sound-parts p (r .is-sound) .size) (omega arith) free xs
+      program-tick = program-array 1 (omega arith) ∙ program-first (p .part) input (sound-parts p (r .is-sound) .size) (omega arith) free xs

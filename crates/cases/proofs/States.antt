@@ -20,11 +20,12 @@ use Rattle.paper.specs.Address.{addressIn, highFirst, rowOk, rowPlace}
 use Rattle.paper.specs.Protection.{blocksAsked, protectedBlocks, protected, locked, barred}
 use Rattle.paper.specs.Program.{noData, pagePlace, programOf}
 use Rattle.paper.specs.Erase.{eraseOf}
-use Rattle.paper.specs.Records.{made}
-use Rattle.paper.specs.Soundness.{operationOk, bitsOk, pageOk, sound}
+use Rattle.paper.specs.Registers.{writeOf}
+use Rattle.paper.specs.Records.{registersIn}
+use Rattle.paper.specs.Soundness.{operationOk, bitsOk, pageOk, partSound, sound}
 use Rattle.paper.specs.Table.{Entry, codes, decoded, columns}
 use Rattle.paper.specs.Numbers.{sizeNumber, rowsNumber, lengthNumber, outputNumber, soundNumber, transactionRefusal, commandNumber}
-use Rattle.paper.specs.Calls.{noIdentity, transacted}
+use Rattle.paper.specs.Calls.{noIdentity, noStored, outcomeOf, transacted}
 
 -- a code with as many zero bytes as make its least length
 abbrev pub least : Length → ℕ
@@ -38,11 +39,16 @@ sent e = e .code ∷ replicate (least (columns (e .command) .length) - 1) 0
 abbrev pub numbers : Record → List Entry → List ℕ
 numbers p [] = []
 numbers p (e ∷ es) =
-    transacted p (arrayBytes (p .blocks)) rowsBytes true (sent e) (length (sent e)) .number ∷ numbers p es
+    transacted p (arrayBytes (p .part .blocks)) rowsBytes true (sent e) (length (sent e)) .number ∷ numbers p es
 
 -- a part of 16 blocks with nothing protected or locked
-abbrev pub part : Phase → Bool → Bool → Bool → Record
-part f wel armed asleep = made 16 noIdentity 0 0 wel armed asleep f noData
+abbrev pub recordIn : Phase → Bool → Bool → Bool → Record
+recordIn f wel armed asleep =
+    record {
+      part = record { blocks = 16; identity = noIdentity; stored = registersIn f wel noStored; wel = wel; armed = armed; asleep = asleep };
+      phase = f;
+      page = noData;
+    }
 
 -- a page program that keeps one byte, which is 0
 abbrev pub program : Operation
@@ -60,22 +66,22 @@ whileSuspended =
 
 -- the codes, as they stand in the table: 03 0B 05 48 9F 90 AB 68 06 04 01 42 02 D7 20 52 D8 C7 60 75 B0 7A 30 B9 66 99 64 62
 pub record States : Type 0 where
-  pub idle : numbers (part Idle true false false) codes
+  pub idle : numbers (recordIn Idle true false false) codes
       ≡ 0 ∷ 0 ∷ 0 ∷ 0 ∷ 0 ∷ 0 ∷ 0 ∷ 0 ∷ 0 ∷ 0 ∷ 0 ∷ 0 ∷ 0 ∷ 0 ∷ 0 ∷ 0 ∷ 0 ∷ 0 ∷ 0 ∷ 25 ∷ 25 ∷ 25 ∷ 25 ∷ 0 ∷ 0 ∷ 25 ∷ 0 ∷ 0 ∷ []
-  pub idle-without-wel : numbers (part Idle false true false) codes
+  pub idle-without-wel : numbers (recordIn Idle false true false) codes
       ≡ 0 ∷ 0 ∷ 0 ∷ 0 ∷ 0 ∷ 0 ∷ 0 ∷ 0 ∷ 0 ∷ 0 ∷ 26 ∷ 26 ∷ 26 ∷ 26 ∷ 26 ∷ 26 ∷ 26 ∷ 26 ∷ 26 ∷ 25 ∷ 25 ∷ 25 ∷ 25 ∷ 0 ∷ 0 ∷ 0 ∷ 26 ∷ 26 ∷ []
-  pub asleep : numbers (part Idle true true true) codes
+  pub asleep : numbers (recordIn Idle true true true) codes
       ≡ 21 ∷ 21 ∷ 21 ∷ 21 ∷ 21 ∷ 21 ∷ 0 ∷ 21 ∷ 21 ∷ 21 ∷ 21 ∷ 21 ∷ 21 ∷ 21 ∷ 21 ∷ 21 ∷ 21 ∷ 21 ∷ 21 ∷ 21 ∷ 21 ∷ 21 ∷ 21 ∷ 21 ∷ 21 ∷ 21 ∷ 21 ∷ 21 ∷ []
-  pub busy-program : numbers (part (Busy program) true true false) codes ≡ whileBusy 0
-  pub busy-sector : numbers (part (Busy (Erase Sector 4096 3)) true true false) codes ≡ whileBusy 0
-  pub busy-chip : numbers (part (Busy (Erase Chip 0 5)) true true false) codes ≡ whileBusy 25
-  pub busy-row : numbers (part (Busy (Erase Row 256 0)) true true false) codes ≡ whileBusy 25
-  pub busy-row-program : numbers (part (Busy (Program Rows 512 7 1 0)) true true false) codes ≡ whileBusy 25
-  pub busy-write : numbers (part (Busy (Write Status 0)) true true false) codes ≡ whileBusy 25
-  pub suspended-program : numbers (part (Suspended program) false true false) codes ≡ whileSuspended
-  pub suspended-sector : numbers (part (Suspended (Erase Sector 4096 3)) false true false) codes ≡ whileSuspended
+  pub busy-program : numbers (recordIn (Busy program) true true false) codes ≡ whileBusy 0
+  pub busy-sector : numbers (recordIn (Busy (Erase Sector 4096 3)) true true false) codes ≡ whileBusy 0
+  pub busy-chip : numbers (recordIn (Busy (Erase Chip 0 5)) true true false) codes ≡ whileBusy 25
+  pub busy-row : numbers (recordIn (Busy (Erase Row 256 0)) true true false) codes ≡ whileBusy 25
+  pub busy-row-program : numbers (recordIn (Busy (Program Rows 512 7 1 0)) true true false) codes ≡ whileBusy 25
+  pub busy-write : numbers (recordIn (Busy (Write Status 0)) true true false) codes ≡ whileBusy 25
+  pub suspended-program : numbers (recordIn (Suspended program) false true false) codes ≡ whileSuspended
+  pub suspended-sector : numbers (recordIn (Suspended (Erase Sector 4096 3)) false true false) codes ≡ whileSuspended
 
 pub states : States
-unfolding transacted transactionRefusal sizeNumber rowsNumber lengthNumber outputNumber soundNumber commandNumber sound operationOk bitsOk pageOk sizeOk decoded addressIn highFirst rowOk rowPlace protected protectedBlocks blocksAsked locked barred noData pagePlace programOf eraseOf _and_ _or_ unless _orElse_
+unfolding transacted outcomeOf transactionRefusal sizeNumber rowsNumber lengthNumber outputNumber soundNumber commandNumber sound partSound operationOk bitsOk pageOk sizeOk decoded addressIn highFirst rowOk rowPlace protected protectedBlocks blocksAsked locked barred noData pagePlace programOf eraseOf writeOf _and_ _or_ unless _orElse_
 states =
     record { idle = refl; idle-without-wel = refl; asleep = refl; busy-program = refl; busy-sector = refl; busy-chip = refl; busy-row = refl; busy-row-program = refl; busy-write = refl; suspended-program = refl; suspended-sector = refl }

@@ -25,6 +25,6 @@ pub tick-step : Follows tick.Learnt (λ κ a x s.
     → Run (a .0) (now (a .1 .0)) (now (a .1 .1 .0)) (ticks (a .1 .1 .1 .0) ∷ cs) q ys ts)
 tick-step κ a x s l cs q ys ts r = waits x (l .0) (l .1 .0) (l .1 .1) r
 
--- blocks, identity, status and function are
-pub power-up-start : Follows power-up.Learnt (λ κ a x s. x ≡ poweredUp (a .0) (a .1 .0) (a .1 .1 .0) (a .1 .1 .1 .0))
+-- blocks, identity and stored register bits are
+pub power-up-start : Follows power-up.Learnt (λ κ a x s. x ≡ poweredUp (a .0) (a .1 .0) (a .1 .1 .0))
 power-up-start κ a x s l = l

@@ -1,23 +1,18 @@
 -- Which operation runs, what each call answers and which places each tick reaches do not depend on stored bytes: a run's course is told by the record, the calls and the lengths of the memories alone.
 use Prim.Native.Nat.{ℕ}
 use mathlib.Core.Path.{_≡_, refl, sym, ap, _∙_}
-use mathlib.Core.Bool.{Bool, true, false}
 use mathlib.Core.List.{List, [], _∷_, _++_}
 use lib.ListN.{length}
-use lib.Dec.{eqb}
 use Rattle.types.specs.declared.Memory.the-variants.{Array, Rows}
 use Rattle.types.specs.declared.Record.{Record}
 use Rattle.types.specs.declared.Answer.{Answer}
 use Rattle.types.specs.declared.Ticked.{Ticked}
-use Rattle.words.specs.Logic.{whenZero}
 use Rattle.paper.specs.Sizes.{arrayBytes, rowsBytes}
 use Rattle.paper.specs.Operations.{Touch}
-use Rattle.paper.specs.Numbers.{tickNumber}
-use Rattle.paper.specs.Calls.{ticked}
-use Rattle.paper.specs.History.{Call, transaction, ticks, recordAfterCall, tickTouches, callTouches, history}
+use Rattle.paper.specs.History.{Call, transaction, ticks, recordAfterCall, reachedBy, callTouches, history}
 use Rattle.paper.proofs.CallKept.{call-size}
 use Rattle.history.specs.Run.{Run, done, sends, waits}
-use Rattle.history.specs.Course.{Step, sent, waited, reachedBy, course, courseOf, endOf, reached}
+use Rattle.history.specs.Course.{Step, sent, waited, course, courseOf, endOf, reached}
 use Rattle.history.proofs.Touches.{ticked-length}
 
 -- memories of the same lengths tell the same course
@@ -32,8 +27,8 @@ course-told (sends {p} {q} {xs} {rs} {ys} {ts} {wp} {i} {o} {cs} w h run) =
 course-told (waits {p} {q} {xs} {rs} {xs′} {rs′} {ys} {ts} {n} {cs} w h hx hr run) =
     let f : length xs′ ≡ length xs = ap (λ (b : List ℕ). length b) hx ∙ ticked-length Array p (length xs) (length rs) n xs in
     let g : length rs′ ≡ length rs = ap (λ (b : List ℕ). length b) hr ∙ ticked-length Rows p (length xs) (length rs) n rs in
-    ap (λ (ss : List Step). waited w (reachedBy w n p) ∷ ss) (course-told run ∙ course-as cs (w .next) f g)
-    ∙ ap (λ (x : Ticked). waited x (reachedBy x n p) ∷ courseOf cs (x .next) (length xs) (length rs)) h
+    ap (λ (ss : List Step). waited w (reachedBy (w .number) n p) ∷ ss) (course-told run ∙ course-as cs (w .next) f g)
+    ∙ ap (λ (x : Ticked). waited x (reachedBy (x .number) n p) ∷ courseOf cs (x .next) (length xs) (length rs)) h
 
 run-ends : {cs : List Call} {p q : Record} {xs rs ys ts : List ℕ} (run : Run p xs rs cs q ys ts) → q ≡ endOf p (course run)
 run-ends done = refl
@@ -49,21 +44,14 @@ course-forgets-contents {cs} {p} f g a r =
     (e, run-ends f ∙ ap (endOf p) e ∙ sym (run-ends g))
 
 -- on the part's own memory, what the steps reached is the history
-module _ (p : Record) (n a r : ℕ) where
-  reached-as : (t : Bool) → eqb (tickNumber p a r n) 0 ≡ t → reachedBy (ticked p a r n) n p ≡ whenZero (tickNumber p a r n) (tickTouches n p) []
-  unfolding ticked
-  reached-as true e = rw e
-  reached-as false e = rw (e, e)
-
-told-reached : (cs : List Call) (p : Record) (a r : ℕ) → a ≡ arrayBytes (p .blocks) → r ≡ rowsBytes → reached (courseOf cs p a r) ≡ history cs p
+told-reached : (cs : List Call) (p : Record) (a r : ℕ) → a ≡ arrayBytes (p .part .blocks) → r ≡ rowsBytes → reached (courseOf cs p a r) ≡ history cs p
 told-reached [] p a r e f = refl
 told-reached (transaction wp i o ∷ cs) p a r e f =
-    rw (e, f) (told-reached cs (recordAfterCall (transaction wp i o) p) (arrayBytes (p .blocks)) rowsBytes (ap arrayBytes (sym (call-size (transaction wp i o) p))) refl)
+    rw (e, f) (told-reached cs (recordAfterCall (transaction wp i o) p) (arrayBytes (p .part .blocks)) rowsBytes (ap arrayBytes (sym (call-size (transaction wp i o) p))) refl)
 told-reached (ticks n ∷ cs) p a r e f =
     rw (e, f)
-    (ap (λ (us : List Touch). us ++ reached (courseOf cs (recordAfterCall (ticks n) p) (arrayBytes (p .blocks)) rowsBytes)) (reached-as p n (arrayBytes (p .blocks)) rowsBytes (eqb (tickNumber p (arrayBytes (p .blocks)) rowsBytes n) 0) refl)
-    ∙ ap (λ (us : List Touch). callTouches (ticks n) p ++ us) (told-reached cs (recordAfterCall (ticks n) p) (arrayBytes (p .blocks)) rowsBytes (ap arrayBytes (sym (call-size (ticks n) p))) refl))
+    (ap (λ (us : List Touch). callTouches (ticks n) p ++ us) (told-reached cs (recordAfterCall (ticks n) p) (arrayBytes (p .part .blocks)) rowsBytes (ap arrayBytes (sym (call-size (ticks n) p))) refl))
 
-pub course-reaches-history : {cs : List Call} {p q : Record} {xs rs ys ts : List ℕ} (run : Run p xs rs cs q ys ts) → length xs ≡ arrayBytes (p .blocks) → length rs ≡ rowsBytes
+pub course-reaches-history : {cs : List Call} {p q : Record} {xs rs ys ts : List ℕ} (run : Run p xs rs cs q ys ts) → length xs ≡ arrayBytes (p .part .blocks) → length rs ≡ rowsBytes
     → reached (course run) ≡ history cs p
 course-reaches-history {cs} {p} {q} {xs} {rs} run a r = ap reached (course-told run) ∙ told-reached cs p (length xs) (length rs) a r

@@ -13,8 +13,9 @@ use Rattle.types.specs.declared.EraseUnit.{EraseUnit}
 use Rattle.types.specs.declared.EraseUnit.the-variants.{Sector, Block32, Block64, Chip, Row}
 use Rattle.types.specs.declared.Operation.{Operation}
 use Rattle.types.specs.declared.Operation.the-variants.{Program, Erase, Write}
-use Rattle.types.specs.declared.Phase.{Phase}
-use Rattle.types.specs.declared.Phase.the-variants.{Idle, Busy, Suspended}
+use Rattle.types.specs.declared.Work.{Work}
+use Rattle.types.specs.declared.Work.the-variants.{NoWork, At}
+use Rattle.types.specs.declared.Stored.{Stored}
 use Rattle.types.specs.declared.Record.{Record}
 use Rattle.words.specs.Logic.{_and_, _or_}
 use Rattle.words.proofs.Tests.{and-l, and-r, and-false}
@@ -22,13 +23,14 @@ use Rattle.paper.specs.Sizes.{arrayBytes, rowsBytes, pageBytes, blockBytes, sam
 use Rattle.paper.specs.Protection.{codeOf, blocksAsked, protectedBlocks, protected, locked}
 use Rattle.paper.specs.Program.{pageBase, pagePlace, narrowedByte}
 use Rattle.paper.specs.Erase.{memoryOf, unitBytes, unitBase, erasedByte}
-use Rattle.paper.specs.Records.{isBusy, goingOn}
+use Rattle.paper.specs.Phases.{running, workIs, anyOperation, isBusy}
 use Rattle.paper.specs.Operations.{ticksInAll, ticksDone, advancedBy, free, unitFree, nextTouch}
 use Rattle.paper.specs.Soundness.{sound}
-use Rattle.paper.specs.Ticks.{finished, worked, tickedIn, recordAfter, touchIn, touchOf}
-use Rattle.paper.specs.Numbers.{tickNumber}
+use Rattle.paper.specs.Ticks.{finished, advanced, worked, tickedAt, recordAfter, touchAt, touchOf}
+use Rattle.paper.specs.Calls.{ticked}
 use Rattle.paper.specs.History.{Call, transaction, ticks, recordAfterCall, tickTouches, callTouches, history, byteAfter, byteAfterAll, shielded, shieldedThroughout}
-use Rattle.paper.proofs.Soundness.{InOrder, busy-in-order}
+use Rattle.paper.proofs.Phases.{rest-idle}
+use Rattle.paper.proofs.Soundness.{InOrder, running-in-order}
 use Rattle.paper.proofs.Kept.{run-sound}
 use Rattle.paper.proofs.CallKept.{call-sound}
 use Rattle.history.specs.Run.{Run}
@@ -43,86 +45,85 @@ none-protected n k =
     ap (λ (t : Bool). leb 0 k and t) e ∙ and-false (leb 0 k)
 
 -- places of one block, or of one row, are free together
-module _ (n status function at b : ℕ) where
-  same-block : at / blockBytes ≡ b / blockBytes → free Array b n status function ≡ true → free Array at n status function ≡ true
-  same-block e h = ap (λ (k : ℕ). not (protected (codeOf status) n k)) e ∙ h
+module _ (n : ℕ) (g : Stored) (at b : ℕ) where
+  same-block : at / blockBytes ≡ b / blockBytes → free Array b n g ≡ true → free Array at n g ≡ true
+  same-block e h = ap (λ (k : ℕ). not (protected (codeOf (g .status)) n k)) e ∙ h
 
-  same-row : at / pageBytes ≡ b / pageBytes → free Rows b n status function ≡ true → free Rows at n status function ≡ true
-  same-row e h = ap (λ (k : ℕ). not (locked function k)) e ∙ h
+  same-row : at / pageBytes ≡ b / pageBytes → free Rows b n g ≡ true → free Rows at n g ≡ true
+  same-row e h = ap (λ (k : ℕ). not (locked (g .function) k)) e ∙ h
 
   -- a place of a page that begins at b
-  page-free : (m : Memory) → pageBase b ≡ b → b ≤ at → at < b + pageBytes → free m b n status function ≡ true → free m at n status function ≡ true
+  page-free : (m : Memory) → pageBase b ≡ b → b ≤ at → at < b + pageBytes → free m b n g ≡ true → free m at n g ≡ true
   page-free Array e l u h = same-block (omega arith) h
   page-free Rows e l u h = same-row (omega arith) h
 
   -- a place of a unit that begins at b
-  unit-free : (u : EraseUnit) → unitBase u n b ≡ b → b ≤ at → at < b + unitBytes u n → unitFree u b n status function ≡ true → free (memoryOf u) at n status function ≡ true
+  unit-free : (u : EraseUnit) → unitBase u n b ≡ b → b ≤ at → at < b + unitBytes u n → unitFree u b n g ≡ true → free (memoryOf u) at n g ≡ true
   unit-free Sector e l h f = same-block (omega arith) f
   unit-free Block32 e l h f = same-block (omega arith) f
   unit-free Block64 e l h f = same-block (omega arith) f
   unit-free Chip e l h f =
-      let z : codeOf status ≡ 0 = eqb-true _ _ f in
+      let z : codeOf (g .status) ≡ 0 = eqb-true _ _ f in
       ap (λ (c : ℕ). not (protected c n (at / blockBytes))) z ∙ ap not (none-protected n (at / blockBytes))
   unit-free Row e l h f = same-row (omega arith) f
 
 -- a test that only a free place can pass is failed at a place that is not free
-failed : (m : Memory) (at n status function : ℕ) (t : Bool) → not (free m at n status function) ≡ true → (t ≡ true → free m at n status function ≡ true) → t ≡ false
-failed m at n status function true shut h = absurd (false≢true (ap not (sym (h refl)) ∙ shut))
-failed m at n status function false shut h = refl
+failed : (m : Memory) (at n : ℕ) (g : Stored) (t : Bool) → not (free m at n g) ≡ true → (t ≡ true → free m at n g ≡ true) → t ≡ false
+failed m at n g true shut h = absurd (false≢true (ap not (sym (h refl)) ∙ shut))
+failed m at n g false shut h = refl
 
 -- what the next tick of an operation that is in order reaches, at a place that is not free
-module _ (at n status function : ℕ) where
+module _ (at n : ℕ) (g : Stored) where
   -- a test of a place of a memory w that only a free place of w can pass
-  spares : (m w : Memory) (t : Bool) → (t ≡ true → free w at n status function ≡ true) → not (free m at n status function) ≡ true → (sameMemory m w and t) ≡ false
+  spares : (m w : Memory) (t : Bool) → (t ≡ true → free w at n g ≡ true) → not (free m at n g) ≡ true → (sameMemory m w and t) ≡ false
   unfolding _and_
-  spares Array Array t h shut = failed Array at n status function t shut h
+  spares Array Array t h shut = failed Array at n g t shut h
   spares Array Rows t h shut = refl
   spares Rows Array t h shut = refl
-  spares Rows Rows t h shut = failed Rows at n status function t shut h
+  spares Rows Rows t h shut = failed Rows at n g t shut h
 
   -- the place that a program narrows next
-  program-free : (m : Memory) (b s k d : ℕ) → InOrder (Program m b s k d) n status function → eqb at (b + pagePlace s d) ≡ true → free m at n status function ≡ true
+  program-free : (m : Memory) (b s k d : ℕ) → InOrder (Program m b s k d) n g → eqb at (b + pagePlace s d) ≡ true → free m at n g ≡ true
   unfolding pagePlace
   program-free m b s k d i t =
       let e : at ≡ b + (s + d) % pageBytes = eqb-true _ _ t in
-      page-free n status function at b m (eqb-true _ _ (i .begins)) (omega arith) (omega arith) (i .open-target)
+      page-free n g at b m (eqb-true _ _ (i .begins)) (omega arith) (omega arith) (i .open-target)
 
   -- a place of the page that an erase sets next
-  erase-free : (u : EraseUnit) (b d : ℕ) → InOrder (Erase u b d) n status function → (leb (b + d * pageBytes) at and ltb at (b + d * pageBytes + pageBytes)) ≡ true → free (memoryOf u) at n status function ≡ true
+  erase-free : (u : EraseUnit) (b d : ℕ) → InOrder (Erase u b d) n g → (leb (b + d * pageBytes) at and ltb at (b + d * pageBytes + pageBytes)) ≡ true → free (memoryOf u) at n g ≡ true
   erase-free u b d i t =
       let l : b + d * pageBytes ≤ at = leb-true _ _ (and-l _ _ t) in
       let h : at < b + d * pageBytes + pageBytes = ltb-true _ _ (and-r _ _ t) in
-      unit-free n status function at b u (eqb-true _ _ (i .begins)) (omega arith) (omega (arith, i .going)) (i .open-target)
+      unit-free n g at b u (eqb-true _ _ (i .begins)) (omega arith) (omega (arith, i .going)) (i .open-target)
 
-  next-spares : (m : Memory) (o : Operation) (g : List ℕ) (x : ℕ) → InOrder o n status function → not (free m at n status function) ≡ true → byteAfter m at (nextTouch o g) x ≡ x
-  next-spares m (Program w b s k d) g x i shut = ap (λ (t : Bool). cond t (narrowedByte x (getD g d 0)) x) (spares m w (eqb at (b + pagePlace s d)) (program-free w b s k d i) shut)
-  next-spares m (Erase u b d) g x i shut = ap (λ (t : Bool). cond t erasedByte x) (spares m (memoryOf u) (leb (b + d * pageBytes) at and ltb at (b + d * pageBytes + pageBytes)) (erase-free u b d i) shut)
-  next-spares m (Write r v) g x i shut = refl
+  next-spares : (m : Memory) (o : Operation) (d : List ℕ) (x : ℕ) → InOrder o n g → not (free m at n g) ≡ true → byteAfter m at (nextTouch o d) x ≡ x
+  next-spares m (Program w b s k c) d x i shut = ap (λ (t : Bool). cond t (narrowedByte x (getD d c 0)) x) (spares m w (eqb at (b + pagePlace s c)) (program-free w b s k c i) shut)
+  next-spares m (Erase u b c) d x i shut = ap (λ (t : Bool). cond t erasedByte x) (spares m (memoryOf u) (leb (b + c * pageBytes) at and ltb at (b + c * pageBytes + pageBytes)) (erase-free u b c i) shut)
+  next-spares m (Write r v) d x i shut = refl
 
 module _ (m : Memory) (at : ℕ) where
   -- while a part is busy, the place is shielded
-  abbrev Guarded : Record → Phase → Type 0
-  Guarded p f = isBusy f ≡ true → shielded m at p ≡ true
+  abbrev Guarded : Record → Type 0
+  Guarded p = isBusy (p .phase) ≡ true → shielded m at p ≡ true
 
-  touch-spares : (p : Record) (f : Phase) (x : ℕ) → p .phase ≡ f → sound p ≡ true → Guarded p f → byteAfter m at (touchIn f (p .page)) x ≡ x
-  touch-spares p Idle x e s g = refl
-  touch-spares p (Busy o) x e s g = next-spares at (p .blocks) (p .status) (p .function) m o (p .page) x (busy-in-order p o e s) (g refl)
-  touch-spares p (Suspended o) x e s g = refl
+  touch-spares : (p : Record) (w : Work) (x : ℕ) → running (p .phase) ≡ w → sound p ≡ true → Guarded p → byteAfter m at (touchAt w (p .page)) x ≡ x
+  touch-spares p NoWork x e s g = refl
+  touch-spares p (At o) x e s g = next-spares at (p .part .blocks) (p .part .stored) m o (p .page) x (running-in-order p o e s) (g (ap (workIs anyOperation) e))
 
-  -- a tick keeps it so: a register changes with the last tick alone, which makes the part idle
-  worked-guarded : (p : Record) (o : Operation) (t : Bool) → shielded m at p ≡ true → Guarded (cond t (goingOn p (advancedBy 1 o)) (finished p o)) (cond t (goingOn p (advancedBy 1 o)) (finished p o) .phase)
+  -- a tick keeps it so: a register changes with the last tick alone, after which nothing runs
+  worked-guarded : (p : Record) (o : Operation) (t : Bool) → shielded m at p ≡ true → Guarded (cond t (advanced p (advancedBy 1 o)) (finished p o))
   worked-guarded p o true g b = g
-  worked-guarded p o false g b = absurd (false≢true b)
+  worked-guarded p o false g b = absurd (false≢true (sym (ap (workIs anyOperation) (rest-idle (p .phase))) ∙ b))
 
-  tick-guarded : (p : Record) (f : Phase) → p .phase ≡ f → Guarded p f → Guarded (tickedIn p f) (tickedIn p f .phase)
+  tick-guarded : (p : Record) (w : Work) → running (p .phase) ≡ w → Guarded p → Guarded (tickedAt p w)
   unfolding worked
-  tick-guarded p Idle e g = λ b. g (sym (ap isBusy e) ∙ b)
-  tick-guarded p (Busy o) e g = worked-guarded p o (ltb (ticksDone o + 1) (ticksInAll o (p .blocks))) (g refl)
-  tick-guarded p (Suspended o) e g = λ b. g (sym (ap isBusy e) ∙ b)
+  tick-guarded p NoWork e g = g
+  tick-guarded p (At o) e g =
+      worked-guarded p o (ltb (ticksDone o + 1) (ticksInAll o (p .part .blocks))) (g (ap (workIs anyOperation) e))
 
-  run-guarded : (n : ℕ) (p : Record) → shielded m at p ≡ true → Guarded (recordAfter n p) (recordAfter n p .phase)
+  run-guarded : (n : ℕ) (p : Record) → shielded m at p ≡ true → Guarded (recordAfter n p)
   run-guarded zero p h = λ b. h
-  run-guarded (suc n) p h = tick-guarded (recordAfter n p) (recordAfter n p .phase) refl (run-guarded n p h)
+  run-guarded (suc n) p h = tick-guarded (recordAfter n p) (running (recordAfter n p .phase)) refl (run-guarded n p h)
 
   -- n ticks, a call and a list of calls spare the byte
   ticks-spare : (n : ℕ) (p : Record) (x : ℕ) → sound p ≡ true → shielded m at p ≡ true → byteAfterAll m at (tickTouches n p) x ≡ x
@@ -130,7 +131,7 @@ module _ (m : Memory) (at : ℕ) where
   ticks-spare (suc n) p x s h =
       bytes-append m at (tickTouches n p) (touchOf (recordAfter n p) ∷ []) x
       ∙ ap (byteAfter m at (touchOf (recordAfter n p))) (ticks-spare n p x s h)
-      ∙ touch-spares (recordAfter n p) (recordAfter n p .phase) x refl (run-sound n p s) (run-guarded n p h)
+      ∙ touch-spares (recordAfter n p) (running (recordAfter n p .phase)) x refl (run-sound n p s) (run-guarded n p h)
 
   call-as : (n : ℕ) (p : Record) (x : ℕ) (t : Bool) → byteAfterAll m at (tickTouches n p) x ≡ x → byteAfterAll m at (cond t (tickTouches n p) []) x ≡ x
   call-as n p x true e = e
@@ -138,7 +139,7 @@ module _ (m : Memory) (at : ℕ) where
 
   call-spares : (c : Call) (p : Record) (x : ℕ) → sound p ≡ true → shielded m at p ≡ true → byteAfterAll m at (callTouches c p) x ≡ x
   call-spares (transaction wp i o) p x s h = refl
-  call-spares (ticks n) p x s h = call-as n p x (eqb (tickNumber p (arrayBytes (p .blocks)) rowsBytes n) 0) (ticks-spare n p x s h)
+  call-spares (ticks n) p x s h = call-as n p x (eqb (ticked p (arrayBytes (p .part .blocks)) rowsBytes n .number) 0) (ticks-spare n p x s h)
 
   history-spares : (cs : List Call) (p : Record) (x : ℕ) → sound p ≡ true → shieldedThroughout m at cs p ≡ true → byteAfterAll m at (history cs p) x ≡ x
   history-spares [] p x s h = refl
@@ -148,7 +149,7 @@ module _ (m : Memory) (at : ℕ) where
       ∙ history-spares cs (recordAfterCall c p) x (call-sound c p s) (and-r _ _ h)
 
 -- a run of calls from a sound record over the part's own memory
-module _ {cs : List Call} {p q : Record} {xs rs ys ts : List ℕ} (run : Run p xs rs cs q ys ts) (s : sound p ≡ true) (a : length xs ≡ arrayBytes (p .blocks)) (r : length rs ≡ rowsBytes) where
+module _ {cs : List Call} {p q : Record} {xs rs ys ts : List ℕ} (run : Run p xs rs cs q ys ts) (s : sound p ≡ true) (a : length xs ≡ arrayBytes (p .part .blocks)) (r : length rs ≡ rowsBytes) where
   pub protected-kept : (at : ℕ) → at < length xs → shieldedThroughout Array at cs p ≡ true → getD ys at 0 ≡ getD xs at 0
   protected-kept at l h = run-told run s a r .array at l ∙ history-spares Array at cs p (getD xs at 0) s h
 

@@ -12,21 +12,23 @@ use Rattle.types.specs.declared.Memory.{Memory}
 use Rattle.types.specs.declared.Memory.the-variants.{Array, Rows}
 use Rattle.types.specs.declared.Operation.{Operation}
 use Rattle.types.specs.declared.Operation.the-variants.{Program, Erase, Write}
-use Rattle.types.specs.declared.Phase.{Phase}
-use Rattle.types.specs.declared.Phase.the-variants.{Idle, Busy, Suspended}
+use Rattle.types.specs.declared.Work.{Work}
+use Rattle.types.specs.declared.Work.the-variants.{NoWork, At}
+use Rattle.types.specs.declared.Stored.{Stored}
 use Rattle.types.specs.declared.Record.{Record}
 use Rattle.words.specs.Logic.{_and_}
 use Rattle.paper.specs.Sizes.{memoryBytes, pageBytes}
 use Rattle.paper.specs.Program.{narrowedByte, narrowed}
 use Rattle.paper.specs.Erase.{memoryOf, unitBytes, erasedByte, pageErased}
+use Rattle.paper.specs.Phases.{running}
 use Rattle.paper.specs.Operations.{Touch, none, blank, narrow, nextTouch, touched}
 use Rattle.paper.specs.Soundness.{sound}
-use Rattle.paper.specs.Ticks.{recordAfter, touchIn, touchOf, memoryAfter}
+use Rattle.paper.specs.Ticks.{recordAfter, touchAt, touchOf, memoryAfter}
 use Rattle.paper.specs.Numbers.{tickNumber}
 use Rattle.paper.specs.Calls.{tickedMemory}
 use Rattle.paper.specs.History.{tickTouches, byteAfter, byteAfterAll}
 use Rattle.paper.proofs.Pages.{erased-length, narrowed-length}
-use Rattle.paper.proofs.Soundness.{InOrder, busy-in-order}
+use Rattle.paper.proofs.Soundness.{InOrder, running-in-order}
 use Rattle.paper.proofs.Kept.{run-sound, run-size}
 
 -- a place of a memory after a page of it was set to FFh
@@ -117,21 +119,20 @@ touched-length Rows (narrow Array a d) xs = refl
 touched-length Rows (narrow Rows a d) xs = narrowed-length xs a d
 
 -- what the next tick of a sound record reaches
-next-fits : (o : Operation) (g : List ℕ) (n status function : ℕ) → InOrder o n status function → Fits (nextTouch o g) n
-next-fits (Program m b s k d) g n status function i = omega arith
-next-fits (Erase u b d) g n status function i =
+next-fits : (o : Operation) (g : List ℕ) (n : ℕ) (s : Stored) → InOrder o n s → Fits (nextTouch o g) n
+next-fits (Program m b c k d) g n s i = omega arith
+next-fits (Erase u b d) g n s i =
     let w : b + unitBytes u n ≤ memoryBytes (memoryOf u) n = leb-true _ _ (i .within) in
     omega (arith, i .going, w)
-next-fits (Write r v) g n status function i = omega arith
+next-fits (Write r v) g n s i = omega arith
 
 module _ (p : Record) (s : sound p ≡ true) where
-  fits-in : (f : Phase) → p .phase ≡ f → Fits (touchIn f (p .page)) (p .blocks)
-  fits-in Idle e = omega arith
-  fits-in (Busy o) e = next-fits o (p .page) (p .blocks) (p .status) (p .function) (busy-in-order p o e s)
-  fits-in (Suspended o) e = omega arith
+  fits-at : (w : Work) → running (p .phase) ≡ w → Fits (touchAt w (p .page)) (p .part .blocks)
+  fits-at NoWork e = omega arith
+  fits-at (At o) e = next-fits o (p .page) (p .part .blocks) (p .part .stored) (running-in-order p o e s)
 
-  touch-fits : Fits (touchOf p) (p .blocks)
-  touch-fits = fits-in (p .phase) refl
+  touch-fits : Fits (touchOf p) (p .part .blocks)
+  touch-fits = fits-at (running (p .phase)) refl
 
 -- touches, then some more
 pub bytes-append : (m : Memory) (at : ℕ) (ts us : List Touch) (x : ℕ) → byteAfterAll m at (ts ++ us) x ≡ byteAfterAll m at us (byteAfterAll m at ts x)
@@ -145,20 +146,20 @@ memory-length m (suc n) p xs = touched-length m (touchOf (recordAfter n p)) (mem
 
 -- and after a tick call, refused or not
 module _ (m : Memory) (p : Record) (a r n : ℕ) (xs : List ℕ) where
-  length-as : (t : Bool) → eqb (tickNumber p a r n) 0 ≡ t → length (tickedMemory m p a r n xs) ≡ length xs
+  length-as : (t : Bool) → eqb (tickNumber (p .part .blocks) (sound p) a r n) 0 ≡ t → length (tickedMemory m p a r n xs) ≡ length xs
   unfolding tickedMemory
   length-as true e = rw e (memory-length m n p xs)
   length-as false e = rw e refl
 
   pub ticked-length : length (tickedMemory m p a r n xs) ≡ length xs
-  ticked-length = length-as (eqb (tickNumber p a r n) 0) refl
+  ticked-length = length-as (eqb (tickNumber (p .part .blocks) (sound p) a r n) 0) refl
 
-pub memory-at : (m : Memory) (n : ℕ) (p : Record) (xs : List ℕ) (at : ℕ) → sound p ≡ true → length xs ≡ memoryBytes m (p .blocks) → at < length xs
+pub memory-at : (m : Memory) (n : ℕ) (p : Record) (xs : List ℕ) (at : ℕ) → sound p ≡ true → length xs ≡ memoryBytes m (p .part .blocks) → at < length xs
     → getD (memoryAfter m n p xs) at 0 ≡ byteAfterAll m at (tickTouches n p) (getD xs at 0)
 memory-at m zero p xs at s e l = refl
 memory-at m (suc n) p xs at s e l =
     let q = recordAfter n p in
     let z = memory-length m n p xs in
-    touched-at m (touchOf q) (q .blocks) (memoryAfter m n p xs) at (touch-fits q (run-sound n p s)) (z ∙ e ∙ ap (memoryBytes m) (sym (run-size n p))) (rw z l)
+    touched-at m (touchOf q) (q .part .blocks) (memoryAfter m n p xs) at (touch-fits q (run-sound n p s)) (z ∙ e ∙ ap (memoryBytes m) (sym (run-size n p))) (rw z l)
     ∙ ap (byteAfter m at (touchOf q)) (memory-at m n p xs at s e l)
     ∙ sym (bytes-append m at (tickTouches n p) (touchOf q ∷ []) (getD xs at 0))

@@ -10,6 +10,7 @@ use types::EraseUnit;
 use types::Memory;
 use types::Operation;
 use types::Register;
+use types::Stored;
 
 // The ticks that an operation takes in all on a part of so many blocks.
 pub fn ticks_in_all(op: Operation, blocks: u16) -> usize
@@ -90,7 +91,7 @@ fn is_aligned(op: Operation, blocks: u16) -> bool
     ensures { λ r. ⌜ r ≡ aligned op blocks ⌝ }
 {
     match op {
-        Operation::Program { base, .. } => base / 256 * 256 == base,
+        Operation::Program { base, .. } => base / types::PAGE_BYTES * types::PAGE_BYTES == base,
         Operation::Erase { unit, base, .. } => pages::unit_base(unit, blocks, base) == base,
         Operation::Write { .. } => true,
     }
@@ -100,8 +101,8 @@ fn memory_bytes(memory: Memory, blocks: u16) -> usize
     ensures { λ r. ⌜ r ≡ memoryBytes memory blocks ⌝ }
 {
     match memory {
-        Memory::Array => (blocks as usize) * 65536,
-        Memory::Rows => 1024,
+        Memory::Array => (blocks as usize) * types::BLOCK_BYTES,
+        Memory::Rows => types::ROWS_BYTES,
     }
 }
 
@@ -121,45 +122,49 @@ fn is_inside(op: Operation, blocks: u16) -> bool
     match op {
         Operation::Program { memory, base, .. } => ends_within(
             base,
-            256,
+            types::PAGE_BYTES,
             memory_bytes(memory, blocks),
         ),
         Operation::Erase { unit, base, .. } => {
-            let size = pages::unit_pages(unit, blocks) * 256;
+            let size = pages::unit_pages(unit, blocks) * types::PAGE_BYTES;
             ends_within(base, size, memory_bytes(pages::unit_memory(unit), blocks))
         }
         Operation::Write { .. } => true,
     }
 }
 
-fn is_free(memory: Memory, base: usize, blocks: u16, status: u8, function: u8) -> bool
-    ensures { λ r. ⌜ r ≡ free memory base blocks status function ⌝ }
+fn is_free(memory: Memory, base: usize, blocks: u16, stored: Stored) -> bool
+    ensures { λ r. ⌜ r ≡ free memory base blocks stored ⌝ }
 {
     match memory {
-        Memory::Array => !protection::is_protected(status / 4 % 16, blocks, base / 65536),
-        Memory::Rows => !protection::is_locked(function, base / 256),
+        Memory::Array => !protection::is_protected(
+            stored.status / 4 % 16,
+            blocks,
+            base / types::BLOCK_BYTES,
+        ),
+        Memory::Rows => !protection::is_locked(stored.function, base / types::PAGE_BYTES),
     }
 }
 
-fn is_unit_free(unit: EraseUnit, base: usize, blocks: u16, status: u8, function: u8) -> bool
-    ensures { λ r. ⌜ r ≡ unitFree unit base blocks status function ⌝ }
+fn is_unit_free(unit: EraseUnit, base: usize, blocks: u16, stored: Stored) -> bool
+    ensures { λ r. ⌜ r ≡ unitFree unit base blocks stored ⌝ }
 {
     match unit {
-        EraseUnit::Sector => is_free(Memory::Array, base, blocks, status, function),
-        EraseUnit::Block32 => is_free(Memory::Array, base, blocks, status, function),
-        EraseUnit::Block64 => is_free(Memory::Array, base, blocks, status, function),
-        EraseUnit::Chip => status / 4 % 16 == 0,
-        EraseUnit::Row => is_free(Memory::Rows, base, blocks, status, function),
+        EraseUnit::Sector => is_free(Memory::Array, base, blocks, stored),
+        EraseUnit::Block32 => is_free(Memory::Array, base, blocks, stored),
+        EraseUnit::Block64 => is_free(Memory::Array, base, blocks, stored),
+        EraseUnit::Chip => stored.status / 4 % 16 == 0,
+        EraseUnit::Row => is_free(Memory::Rows, base, blocks, stored),
     }
 }
 
 // Whether its target is unprotected or unlocked under the registers.
-pub fn target_free(op: Operation, blocks: u16, status: u8, function: u8) -> bool
-    ensures { λ r. ⌜ r ≡ targetFree op blocks status function ⌝ }
+pub fn target_free(op: Operation, blocks: u16, stored: Stored) -> bool
+    ensures { λ r. ⌜ r ≡ targetFree op blocks stored ⌝ }
 {
     match op {
-        Operation::Program { memory, base, .. } => is_free(memory, base, blocks, status, function),
-        Operation::Erase { unit, base, .. } => is_unit_free(unit, base, blocks, status, function),
+        Operation::Program { memory, base, .. } => is_free(memory, base, blocks, stored),
+        Operation::Erase { unit, base, .. } => is_unit_free(unit, base, blocks, stored),
         Operation::Write { .. } => true,
     }
 }
@@ -170,7 +175,7 @@ fn content_ok(op: Operation) -> bool
     match op {
         Operation::Program { start, count, .. } => {
             let some = 1 <= count;
-            let few = count <= 256;
+            let few = count <= types::PAGE_BYTES;
             let in_page = (start as usize) < 256;
             words::both(some, words::both(few, in_page))
         }
@@ -181,12 +186,12 @@ fn content_ok(op: Operation) -> bool
 
 // Whether a part of so many blocks with these registers can be at an operation: its target is aligned,
 // inside the part and free, its ticks done are fewer than all, and what it holds is in order.
-pub fn operation_ok(op: Operation, blocks: u16, status: u8, function: u8) -> bool
-    ensures { λ r. ⌜ r ≡ operationOk op blocks status function ⌝ }
+pub fn operation_ok(op: Operation, blocks: u16, stored: Stored) -> bool
+    ensures { λ r. ⌜ r ≡ operationOk op blocks stored ⌝ }
 {
     let begins = is_aligned(op, blocks);
     let within = is_inside(op, blocks);
-    let open = target_free(op, blocks, status, function);
+    let open = target_free(op, blocks, stored);
     let going = ticks_done(op) < ticks_in_all(op, blocks);
     let content = content_ok(op);
     words::both(

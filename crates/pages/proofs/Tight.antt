@@ -6,7 +6,6 @@ use Rattle.pages.proofs.unit_memory.Reads as unit-memory
 use Rattle.pages.proofs.unit_pages.Reads as unit-pages
 use Rattle.pages.proofs.unit_base.Reads as unit-base
 use Rattle.pages.proofs.erase_page.Reads as erase-page
-use Rattle.pages.proofs.narrow.Reads as narrow
 
 pub page-place-one : OneResult page-place.Learnt
 page-place-one κ a x y s t p q = agree p q
@@ -22,6 +21,3 @@ unit-base-one κ a x y s t p q = agree p q
 
 pub erase-page-one : OneExit erase-page.Learnt (λ κ s. now (s .0))
 erase-page-one κ a x y s t p q = agree p q
-
-pub narrow-one : OneExit narrow.Learnt (λ κ s. now (s .0))
-narrow-one κ a x y s t p q = agree p q

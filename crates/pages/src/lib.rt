@@ -1,6 +1,6 @@
-// Pages: the place of a byte in its page, the units of erases, and the two things that a tick does to stored bytes.
+// Pages: the place of a byte in its page, the units of erases, and a page that is erased.
 ghost use mathlib.Core.Path.{_≡_};
-ghost use Rattle.paper.specs.Program.{pagePlace, narrowed};
+ghost use Rattle.paper.specs.Program.{pagePlace};
 ghost use Rattle.paper.specs.Erase.{memoryOf, unitPages, unitBase, pageErased};
 use types::EraseUnit;
 use types::Memory;
@@ -42,7 +42,7 @@ pub fn unit_pages(unit: EraseUnit, blocks: u16) -> usize
 pub fn unit_base(unit: EraseUnit, blocks: u16, place: usize) -> usize
     ensures { λ r. ⌜ r ≡ unitBase unit blocks place ⌝ }
 {
-    let size = unit_pages(unit, blocks) * 256;
+    let size = unit_pages(unit, blocks) * types::PAGE_BYTES;
     if size == 0 {
         return 0;
     }
@@ -54,21 +54,12 @@ pub fn erase_page(memory: &mut [u8], base: usize)
     ensures { λ _. ⌜ now (memory .exit) ≡ pageErased (now (memory .entry)) base ⌝ }
 {
     let n = memory.len();
-    if n < 256 {
+    if n < types::PAGE_BYTES {
         return;
     }
-    if n - 256 < base {
+    if n - types::PAGE_BYTES < base {
         return;
     }
-    let end = base + 256;
+    let end = base + types::PAGE_BYTES;
     runs::blank(&mut memory[base..end]);
-}
-
-// The byte at a place narrowed by byte: new = old AND data. A place that is not there leaves the bytes as they are.
-pub fn narrow(memory: &mut [u8], place: usize, byte: u8)
-    ensures { λ _. ⌜ now (memory .exit) ≡ narrowed (now (memory .entry)) place byte ⌝ }
-{
-    if place < memory.len() {
-        memory[place] = memory[place] & byte;
-    }
 }

@@ -10,63 +10,67 @@ use Rattle.types.specs.declared.Memory.{Memory}
 use Rattle.types.specs.declared.Command.{Command}
 use Rattle.types.specs.declared.Command.the-variants.{ReadStatus, ArmReset, Reset}
 use Rattle.types.specs.declared.Decoded.the-variants.{Known}
+use Rattle.types.specs.declared.Phase.{Phase}
+use Rattle.types.specs.declared.Work.the-variants.{NoWork}
+use Rattle.types.specs.declared.Part.{Part}
 use Rattle.types.specs.declared.Record.{Record}
 use Rattle.words.specs.Logic.{_and_, _or_, unless, _orElse_}
 use Rattle.paper.specs.Sizes.{arrayBytes, rowsBytes, transactionLimit, tickLimit}
 use Rattle.paper.specs.Soundness.{sound}
-use Rattle.paper.specs.Numbers.{sizeNumber, rowsNumber, lengthNumber, outputNumber, soundNumber, ticksNumber, transactionRefusal, tickNumber, commandNumber}
+use Rattle.paper.specs.Numbers.{sizeNumber, rowsNumber, lengthNumber, outputNumber, soundNumber, ticksNumber, transactionRefusal, tickNumber, commandNumber, ignoredNumber}
 use Rattle.paper.specs.Table.{decoded, columns}
 use Rattle.paper.specs.Ticks.{recordAfter, memoryAfter, workingTicks}
-use Rattle.paper.specs.Calls.{transacted, answerTo, executed, ignored, ticked, tickedMemory}
+use Rattle.paper.specs.Calls.{executed, ignored, outcomeTo, outcomeOf, answered, transacted, ticked, tickedMemory}
 use Rattle.paper.proofs.Soundness.{sound-parts}
 
 module _ (p : Record) (s : sound p ≡ true) where
-  size-fits : sizeNumber (p .blocks) (arrayBytes (p .blocks)) ≡ 0
+  size-fits : sizeNumber (p .part .blocks) (arrayBytes (p .part .blocks)) ≡ 0
   unfolding sizeNumber _and_ unless
-  size-fits = rw (sound-parts p s .size, eq-eqb (arrayBytes (p .blocks)) (arrayBytes (p .blocks)) refl)
+  size-fits = rw (sound-parts p s .size, eq-eqb (arrayBytes (p .part .blocks)) (arrayBytes (p .part .blocks)) refl)
 
-  not-refused : (n : ℕ) → 1 ≤ n → n ≤ transactionLimit → transactionRefusal p (arrayBytes (p .blocks)) rowsBytes n n ≡ 0
+  not-refused : (n : ℕ) → 1 ≤ n → n ≤ transactionLimit → transactionRefusal (p .part .blocks) (sound p) (arrayBytes (p .part .blocks)) rowsBytes n n ≡ 0
   unfolding transactionRefusal rowsNumber lengthNumber outputNumber soundNumber _and_ unless _orElse_
   not-refused n a b = rw (size-fits, le-leb 1 n a, le-leb n transactionLimit b, eq-eqb n n refl, s)
 
   module _ (wp : Bool) (k : Command) (i : List ℕ) (a : 1 ≤ length i) (b : length i ≤ transactionLimit) (e : decoded (getD i 0 0) ≡ Known k) where
-    answered : transacted p (arrayBytes (p .blocks)) rowsBytes wp i (length i) ≡ answerTo (Known k) p wp i
-    unfolding transacted
-    answered = rw (not-refused (length i) a b, e)
+    answered-to : transacted p (arrayBytes (p .part .blocks)) rowsBytes wp i (length i) ≡ answered (outcomeTo (Known k) (p .part) (p .phase) wp i) i p
+    unfolding transacted outcomeOf
+    answered-to = rw (not-refused (length i) a b, e)
 
     -- a command that no number applies to is executed
-    pub executes : commandNumber (columns k) p i wp ≡ 0 → transacted p (arrayBytes (p .blocks)) rowsBytes wp i (length i) ≡ executed (columns k) p i
-    executes n = answered ∙ rw n
+    pub executes : ignoredNumber (Known k) (p .part) (p .phase) i wp ≡ 0
+        → transacted p (arrayBytes (p .part .blocks)) rowsBytes wp i (length i) ≡ answered (executed (columns k) (p .part) (p .phase) i) i p
+    executes n = answered-to ∙ rw n
 
     -- else it is ignored
-    pub ignores : (c : ℕ) → commandNumber (columns k) p i wp ≡ suc c
-        → transacted p (arrayBytes (p .blocks)) rowsBytes wp i (length i) ≡ ignored (Known k) p (suc c) (length i)
-    ignores c n = answered ∙ rw (n, eqb·suc-zero c)
+    pub ignores : (c : ℕ) → ignoredNumber (Known k) (p .part) (p .phase) i wp ≡ suc c
+        → transacted p (arrayBytes (p .part .blocks)) rowsBytes wp i (length i) ≡ answered (ignored (Known k) (suc c) (p .part) (p .phase) (length i)) i p
+    ignores c n = answered-to ∙ rw (n, eqb·suc-zero c)
 
-  ticks-not-refused : (n : ℕ) → n ≤ tickLimit → tickNumber p (arrayBytes (p .blocks)) rowsBytes n ≡ 0
+  ticks-not-refused : (n : ℕ) → n ≤ tickLimit → tickNumber (p .part .blocks) (sound p) (arrayBytes (p .part .blocks)) rowsBytes n ≡ 0
   unfolding tickNumber rowsNumber soundNumber ticksNumber unless _orElse_
   ticks-not-refused n b = rw (size-fits, le-leb n tickLimit b, s)
 
   -- ticks that are not refused run
-  pub ticks-run : (n : ℕ) → n ≤ tickLimit → ticked p (arrayBytes (p .blocks)) rowsBytes n ≡ record { next = recordAfter n p; number = 0; done = workingTicks n p }
+  pub ticks-run : (n : ℕ) → n ≤ tickLimit → ticked p (arrayBytes (p .part .blocks)) rowsBytes n ≡ record { next = recordAfter n p; number = 0; done = workingTicks n p }
   unfolding ticked
   ticks-run n b = rw (ticks-not-refused n b)
 
-  pub ticks-memory : (m : Memory) (a n : ℕ) (xs : List ℕ) → a ≡ arrayBytes (p .blocks) → n ≤ tickLimit → tickedMemory m p a rowsBytes n xs ≡ memoryAfter m n p xs
+  pub ticks-memory : (m : Memory) (a n : ℕ) (xs : List ℕ) → a ≡ arrayBytes (p .part .blocks) → n ≤ tickLimit → tickedMemory m p a rowsBytes n xs ≡ memoryAfter m n p xs
   unfolding tickedMemory
   ticks-memory m a n xs l b = rw (l, ticks-not-refused n b)
 
 -- 66h, 05h and 99h are taken in every phase
-module _ (p : Record) (e : p .asleep ≡ false) (wp : Bool) where
-  pub arm-number : commandNumber (columns ArmReset) p (0x66 ∷ []) wp ≡ 0
+module _ (p : Part) (f : Phase) (e : p .asleep ≡ false) (wp : Bool) where
+  pub arm-number : commandNumber (columns ArmReset) NoWork p f (0x66 ∷ []) wp ≡ 0
   unfolding commandNumber _or_ unless _orElse_
   arm-number = rw e
 
-  pub read-status-number : commandNumber (columns ReadStatus) p (0x05 ∷ []) wp ≡ 0
+  pub read-status-number : commandNumber (columns ReadStatus) NoWork p f (0x05 ∷ []) wp ≡ 0
   unfolding commandNumber _or_ unless _orElse_
   read-status-number = rw e
 
-  pub reset-number : (armed : Bool) → p .armed ≡ armed → commandNumber (columns Reset) p (0x99 ∷ []) wp ≡ unless armed 25
+  pub reset-number : (armed : Bool) → p .armed ≡ armed → commandNumber (columns Reset) NoWork p f (0x99 ∷ []) wp ≡ unless armed 25
   unfolding commandNumber _or_ unless _orElse_
   reset-number true a = rw (e, a)
   reset-number false a = rw (e, a)

@@ -1,7 +1,7 @@
 -- The operation that a command begins is in order: a program or an erase at an address that is valid and free, and a register write. The part that begins it is sound.
 use Prim.Native.Nat.{ℕ, _+_, _*_, _/_, _≤_, _<_}
 use mathlib.Core.Path.{_≡_, refl, ap, _∙_}
-use mathlib.Core.Bool.{Bool, true, false, not}
+use mathlib.Core.Bool.{Bool, true, false}
 use mathlib.Core.List.{List}
 use native.Mathlib.Omega.{arith}
 use native.Mathlib.Nat.{mod-lt, mul-div-cancel, div-lt-iff-lt-mul, mul-le-mul-right, suc-mul}
@@ -15,8 +15,9 @@ use Rattle.types.specs.declared.Register.{Register}
 use Rattle.types.specs.declared.Register.the-variants.{Status, Function}
 use Rattle.types.specs.declared.Phase.{Phase}
 use Rattle.types.specs.declared.Phase.the-variants.{Idle, Busy}
+use Rattle.types.specs.declared.Stored.{Stored}
+use Rattle.types.specs.declared.Part.{Part}
 use Rattle.types.specs.declared.Record.{Record}
-use Rattle.words.specs.Logic.{_or_}
 use Rattle.words.specs.Lists.{allZero}
 use Rattle.words.proofs.Tests.{and-l, and-in}
 use Rattle.paper.specs.Sizes.{sizeOk, arrayBytes, memoryBytes, pageBytes, downTo}
@@ -27,20 +28,19 @@ use Rattle.paper.specs.Registers.{held, writeOf}
 use Rattle.paper.specs.Records.{settled}
 use Rattle.paper.specs.Operations.{targetFree}
 use Rattle.paper.specs.Soundness.{latchOk, operationOk, phaseOk, keptIn, pageOk, sound}
-use Rattle.paper.specs.Commands.{begun}
-use Rattle.paper.specs.Numbers.{namesRows}
 use Rattle.paper.proofs.Sizes.{size-range}
 use Rattle.paper.proofs.KeptBytes.{zeros-after}
 use Rattle.paper.proofs.MadeSound.{made-sound}
-use Rattle.paper.proofs.Soundness.{sound-in, awake-ok, in-order-whole}
+use Rattle.paper.proofs.Soundness.{recordOf, sound-of, sound-in, awake-ok, in-order-whole}
 
 -- a row address is valid where the memory asks for one
 abbrev pub Valid : Memory → List ℕ → Type 0
-Valid m i = (not (namesRows m) or rowOk i) ≡ true
+Valid Array i = Unit {0}
+Valid Rows i = rowOk i ≡ true
 
 -- the place that a transaction names lies in its memory
 place-inside : (m : Memory) (n : ℕ) (i : List ℕ) → 1 ≤ n → Valid m i → placeIn m n i < memoryBytes m n
-unfolding _or_ addressIn rowOk rowPlace
+unfolding addressIn rowOk rowPlace
 place-inside Array n i h v = mod-lt (addressSent i) {m = arrayBytes n} (omega arith)
 place-inside Rows n i h v =
     let l : addressSent i / 4096 < 4 = ltb-true _ _ (and-l _ _ v) in
@@ -50,13 +50,13 @@ page-inside : (m : Memory) (n a : ℕ) → a < memoryBytes m n → pageBase a + 
 page-inside Array n a h = omega arith
 page-inside Rows n a h = omega arith
 
-program-ok : (m : Memory) (n status function : ℕ) (i : List ℕ) → 1 ≤ n → 5 ≤ length i → Valid m i
-    → targetFree (programOf m n i) n status function ≡ true → operationOk (programOf m n i) n status function ≡ true
+program-ok : (m : Memory) (n : ℕ) (g : Stored) (i : List ℕ) → 1 ≤ n → 5 ≤ length i → Valid m i
+    → targetFree (programOf m n i) n g ≡ true → operationOk (programOf m n i) n g ≡ true
 unfolding programOf pagePlace
-program-ok m n status function i h l v f =
+program-ok m n g i h l v f =
     let a = placeIn m n i in
     let k : 1 ≤ keptCount (dataSent i) = simp length-drop (omega arith) in
-    in-order-whole (programOf m n i) n status function
+    in-order-whole (programOf m n i) n g
     (record {
       begins = eq-eqb (pageBase (pageBase a)) (pageBase a) (omega arith);
       within = le-leb _ _ (page-inside m n a (place-inside m n i h v));
@@ -98,15 +98,15 @@ units-fill Block64 n = omega arith
 units-fill Chip n = omega arith
 units-fill Row n = omega arith
 
-erase-ok : (u : EraseUnit) (n status function : ℕ) (i : List ℕ) → 1 ≤ n → Valid (memoryOf u) i
-    → targetFree (eraseOf u n i) n status function ≡ true → operationOk (eraseOf u n i) n status function ≡ true
+erase-ok : (u : EraseUnit) (n : ℕ) (g : Stored) (i : List ℕ) → 1 ≤ n → Valid (memoryOf u) i
+    → targetFree (eraseOf u n i) n g ≡ true → operationOk (eraseOf u n i) n g ≡ true
 unfolding eraseOf
-erase-ok u n status function i h v f =
+erase-ok u n g i h v f =
     let a = placeIn (memoryOf u) n i in
     let s : 0 < unitBytes u n = omega (arith, unit-some u n h) in
     let q : a < unitCount u n * unitBytes u n = rw (← units-fill u n) (place-inside (memoryOf u) n i h v) in
     let w : unitBase u n a + unitBytes u n ≤ memoryBytes (memoryOf u) n = rw (units-fill u n) (unit-inside (unitBytes u n) s a (unitCount u n) q) in
-    in-order-whole (eraseOf u n i) n status function
+    in-order-whole (eraseOf u n i) n g
     (record { begins = eq-eqb _ _ (unit-aligned (unitBytes u n) s a); within = le-leb _ _ w; open-target = f; going = unit-some u n h; content = refl })
 
 -- to hold a byte again changes nothing
@@ -114,42 +114,42 @@ held-again : (r : Register) (b : ℕ) → held r (held r b) ≡ held r b
 held-again Status b = omega arith
 held-again Function b = omega arith
 
-write-ok : (r : Register) (n status function : ℕ) (i : List ℕ) → operationOk (writeOf r i) n status function ≡ true
+write-ok : (r : Register) (n : ℕ) (g : Stored) (i : List ℕ) → operationOk (writeOf r i) n g ≡ true
 unfolding writeOf
-write-ok r n status function i =
-    in-order-whole (writeOf r i) n status function
+write-ok r n g i =
+    in-order-whole (writeOf r i) n g
     (record { begins = refl; within = refl; open-target = refl; going = omega arith; content = eq-eqb _ _ (held-again r (getD i 1 0)) })
 
 -- an awake part in another phase
-module _ (p : Record) (size : sizeOk (p .blocks) ≡ true) (awake : p .asleep ≡ false) where
-  settled-sound : (f : Phase) (wel : Bool) (d : List ℕ) → latchOk f wel ≡ true → phaseOk f (p .blocks) (p .status) (p .function) ≡ true → pageOk f d ≡ true
-      → sound (settled p f wel d) ≡ true
+module _ (p : Part) (size : sizeOk (p .blocks) ≡ true) (awake : p .asleep ≡ false) where
+  pub settled-sound : (f : Phase) (wel : Bool) (d : List ℕ) → latchOk f wel ≡ true → phaseOk f (p .blocks) (p .stored) ≡ true → pageOk f d ≡ true
+      → sound (recordOf (settled p f wel) f d) ≡ true
   settled-sound f wel d l o g =
-      made-sound (p .blocks) (p .identity) (p .status) (p .function) wel (p .armed) (p .asleep) f d size (rw awake (awake-ok f)) l o g
+      sound-of (settled p f wel) f d (made-sound p (p .stored) f wel size (rw awake (awake-ok f)) l o) g
 
-  pub program-begun : (m : Memory) (i : List ℕ) → 5 ≤ length i → Valid m i → targetFree (programOf m (p .blocks) i) (p .blocks) (p .status) (p .function) ≡ true
-      → sound (begun p (programOf m (p .blocks) i) (pageData (dataSent i))) ≡ true
+  pub program-begun : (m : Memory) (i : List ℕ) → 5 ≤ length i → Valid m i → targetFree (programOf m (p .blocks) i) (p .blocks) (p .stored) ≡ true
+      → sound (recordOf (settled p (Busy (programOf m (p .blocks) i)) true) (Busy (programOf m (p .blocks) i)) (pageData (dataSent i))) ≡ true
   unfolding programOf pageOk
   program-begun m i l v f =
       settled-sound (Busy (programOf m (p .blocks) i)) true (pageData (dataSent i)) refl
-      (program-ok m (p .blocks) (p .status) (p .function) i (size-range (p .blocks) size .0) l v f) (zeros-after (dataSent i))
+      (program-ok m (p .blocks) (p .stored) i (size-range (p .blocks) size .0) l v f) (zeros-after (dataSent i))
 
-  -- a phase that keeps no page data, of a part that has none
-  module _ (none : allZero (p .page) ≡ true) where
-    pub settled-empty : (f : Phase) (wel : Bool) → latchOk f wel ≡ true → phaseOk f (p .blocks) (p .status) (p .function) ≡ true → keptIn f ≡ 0
-        → sound (settled p f wel (p .page)) ≡ true
+  -- a phase that keeps no page data, where there is none
+  module _ (d : List ℕ) (none : allZero d ≡ true) where
+    pub settled-empty : (f : Phase) (wel : Bool) → latchOk f wel ≡ true → phaseOk f (p .blocks) (p .stored) ≡ true → keptIn f ≡ 0
+        → sound (recordOf (settled p f wel) f d) ≡ true
     unfolding pageOk
-    settled-empty f wel l o k = settled-sound f wel (p .page) l o (ap (λ (n : ℕ). allZero (drop n (p .page))) k ∙ none)
+    settled-empty f wel l o k = settled-sound f wel d l o (ap (λ (n : ℕ). allZero (drop n d)) k ∙ none)
 
-    pub erase-begun : (u : EraseUnit) (i : List ℕ) → Valid (memoryOf u) i → targetFree (eraseOf u (p .blocks) i) (p .blocks) (p .status) (p .function) ≡ true
-        → sound (begun p (eraseOf u (p .blocks) i) (p .page)) ≡ true
+    pub erase-begun : (u : EraseUnit) (i : List ℕ) → Valid (memoryOf u) i → targetFree (eraseOf u (p .blocks) i) (p .blocks) (p .stored) ≡ true
+        → sound (recordOf (settled p (Busy (eraseOf u (p .blocks) i)) true) (Busy (eraseOf u (p .blocks) i)) d) ≡ true
     unfolding eraseOf
     erase-begun u i v f =
-        settled-empty (Busy (eraseOf u (p .blocks) i)) true refl (erase-ok u (p .blocks) (p .status) (p .function) i (size-range (p .blocks) size .0) v f) refl
+        settled-empty (Busy (eraseOf u (p .blocks) i)) true refl (erase-ok u (p .blocks) (p .stored) i (size-range (p .blocks) size .0) v f) refl
 
-    pub write-begun : (r : Register) (i : List ℕ) → sound (begun p (writeOf r i) (p .page)) ≡ true
+    pub write-begun : (r : Register) (i : List ℕ) → sound (recordOf (settled p (Busy (writeOf r i)) true) (Busy (writeOf r i)) d) ≡ true
     unfolding writeOf
-    write-begun r i = settled-empty (Busy (writeOf r i)) true refl (write-ok r (p .blocks) (p .status) (p .function) i) refl
+    write-begun r i = settled-empty (Busy (writeOf r i)) true refl (write-ok r (p .blocks) (p .stored) i) refl
 
 -- an idle part has no page data
 pub idle-empty : (p : Record) → p .phase ≡ Idle → sound p ≡ true → allZero (p .page) ≡ true

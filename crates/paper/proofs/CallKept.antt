@@ -24,24 +24,26 @@ module _ (P : Record → Type 0) (p : Record) (n : ℕ) (same : P p) (ran : P (r
 
   pub after-tick-call : (a r : ℕ) → P (ticked p a r n .next)
   unfolding ticked
-  after-tick-call a r = ran-or-not (tickNumber p a r n) (eqb (tickNumber p a r n) 0)
+  after-tick-call a r =
+      let number = tickNumber (p .part .blocks) (sound p) a r n in
+      ran-or-not number (eqb number 0)
 
 -- a call on the part's own memory
 pub call-sound : (c : Call) (p : Record) → sound p ≡ true → sound (recordAfterCall c p) ≡ true
-call-sound (transaction wp i o) p s = transaction-sound p (arrayBytes (p .blocks)) rowsBytes wp i o s
+call-sound (transaction wp i o) p s = transaction-sound p (arrayBytes (p .part .blocks)) rowsBytes wp i o s
 call-sound (ticks n) p s =
-    after-tick-call (λ (q : Record). sound q ≡ true) p n s (run-sound n p s) (arrayBytes (p .blocks)) rowsBytes
+    after-tick-call (λ (q : Record). sound q ≡ true) p n s (run-sound n p s) (arrayBytes (p .part .blocks)) rowsBytes
 
-pub call-size : (c : Call) (p : Record) → recordAfterCall c p .blocks ≡ p .blocks
-call-size (transaction wp i o) p = transaction-size p (arrayBytes (p .blocks)) rowsBytes wp i o
+pub call-size : (c : Call) (p : Record) → recordAfterCall c p .part .blocks ≡ p .part .blocks
+call-size (transaction wp i o) p = transaction-size p i (arrayBytes (p .part .blocks)) rowsBytes wp o
 call-size (ticks n) p =
-    after-tick-call (λ (q : Record). q .blocks ≡ p .blocks) p n refl (run-size n p) (arrayBytes (p .blocks)) rowsBytes
+    after-tick-call (λ (q : Record). q .part .blocks ≡ p .part .blocks) p n refl (run-size n p) (arrayBytes (p .part .blocks)) rowsBytes
 
 -- and a list of calls
 pub calls-sound : (cs : List Call) (p : Record) → sound p ≡ true → sound (recordAfterCalls cs p) ≡ true
 calls-sound [] p s = s
 calls-sound (c ∷ cs) p s = calls-sound cs (recordAfterCall c p) (call-sound c p s)
 
-pub calls-size : (cs : List Call) (p : Record) → recordAfterCalls cs p .blocks ≡ p .blocks
+pub calls-size : (cs : List Call) (p : Record) → recordAfterCalls cs p .part .blocks ≡ p .part .blocks
 calls-size [] p = refl
 calls-size (c ∷ cs) p = calls-size cs (recordAfterCall c p) ∙ call-size c p

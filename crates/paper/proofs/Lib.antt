@@ -4,6 +4,7 @@ pub mod Pages
 pub mod Sizes
 pub mod CBench
 pub mod Table
+pub mod Phases
 pub mod Records
 pub mod MadeSound
 pub mod Soundness

@@ -12,21 +12,24 @@ use Rattle.types.specs.declared.Register.the-variants.{Status, Function}
 use Rattle.types.specs.declared.Operation.{Operation}
 use Rattle.types.specs.declared.Operation.the-variants.{Program, Erase, Write}
 use Rattle.types.specs.declared.Phase.{Phase}
-use Rattle.types.specs.declared.Phase.the-variants.{Idle, Busy, Suspended}
+use Rattle.types.specs.declared.Phase.the-variants.{Idle}
+use Rattle.types.specs.declared.Work.{Work}
+use Rattle.types.specs.declared.Work.the-variants.{NoWork, At}
 use Rattle.types.specs.declared.Effect.{Effect}
 use Rattle.types.specs.declared.Effect.the-variants.{Looks, Enables, Disables, Programs, Erases, Writes, Suspends, Resumes, Sleeps, Wakes, Arms, Resets}
+use Rattle.types.specs.declared.Stored.{Stored}
 use Rattle.types.specs.declared.Record.{Record}
+use Rattle.types.specs.declared.Data.{Data}
+use Rattle.types.specs.declared.Data.the-variants.{Kept, Sent}
 use Rattle.paper.specs.Sizes.{arrayBytes, rowsBytes}
 use Rattle.paper.specs.Protection.{locked}
-use Rattle.paper.specs.Program.{programOf}
-use Rattle.paper.specs.Erase.{eraseOf}
-use Rattle.paper.specs.Registers.{held, writeOf, functionWritten, functionAfter}
-use Rattle.paper.specs.Records.{functionLow, goingOn}
+use Rattle.paper.specs.Registers.{registerWritten, storedAfter}
+use Rattle.paper.specs.Phases.{running, startedIn, suspendedIn, resumedIn, restOf}
+use Rattle.paper.specs.Records.{functionLow, registersIn}
 use Rattle.paper.specs.Operations.{ticksInAll, ticksDone, advancedBy}
-use Rattle.paper.specs.Suspend.{suspendedIn, resumedIn}
-use Rattle.paper.specs.Commands.{after}
+use Rattle.paper.specs.Commands.{changed, begins, starts, changeBy}
 use Rattle.paper.specs.Table.{columns}
-use Rattle.paper.specs.Ticks.{finished, worked, tickedIn, recordAfter}
+use Rattle.paper.specs.Ticks.{finished, advanced, worked, tickedAt, recordAfter}
 use Rattle.paper.specs.History.{Call, transaction, ticks, recordAfterCall}
 use Rattle.paper.proofs.Records.{function-low-le}
 use Rattle.paper.proofs.MadeSound.{high-half, lock-stored}
@@ -46,63 +49,63 @@ module _ (fn k : ℕ) (h : locked fn k ≡ true) where
       let s : bitOr (fn / 16) (v / 16) * 16 / 16 ≡ bitOr (fn / 16) (v / 16) = omega arith in
       eq-eqb _ _ (ap (λ (t : ℕ). t % 2) (high-half (bitOr (fn / 16) (v / 16) * 16) k ∙ ap (λ (t : ℕ). t / 2 ^ k) s) ∙ or-keeps (fn / 16) (v / 16) k b)
 
-  written-locked : (r : Register) (v : ℕ) → locked (functionWritten r v fn) k ≡ true
-  written-locked Status v = h
-  written-locked Function v = or-locked v
+  written-locked : (r : Register) (v status : ℕ) → locked (registerWritten r v (record { status = status; function = fn }) .function) k ≡ true
+  written-locked Status v status = h
+  written-locked Function v status = or-locked v
 
-  after-locked : (o : Operation) → locked (functionAfter o fn) k ≡ true
+-- row k is locked under some registers
+abbrev pub LockedIn : ℕ → Stored → Type 0
+LockedIn k g = locked (g .function) k ≡ true
+
+module _ (k : ℕ) (g : Stored) (h : LockedIn k g) where
+  after-locked : (o : Operation) → LockedIn k (storedAfter o g)
   after-locked (Program m b s c d) = h
   after-locked (Erase u b d) = h
-  after-locked (Write r v) = written-locked r v
+  after-locked (Write r v) = written-locked (g .function) k h r v (g .status)
 
-  -- the register of a record that is made in a phase
-  made-locked : (f : Phase) → locked (held Function fn + functionLow f) k ≡ true
-  made-locked f = lock-stored fn (functionLow f) k (omega (arith, function-low-le f)) ∙ h
+  -- the registers of a part that is made in a phase
+  made-locked : (f : Phase) (wel : Bool) → LockedIn k (registersIn f wel g)
+  made-locked f wel = lock-stored (g .function) (functionLow f) k (omega (arith, function-low-le f)) ∙ h
 
 -- row k is locked in a record
 abbrev pub Locked : ℕ → Record → Type 0
-Locked k p = locked (p .function) k ≡ true
+Locked k p = LockedIn k (p .part .stored)
 
 module _ (k : ℕ) (p : Record) (h : Locked k p) where
-  suspended-locked : (f : Phase) → Locked k (suspendedIn p f)
-  suspended-locked Idle = h
-  suspended-locked (Busy o) = made-locked (p .function) k h (Suspended o)
-  suspended-locked (Suspended o) = h
+  starts-locked : (w : Work) (d : Data) (i : List ℕ) → Locked k (changed (starts w (p .part) (p .phase) d) i p)
+  starts-locked NoWork d i = h
+  starts-locked (At o) d i = made-locked k (p .part .stored) h (startedIn (p .phase) o) true
 
-  resumed-locked : (f : Phase) → Locked k (resumedIn p f)
-  resumed-locked Idle = h
-  resumed-locked (Busy o) = h
-  resumed-locked (Suspended o) = made-locked (p .function) k h (Busy o)
+  effect-locked : (e : Effect) (w : Work) (i : List ℕ) → Locked k (changed (changeBy e w (p .part) (p .phase)) i p)
+  effect-locked Looks w i = h
+  effect-locked Enables w i = made-locked k (p .part .stored) h (p .phase) true
+  effect-locked Disables w i = made-locked k (p .part .stored) h (p .phase) false
+  effect-locked (Programs m) w i = starts-locked w Sent i
+  effect-locked (Erases u) w i = starts-locked w Kept i
+  effect-locked (Writes r) w i = starts-locked w Kept i
+  effect-locked Suspends w i = made-locked k (p .part .stored) h (suspendedIn (p .phase)) false
+  effect-locked Resumes w i = made-locked k (p .part .stored) h (resumedIn (p .phase)) true
+  effect-locked Sleeps w i = h
+  effect-locked Wakes w i = h
+  effect-locked Arms w i = h
+  effect-locked Resets w i = made-locked k (p .part .stored) h Idle false
 
-  effect-locked : (e : Effect) (i : List ℕ) → Locked k (after e p i)
-  effect-locked Looks i = h
-  effect-locked Enables i = made-locked (p .function) k h (p .phase)
-  effect-locked Disables i = made-locked (p .function) k h (p .phase)
-  effect-locked (Programs m) i = made-locked (p .function) k h (Busy (programOf m (p .blocks) i))
-  effect-locked (Erases u) i = made-locked (p .function) k h (Busy (eraseOf u (p .blocks) i))
-  effect-locked (Writes r) i = made-locked (p .function) k h (Busy (writeOf r i))
-  effect-locked Suspends i = suspended-locked (p .phase)
-  effect-locked Resumes i = resumed-locked (p .phase)
-  effect-locked Sleeps i = h
-  effect-locked Wakes i = h
-  effect-locked Arms i = h
-  effect-locked Resets i = made-locked (p .function) k h Idle
-
-  worked-locked : (o : Operation) (t : Bool) → Locked k (cond t (goingOn p (advancedBy 1 o)) (finished p o))
+  worked-locked : (o : Operation) (t : Bool) → Locked k (cond t (advanced p (advancedBy 1 o)) (finished p o))
   worked-locked o true = h
-  worked-locked o false = made-locked (functionAfter o (p .function)) k (after-locked (p .function) k h o) Idle
+  worked-locked o false = made-locked k (storedAfter o (p .part .stored)) (after-locked k (p .part .stored) h o) (restOf (p .phase)) false
 
-  ticked-locked : (f : Phase) → Locked k (tickedIn p f)
+  ticked-locked : (w : Work) → Locked k (tickedAt p w)
   unfolding worked
-  ticked-locked Idle = h
-  ticked-locked (Busy o) = worked-locked o (ltb (ticksDone o + 1) (ticksInAll o (p .blocks)))
-  ticked-locked (Suspended o) = h
+  ticked-locked NoWork = h
+  ticked-locked (At o) = worked-locked o (ltb (ticksDone o + 1) (ticksInAll o (p .part .blocks)))
 
 run-locked : (k n : ℕ) (p : Record) → Locked k p → Locked k (recordAfter n p)
 run-locked k zero p h = h
-run-locked k (suc n) p h = ticked-locked k (recordAfter n p) (run-locked k n p h) (recordAfter n p .phase)
+run-locked k (suc n) p h = ticked-locked k (recordAfter n p) (run-locked k n p h) (running (recordAfter n p .phase))
 
 pub call-locked : (c : Call) (k : ℕ) (p : Record) → Locked k p → Locked k (recordAfterCall c p)
 call-locked (transaction wp i o) k p h =
-    after-transaction (Locked k) p wp i h h (λ c e. effect-locked k p h (columns c .effect) i) (arrayBytes (p .blocks)) rowsBytes o
-call-locked (ticks n) k p h = after-tick-call (Locked k) p n h (run-locked k n p h) (arrayBytes (p .blocks)) rowsBytes
+    after-transaction (Locked k) p wp i h (λ d n. h)
+    (λ c e. effect-locked k p h (columns c .effect) (begins (columns c .effect) (p .part .blocks) i) i) (arrayBytes (p .part .blocks)) rowsBytes o
+call-locked (ticks n) k p h =
+    after-tick-call (Locked k) p n h (run-locked k n p h) (arrayBytes (p .part .blocks)) rowsBytes

@@ -1,8 +1,7 @@
--- A record that `made` makes has registers that agree with its other fields, and protects and locks what its stored bits say: it is sound where its phase and page data are.
+-- A part that `made` makes has registers that agree with its other fields, and protects and locks what its stored bits say: it is sound where its phase is.
 use Prim.Native.Nat.{ℕ, _+_, _/_, _%_, _^_, _<_, _≤_}
 use mathlib.Core.Path.{_≡_, refl, sym, ap, _∙_}
 use mathlib.Core.Bool.{Bool, true, not}
-use mathlib.Core.List.{List}
 use native.Mathlib.Omega.{arith}
 use lib.Pow.{shr-shr}
 use lib.Dec.{eqb}
@@ -16,14 +15,15 @@ use Rattle.types.specs.declared.Operation.the-variants.{Program, Erase, Write}
 use Rattle.types.specs.declared.Phase.{Phase}
 use Rattle.types.specs.declared.Phase.the-variants.{Idle, Busy, Suspended}
 use Rattle.types.specs.declared.Register.the-variants.{Status, Function}
-use Rattle.types.specs.declared.Identity.{Identity}
+use Rattle.types.specs.declared.Stored.{Stored}
+use Rattle.types.specs.declared.Part.{Part}
 use Rattle.words.specs.Logic.{_and_}
 use Rattle.paper.specs.Sizes.{sizeOk, pageBytes}
 use Rattle.paper.specs.Protection.{codeOf, protectedAt, locked}
 use Rattle.paper.specs.Operations.{free, targetFree, unitFree}
 use Rattle.paper.specs.Registers.{held}
-use Rattle.paper.specs.Records.{made, statusLow, functionLow}
-use Rattle.paper.specs.Soundness.{sound, sleepOk, latchOk, phaseOk, operationOk, bitsOk, pageOk}
+use Rattle.paper.specs.Records.{statusLow, functionLow, registersIn, made}
+use Rattle.paper.specs.Soundness.{sleepOk, latchOk, phaseOk, operationOk, bitsOk, partSound}
 use Rattle.paper.proofs.Records.{status-low-le, function-low-le}
 
 -- the code and the locks go by the stored bits
@@ -39,50 +39,49 @@ lock-stored fn low k h =
     let s : (held Function fn + low) / 16 ≡ fn / 16 = omega arith in
     ap (λ (t : ℕ). eqb (t % 2) 1) (high-half (held Function fn + low) k ∙ ap (λ (t : ℕ). t / 2 ^ k) s ∙ sym (high-half fn k))
 
-module _ (st ls fn lf : ℕ) (hs : ls < 4) (hf : lf < 16) where
-  free-stored : (m : Memory) (b n : ℕ) → free m b n (held Status st + ls) (held Function fn + lf) ≡ free m b n st fn
-  free-stored Array b n = ap (λ (c : ℕ). not (protectedAt c n b)) (code-stored st ls hs)
-  free-stored Rows b n = ap not (lock-stored fn lf (b / pageBytes) hf)
+-- what goes by registers goes by their stored bits
+module _ (f : Phase) (wel : Bool) (g : Stored) where
+  free-stored : (m : Memory) (b n : ℕ) → free m b n (registersIn f wel g) ≡ free m b n g
+  free-stored Array b n = ap (λ (c : ℕ). not (protectedAt c n b)) (code-stored (g .status) (statusLow f wel) (omega (arith, status-low-le f wel)))
+  free-stored Rows b n = ap not (lock-stored (g .function) (functionLow f) (b / pageBytes) (omega (arith, function-low-le f)))
 
-  unit-stored : (u : EraseUnit) (b n : ℕ) → unitFree u b n (held Status st + ls) (held Function fn + lf) ≡ unitFree u b n st fn
+  unit-stored : (u : EraseUnit) (b n : ℕ) → unitFree u b n (registersIn f wel g) ≡ unitFree u b n g
   unit-stored Sector b n = free-stored Array b n
   unit-stored Block32 b n = free-stored Array b n
   unit-stored Block64 b n = free-stored Array b n
-  unit-stored Chip b n = ap (λ (c : ℕ). eqb c 0) (code-stored st ls hs)
+  unit-stored Chip b n = ap (λ (c : ℕ). eqb c 0) (code-stored (g .status) (statusLow f wel) (omega (arith, status-low-le f wel)))
   unit-stored Row b n = free-stored Rows b n
 
-  target-stored : (o : Operation) (n : ℕ) → targetFree o n (held Status st + ls) (held Function fn + lf) ≡ targetFree o n st fn
+  target-stored : (o : Operation) (n : ℕ) → targetFree o n (registersIn f wel g) ≡ targetFree o n g
   target-stored (Program m b s k d) n = free-stored m b n
   target-stored (Erase u b d) n = unit-stored u b n
   target-stored (Write r v) n = refl
 
-  operation-stored : (o : Operation) (n : ℕ) → operationOk o n (held Status st + ls) (held Function fn + lf) ≡ operationOk o n st fn
+  operation-stored : (o : Operation) (n : ℕ) → operationOk o n (registersIn f wel g) ≡ operationOk o n g
   unfolding operationOk
   operation-stored o n = rw (target-stored o n)
 
-  phase-stored : (f : Phase) (n : ℕ) → phaseOk f n (held Status st + ls) (held Function fn + lf) ≡ phaseOk f n st fn
+  phase-stored : (h : Phase) (n : ℕ) → phaseOk h n (registersIn f wel g) ≡ phaseOk h n g
   phase-stored Idle n = refl
   phase-stored (Busy o) n = operation-stored o n
   phase-stored (Suspended o) n = rw (operation-stored o n)
 
-bits-made : (f : Phase) (wel : Bool) (st fn : ℕ) → bitsOk f wel (held Status st + statusLow f wel) (held Function fn + functionLow f) ≡ true
-unfolding bitsOk _and_
-bits-made f wel st fn =
-    let s : statusLow f wel ≤ 3 = status-low-le f wel in
-    let g : functionLow f ≤ 8 = function-low-le f in
-    rw (eq-eqb ((held Status st + statusLow f wel) % 4) (statusLow f wel) (omega arith), eq-eqb ((held Function fn + functionLow f) % 16) (functionLow f) (omega arith))
+  bits-made : bitsOk f wel (registersIn f wel g) ≡ true
+  unfolding bitsOk _and_
+  bits-made =
+      let s : statusLow f wel ≤ 3 = status-low-le f wel in
+      let t : functionLow f ≤ 8 = function-low-le f in
+      rw (eq-eqb ((held Status (g .status) + statusLow f wel) % 4) (statusLow f wel) (omega arith), eq-eqb ((held Function (g .function) + functionLow f) % 16) (functionLow f) (omega arith))
 
-pub made-sound : (n : ℕ) (id : Identity) (st fn : ℕ) (wel armed asleep : Bool) (f : Phase) (d : List ℕ)
-    → sizeOk n ≡ true → sleepOk f asleep ≡ true → latchOk f wel ≡ true → phaseOk f n st fn ≡ true → pageOk f d ≡ true
-    → sound (made n id st fn wel armed asleep f d) ≡ true
-unfolding sound _and_
-made-sound n id st fn wel armed asleep f d s a l o g =
-    rw (s, a, l, phase-stored st (statusLow f wel) fn (functionLow f) (omega (arith, status-low-le f wel)) (omega (arith, function-low-le f)) f n, o, bits-made f wel st fn, g)
+  -- registers made anew of made ones
+  pub registers-again : (h : Phase) (w : Bool) → registersIn h w (registersIn f wel g) ≡ registersIn h w g
+  registers-again h w =
+      let s : held Status (held Status (g .status) + statusLow f wel) ≡ held Status (g .status) = omega (arith, status-low-le f wel) in
+      let t : held Function (held Function (g .function) + functionLow f) ≡ held Function (g .function) = omega (arith, function-low-le f) in
+      rw (s, t)
 
--- a record that is made from the registers of a made one
-pub made-again : (n : ℕ) (id : Identity) (st fn : ℕ) (g : Phase) (w wel armed asleep : Bool) (f : Phase) (d : List ℕ)
-    → made n id (held Status st + statusLow g w) (held Function fn + functionLow g) wel armed asleep f d ≡ made n id st fn wel armed asleep f d
-made-again n id st fn g w wel armed asleep f d =
-    let s : held Status (held Status st + statusLow g w) ≡ held Status st = omega (arith, status-low-le g w) in
-    let t : held Function (held Function fn + functionLow g) ≡ held Function fn = omega (arith, function-low-le g) in
-    rw (s, t)
+pub made-sound : (p : Part) (g : Stored) (f : Phase) (wel : Bool)
+    → sizeOk (p .blocks) ≡ true → sleepOk f (p .asleep) ≡ true → latchOk f wel ≡ true → phaseOk f (p .blocks) g ≡ true
+    → partSound (made p g f wel) f ≡ true
+unfolding partSound _and_
+made-sound p g f wel s a l o = rw (s, a, l, phase-stored f wel g f (p .blocks), o, bits-made f wel g)

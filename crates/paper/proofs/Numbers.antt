@@ -5,69 +5,72 @@ use mathlib.Core.Bool.{Bool, true, not}
 use mathlib.Core.List.{List}
 use lib.ListN.{length}
 use borrow.Author.Tests.{eqb-true, leb-true}
+use Rattle.types.specs.declared.Phase.{Phase}
+use Rattle.types.specs.declared.Work.{Work}
+use Rattle.types.specs.declared.Part.{Part}
 use Rattle.types.specs.declared.Columns.{Columns}
-use Rattle.types.specs.declared.Record.{Record}
 use Rattle.words.specs.Logic.{_or_}
 use Rattle.words.proofs.Tests.{and-l, and-r, unless-zero, orElse-zero}
-use Rattle.paper.specs.Sizes.{arrayBytes, rowsBytes, transactionLimit, tickLimit}
-use Rattle.paper.specs.Records.{isBusy, isSuspended}
-use Rattle.paper.specs.Soundness.{sound}
-use Rattle.paper.specs.Table.{lengthOk}
-use Rattle.paper.specs.Numbers.{sizeNumber, rowsNumber, lengthNumber, outputNumber, soundNumber, ticksNumber, transactionRefusal, tickNumber, stateOk, rowAddressOk, freeOk, commandNumber}
+use Rattle.paper.specs.Sizes.{sizeOk, arrayBytes, rowsBytes, transactionLimit, tickLimit}
+use Rattle.paper.specs.Phases.{isBusy, isSuspended}
+use Rattle.paper.specs.Table.{lengthOk, takenAsleep, takenBusy, takenSuspended}
+use Rattle.paper.specs.Numbers.{sizeNumber, rowsNumber, lengthNumber, outputNumber, soundNumber, ticksNumber, transactionRefusal, tickNumber, stateOk, addressOk, freeOk, commandNumber}
 
--- a tick call that is not refused
-pub record TicksTaken (p : Record) (a r n : ℕ) : Type 0 where
-  pub size : a ≡ arrayBytes (p .blocks)
+-- a tick call that is not refused, of a record of b blocks that is sound or is not
+pub record TicksTaken (b : ℕ) (sound : Bool) (a r n : ℕ) : Type 0 where
+  pub size : a ≡ arrayBytes b
   pub rows : r ≡ rowsBytes
-  pub is-sound : sound p ≡ true
+  pub is-sound : sound ≡ true
   pub few : n ≤ tickLimit
 
-pub ticks-taken : (p : Record) (a r n : ℕ) → tickNumber p a r n ≡ 0 → TicksTaken p a r n
+pub ticks-taken : (b : ℕ) (sound : Bool) (a r n : ℕ) → tickNumber b sound a r n ≡ 0 → TicksTaken b sound a r n
 unfolding tickNumber sizeNumber rowsNumber soundNumber ticksNumber
-ticks-taken p a r n e =
+ticks-taken b sound a r n e =
     let x = orElse-zero _ _ e in
     let y = orElse-zero _ _ (x .1) in
     let z = orElse-zero _ _ (y .1) in
     record { size = eqb-true _ _ (and-r _ _ (unless-zero _ 0 (x .0))); rows = eqb-true _ _ (unless-zero _ 1 (y .0)); is-sound = unless-zero _ 4 (z .0); few = leb-true _ _ (unless-zero _ 5 (z .1)) }
 
 -- a transaction that is not refused
-pub record TransactionTaken (p : Record) (a r n o : ℕ) : Type 0 where
-  pub size : a ≡ arrayBytes (p .blocks)
+pub record TransactionTaken (b : ℕ) (sound : Bool) (a r n o : ℕ) : Type 0 where
+  pub known : sizeOk b ≡ true
+  pub size : a ≡ arrayBytes b
   pub rows : r ≡ rowsBytes
   pub some : 1 ≤ n
   pub few : n ≤ transactionLimit
   pub same : o ≡ n
-  pub is-sound : sound p ≡ true
+  pub is-sound : sound ≡ true
 
-pub transaction-taken : (p : Record) (a r n o : ℕ) → transactionRefusal p a r n o ≡ 0 → TransactionTaken p a r n o
+pub transaction-taken : (b : ℕ) (sound : Bool) (a r n o : ℕ) → transactionRefusal b sound a r n o ≡ 0 → TransactionTaken b sound a r n o
 unfolding transactionRefusal sizeNumber rowsNumber lengthNumber outputNumber soundNumber
-transaction-taken p a r n o e =
+transaction-taken b sound a r n o e =
     let x = orElse-zero _ _ e in
     let y = orElse-zero _ _ (x .1) in
     let z = orElse-zero _ _ (y .1) in
     let w = orElse-zero _ _ (z .1) in
     let l = unless-zero _ 2 (z .0) in
-    record { size = eqb-true _ _ (and-r _ _ (unless-zero _ 0 (x .0))); rows = eqb-true _ _ (unless-zero _ 1 (y .0)); some = leb-true _ _ (and-l _ _ l); few = leb-true _ _ (and-r _ _ l); same = eqb-true _ _ (unless-zero _ 3 (w .0)); is-sound = unless-zero _ 4 (w .1) }
+    let g = unless-zero _ 0 (x .0) in
+    record { known = and-l _ _ g; size = eqb-true _ _ (and-r _ _ g); rows = eqb-true _ _ (unless-zero _ 1 (y .0)); some = leb-true _ _ (and-l _ _ l); few = leb-true _ _ (and-r _ _ l); same = eqb-true _ _ (unless-zero _ 3 (w .0)); is-sound = unless-zero _ 4 (w .1) }
 
 -- a command that is executed: none of the numbers 21 to 28 applies
-pub record CommandTaken (k : Columns) (p : Record) (i : List ℕ) (wp : Bool) : Type 0 where
-  pub not-asleep : (k .asleep or not (p .asleep)) ≡ true
-  pub not-busy : (k .busy or not (isBusy (p .phase))) ≡ true
-  pub not-suspended : (k .suspended or not (isSuspended (p .phase))) ≡ true
+pub record CommandTaken (k : Columns) (w : Work) (p : Part) (f : Phase) (i : List ℕ) (wp : Bool) : Type 0 where
+  pub not-asleep : (takenAsleep (k .taken) or not (p .asleep)) ≡ true
+  pub not-busy : (takenBusy (k .taken) or not (isBusy f)) ≡ true
+  pub not-suspended : (takenSuspended (k .taken) or not (isSuspended f)) ≡ true
   pub length-ok : lengthOk (k .length) (length i) ≡ true
-  pub state-ok : stateOk (k .effect) (p .phase) (p .armed) ≡ true
+  pub state-ok : stateOk (k .wanted) p f ≡ true
   pub latch-ok : (not (k .wel) or p .wel) ≡ true
-  pub row-address-ok : rowAddressOk k i ≡ true
-  pub free-ok : freeOk (k .effect) (p .blocks) (p .status) (p .function) i wp ≡ true
+  pub address-ok : addressOk (k .named) i ≡ true
+  pub free-ok : freeOk w p wp ≡ true
 
-pub command-taken : (k : Columns) (p : Record) (i : List ℕ) (wp : Bool) → commandNumber k p i wp ≡ 0 → CommandTaken k p i wp
+pub command-taken : (k : Columns) (w : Work) (p : Part) (f : Phase) (i : List ℕ) (wp : Bool) → commandNumber k w p f i wp ≡ 0 → CommandTaken k w p f i wp
 unfolding commandNumber
-command-taken k p i wp e =
+command-taken k w p f i wp e =
     let a = orElse-zero _ _ e in
     let b = orElse-zero _ _ (a .1) in
     let c = orElse-zero _ _ (b .1) in
     let d = orElse-zero _ _ (c .1) in
-    let f = orElse-zero _ _ (d .1) in
-    let g = orElse-zero _ _ (f .1) in
+    let m = orElse-zero _ _ (d .1) in
+    let g = orElse-zero _ _ (m .1) in
     let h = orElse-zero _ _ (g .1) in
-    record { not-asleep = unless-zero _ 20 (a .0); not-busy = unless-zero _ 21 (b .0); not-suspended = unless-zero _ 22 (c .0); length-ok = unless-zero _ 23 (d .0); state-ok = unless-zero _ 24 (f .0); latch-ok = unless-zero _ 25 (g .0); row-address-ok = unless-zero _ 26 (h .0); free-ok = unless-zero _ 27 (h .1) }
+    record { not-asleep = unless-zero _ 20 (a .0); not-busy = unless-zero _ 21 (b .0); not-suspended = unless-zero _ 22 (c .0); length-ok = unless-zero _ 23 (d .0); state-ok = unless-zero _ 24 (m .0); latch-ok = unless-zero _ 25 (g .0); address-ok = unless-zero _ 26 (h .0); free-ok = unless-zero _ 27 (h .1) }

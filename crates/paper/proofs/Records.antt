@@ -8,7 +8,8 @@ use Rattle.types.specs.declared.Phase.{Phase}
 use Rattle.types.specs.declared.Phase.the-variants.{Idle, Busy, Suspended}
 use Rattle.words.specs.Logic.{bit}
 use Rattle.words.proofs.Tests.{bit-le}
-use Rattle.paper.specs.Records.{isBusy, isErase, isProgram, statusLow, functionLow}
+use Rattle.paper.specs.Phases.{isErase, isProgram, isBusy}
+use Rattle.paper.specs.Records.{statusLow, functionLow}
 
 pub status-low-le : (f : Phase) (wel : Bool) → statusLow f wel ≤ 3
 status-low-le f wel = omega (arith, bit-le wel, bit-le (isBusy f))

@@ -1,24 +1,34 @@
 -- Runs of ticks, over any operation: the record, each memory and the working ticks after so many ticks.
 use Prim.Native.Nat.{ℕ, zero, suc, _+_, _-_, _≤_, _<_, min}
 use mathlib.Core.Path.{_≡_, refl, sym, ap, _∙_, subst⁻¹}
-use mathlib.Core.Bool.{Bool, true, false, cond, false≢true}
+use mathlib.Core.Bool.{Bool, true, false, cond}
 use mathlib.Core.List.{List}
 use native.Mathlib.Omega.{arith}
 use native.Mathlib.Nat.{add-zero, add-suc}
 use native.Mathlib.Numerals.{add-one}
 use lib.Dec.{eqb, ltb}
 use borrow.Author.Tests.{ltb-true, ltb-false, lt-ltb, le-ltb, eq-eqb, ne-eqb}
-use Rattle.words.specs.Logic.{bit}
 use Rattle.types.specs.declared.Memory.{Memory}
 use Rattle.types.specs.declared.Operation.{Operation}
 use Rattle.types.specs.declared.Operation.the-variants.{Program, Erase, Write}
 use Rattle.types.specs.declared.Phase.{Phase}
-use Rattle.types.specs.declared.Phase.the-variants.{Idle, Busy, Suspended}
+use Rattle.types.specs.declared.Work.{Work}
+use Rattle.types.specs.declared.Work.the-variants.{NoWork, At}
+use Rattle.types.specs.declared.Stored.{Stored}
 use Rattle.types.specs.declared.Record.{Record}
-use Rattle.paper.specs.Registers.{statusAfter, functionAfter}
-use Rattle.paper.specs.Records.{isBusy, altered, goingOn}
+use Rattle.words.specs.Logic.{bit}
+use Rattle.paper.specs.Program.{noData}
+use Rattle.paper.specs.Registers.{storedAfter}
+use Rattle.paper.specs.Phases.{running, workIs, anyOperation, goingOn, restOf}
+use Rattle.paper.specs.Records.{made}
 use Rattle.paper.specs.Operations.{ticksInAll, ticksDone, advancedBy, Touch, none, nextTouch, touched}
-use Rattle.paper.specs.Ticks.{finished, worked, tickedIn, tickOnce, touchIn, touchOf, works, recordAfter, memoryAfter, workingTicks, ran}
+use Rattle.paper.specs.Ticks.{finished, advanced, worked, tickedAt, tickOnce, touchAt, touchOf, works, recordAfter, memoryAfter, workingTicks, ran}
+use Rattle.paper.proofs.Phases.{going-runs, going-on, going-same, going-rest, rest-idle}
+use Rattle.paper.proofs.Soundness.{recordOf}
+
+-- 1 where there is work
+abbrev workBit : Work → ℕ
+workBit w = bit (workIs anyOperation w)
 
 -- an operation with ticks more done
 pub by-none : (o : Operation) → advancedBy 0 o ≡ o
@@ -41,131 +51,137 @@ by-done t (Program m b s k d) n h = refl
 by-done t (Erase u b d) n h = refl
 by-done t (Write r v) n h = omega arith
 
-by-status : (t : ℕ) (o : Operation) (status : ℕ) → statusAfter (advancedBy t o) status ≡ statusAfter o status
-by-status t (Program m b s k d) status = refl
-by-status t (Erase u b d) status = refl
-by-status t (Write r v) status = refl
+by-stored : (t : ℕ) (o : Operation) (g : Stored) → storedAfter (advancedBy t o) g ≡ storedAfter o g
+by-stored t (Program m b s k d) g = refl
+by-stored t (Erase u b d) g = refl
+by-stored t (Write r v) g = refl
 
-by-function : (t : ℕ) (o : Operation) (function : ℕ) → functionAfter (advancedBy t o) function ≡ functionAfter o function
-by-function t (Program m b s k d) function = refl
-by-function t (Erase u b d) function = refl
-by-function t (Write r v) function = refl
-
--- a tick of a busy part that is not the last, and the last
-module _ (p : Record) (o : Operation) where
-  tick-more : ticksDone o + 1 < ticksInAll o (p .blocks) → tickOnce (goingOn p o) ≡ goingOn p (advancedBy 1 o)
+-- a tick of a part that works on an operation is not the last, or the last
+module _ (p : Record) (o : Operation) (e : running (p .phase) ≡ At o) where
+  tick-more : ticksDone o + 1 < ticksInAll o (p .part .blocks) → tickOnce p ≡ advanced p (advancedBy 1 o)
   unfolding worked
-  tick-more h = rw (lt-ltb _ _ h)
+  tick-more h = ap (tickedAt p) e ∙ rw (lt-ltb _ _ h)
 
-  tick-last : ticksInAll o (p .blocks) ≤ ticksDone o + 1 → tickOnce (goingOn p o) ≡ finished p o
+  tick-last : ticksInAll o (p .part .blocks) ≤ ticksDone o + 1 → tickOnce p ≡ finished p o
   unfolding worked
-  tick-last h = rw (le-ltb _ _ h)
+  tick-last h = ap (tickedAt p) e ∙ rw (le-ltb _ _ h)
 
--- a part that is busy with an operation
-module _ (p : Record) (o : Operation) (e : p .phase ≡ Busy o) where
+-- a part that works on an operation
+module _ (p : Record) (o : Operation) (e : running (p .phase) ≡ At o) where
+  -- the same with its operation at another point
+  runs-at : (x : Operation) → running (advanced p x .phase) ≡ At x
+  runs-at x = going-runs (p .phase) o x e
+
+  advanced-again : (x y : Operation) → advanced (advanced p x) y ≡ advanced p y
+  advanced-again x y = ap (λ (f : Phase). recordOf (p .part) f (p .page)) (going-on (p .phase) x y)
+
+  advanced-none : advanced p (advancedBy 0 o) ≡ p
+  advanced-none =
+      ap (λ (f : Phase). recordOf (p .part) f (p .page)) (ap (goingOn (p .phase)) (by-none o) ∙ going-same (p .phase) o e)
+
+  finished-from : (t : ℕ) → finished (advanced p (advancedBy t o)) (advancedBy t o) ≡ finished p o
+  finished-from t =
+      ap (λ (f : Phase). recordOf (made (p .part) (storedAfter (advancedBy t o) (p .part .stored)) f false) f noData) (going-rest (p .phase) (advancedBy t o))
+      ∙ ap (λ (g : Stored). recordOf (made (p .part) g (restOf (p .phase)) false) (restOf (p .phase)) noData) (by-stored t o (p .part .stored))
+
   -- its record after k ticks that are not the last: so many ticks more are done
-  pub run-record : (k : ℕ) → ticksDone o + k < ticksInAll o (p .blocks) → recordAfter k p ≡ goingOn p (advancedBy k o)
-  run-record zero h = ap (altered p (p .armed) (p .asleep)) (e ∙ ap Busy (sym (by-none o)))
+  pub run-record : (k : ℕ) → ticksDone o + k < ticksInAll o (p .part .blocks) → recordAfter k p ≡ advanced p (advancedBy k o)
+  run-record zero h = sym advanced-none
   run-record (suc k) h =
-      let d : ticksDone (advancedBy k o) ≡ ticksDone o + k = by-done k o (p .blocks) (omega arith) in
+      let d : ticksDone (advancedBy k o) ≡ ticksDone o + k = by-done k o (p .part .blocks) (omega arith) in
       ap tickOnce (run-record k (omega arith))
-      ∙ tick-more p (advancedBy k o) (omega (arith, by-all k o (p .blocks)))
-      ∙ ap (goingOn p) (by-more k o)
+      ∙ tick-more (advanced p (advancedBy k o)) (advancedBy k o) (runs-at (advancedBy k o)) (omega (arith, by-all k o (p .part .blocks)))
+      ∙ advanced-again (advancedBy k o) (advancedBy 1 (advancedBy k o))
+      ∙ ap (advanced p) (by-more k o)
 
   -- and after the last
-  pub run-last : (k : ℕ) → ticksDone o + suc k ≡ ticksInAll o (p .blocks) → recordAfter (suc k) p ≡ finished p o
+  pub run-last : (k : ℕ) → ticksDone o + suc k ≡ ticksInAll o (p .part .blocks) → recordAfter (suc k) p ≡ finished p o
   run-last k h =
-      let d : ticksDone (advancedBy k o) ≡ ticksDone o + k = by-done k o (p .blocks) (omega arith) in
+      let d : ticksDone (advancedBy k o) ≡ ticksDone o + k = by-done k o (p .part .blocks) (omega arith) in
       ap tickOnce (run-record k (omega arith))
-      ∙ tick-last p (advancedBy k o) (omega (arith, by-all k o (p .blocks)))
-      ∙ rw (by-status k o (p .status), by-function k o (p .function))
+      ∙ tick-last (advanced p (advancedBy k o)) (advancedBy k o) (runs-at (advancedBy k o)) (omega (arith, by-all k o (p .part .blocks)))
+      ∙ finished-from k
 
   -- ticks past the last change nothing
-  pub run-past : (k j : ℕ) → ticksDone o + suc k ≡ ticksInAll o (p .blocks) → recordAfter (suc k + j) p ≡ finished p o
+  pub run-past : (k j : ℕ) → ticksDone o + suc k ≡ ticksInAll o (p .part .blocks) → recordAfter (suc k + j) p ≡ finished p o
   run-past k zero h = rw add-zero (run-last k h)
-  run-past k (suc j) h = rw add-suc (ap tickOnce (run-past k j h))
+  run-past k (suc j) h = rw add-suc (ap tickOnce (run-past k j h) ∙ ap (tickedAt (finished p o)) (rest-idle (p .phase)))
 
   -- what k ticks reach
-  run-touch : (k : ℕ) → ticksDone o + k < ticksInAll o (p .blocks) → touchOf (recordAfter k p) ≡ nextTouch (advancedBy k o) (p .page)
-  run-touch k h = ap touchOf (run-record k h)
+  run-touch : (k : ℕ) → ticksDone o + k < ticksInAll o (p .part .blocks) → touchOf (recordAfter k p) ≡ nextTouch (advancedBy k o) (p .page)
+  run-touch k h = ap touchOf (run-record k h) ∙ ap (λ (w : Work). touchAt w (p .page)) (runs-at (advancedBy k o))
 
-  pub run-memory : (m : Memory) (xs : List ℕ) (k : ℕ) → ticksDone o + k ≤ ticksInAll o (p .blocks) → memoryAfter m k p xs ≡ ran m k o (p .page) xs
+  past-touch : touchOf (finished p o) ≡ none
+  past-touch = ap (λ (w : Work). touchAt w noData) (rest-idle (p .phase))
+
+  pub run-memory : (m : Memory) (xs : List ℕ) (k : ℕ) → ticksDone o + k ≤ ticksInAll o (p .part .blocks) → memoryAfter m k p xs ≡ ran m k o (p .page) xs
   run-memory m xs zero h = refl
   run-memory m xs (suc k) h = rw (run-touch k (omega arith), run-memory m xs k (omega arith))
 
-  pub run-memory-past : (m : Memory) (xs : List ℕ) (k j : ℕ) → ticksDone o + suc k ≡ ticksInAll o (p .blocks) → memoryAfter m (suc k + j) p xs ≡ ran m (suc k) o (p .page) xs
+  pub run-memory-past : (m : Memory) (xs : List ℕ) (k j : ℕ) → ticksDone o + suc k ≡ ticksInAll o (p .part .blocks) → memoryAfter m (suc k + j) p xs ≡ ran m (suc k) o (p .page) xs
   run-memory-past m xs k zero h = rw add-zero (run-memory m xs (suc k) (omega arith))
   run-memory-past m xs k (suc j) h =
-      rw add-suc (ap (λ (q : Record). touched m (touchOf q) (memoryAfter m (suc k + j) p xs)) (run-past k j h) ∙ run-memory-past m xs k j h)
+      rw add-suc
+      (ap (λ (t : Touch). touched m t (memoryAfter m (suc k + j) p xs)) (ap touchOf (run-past k j h) ∙ past-touch)
+      ∙ run-memory-past m xs k j h)
 
   -- each of them does work, those past the last none
-  pub run-works : (k : ℕ) → ticksDone o + k ≤ ticksInAll o (p .blocks) → workingTicks k p ≡ k
+  pub run-works : (k : ℕ) → ticksDone o + k ≤ ticksInAll o (p .part .blocks) → workingTicks k p ≡ k
   run-works zero h = refl
   run-works (suc k) h =
-      let w : works (recordAfter k p) ≡ 1 = ap works (run-record k (omega arith)) in
+      let w : works (recordAfter k p) ≡ 1 = ap works (run-record k (omega arith)) ∙ ap workBit (runs-at (advancedBy k o)) in
       rw (w, run-works k (omega arith), add-one)
 
-  pub run-works-past : (k j : ℕ) → ticksDone o + suc k ≡ ticksInAll o (p .blocks) → workingTicks (suc k + j) p ≡ suc k
+  pub run-works-past : (k j : ℕ) → ticksDone o + suc k ≡ ticksInAll o (p .part .blocks) → workingTicks (suc k + j) p ≡ suc k
   run-works-past k zero h = rw add-zero (run-works (suc k) (omega arith))
   run-works-past k (suc j) h =
-      let w : works (recordAfter (suc k + j) p) ≡ 0 = ap works (run-past k j h) in
+      let w : works (recordAfter (suc k + j) p) ≡ 0 = ap works (run-past k j h) ∙ ap workBit (rest-idle (p .phase)) in
       rw (add-suc) (rw (w, run-works-past k j h) (add-zero (suc k)))
 
   -- n ticks, of which k find something left to do
   pub record Ran (n k : ℕ) : Type 0 where
-    pub next : recordAfter n p ≡ cond (eqb k (ticksInAll o (p .blocks) - ticksDone o)) (finished p o) (goingOn p (advancedBy k o))
+    pub next : recordAfter n p ≡ cond (eqb k (ticksInAll o (p .part .blocks) - ticksDone o)) (finished p o) (advanced p (advancedBy k o))
     pub memory : (m : Memory) (xs : List ℕ) → memoryAfter m n p xs ≡ ran m k o (p .page) xs
     pub done : workingTicks n p ≡ k
 
-  ran-short : (n : ℕ) → ticksDone o + n < ticksInAll o (p .blocks) → Ran n n
+  ran-short : (n : ℕ) → ticksDone o + n < ticksInAll o (p .part .blocks) → Ran n n
   ran-short n h =
-      let l : n ≡ ticksInAll o (p .blocks) - ticksDone o → ⊥ = λ q. omega arith in
+      let l : n ≡ ticksInAll o (p .part .blocks) - ticksDone o → ⊥ = λ q. omega arith in
       record { next = rw (ne-eqb _ _ l) (run-record n h); memory = λ m xs. run-memory m xs n (omega arith); done = run-works n (omega arith) }
 
-  ran-whole : (k j : ℕ) → ticksDone o + suc k ≡ ticksInAll o (p .blocks) → Ran (suc k + j) (suc k)
+  ran-whole : (k j : ℕ) → ticksDone o + suc k ≡ ticksInAll o (p .part .blocks) → Ran (suc k + j) (suc k)
   ran-whole k j h =
-      let l : suc k ≡ ticksInAll o (p .blocks) - ticksDone o = omega arith in
+      let l : suc k ≡ ticksInAll o (p .part .blocks) - ticksDone o = omega arith in
       record { next = rw (eq-eqb _ _ l) (run-past k j h); memory = λ m xs. run-memory-past m xs k j h; done = run-works-past k j h }
 
-  ran-by : (n k : ℕ) (t : Bool) → ltb n (ticksInAll o (p .blocks) - ticksDone o) ≡ t → ticksDone o < ticksInAll o (p .blocks) → k ≡ min n (ticksInAll o (p .blocks) - ticksDone o) → Ran n k
+  ran-by : (n k : ℕ) (t : Bool) → ltb n (ticksInAll o (p .part .blocks) - ticksDone o) ≡ t → ticksDone o < ticksInAll o (p .part .blocks) → k ≡ min n (ticksInAll o (p .part .blocks) - ticksDone o) → Ran n k
   ran-by n k true q g e =
-      let h : n < ticksInAll o (p .blocks) - ticksDone o = ltb-true _ _ q in
+      let h : n < ticksInAll o (p .part .blocks) - ticksDone o = ltb-true _ _ q in
       let w : k ≡ n = omega arith in
       rw w (ran-short n (omega arith))
   ran-by n k false q g e =
-      let h : ticksInAll o (p .blocks) - ticksDone o ≤ n = ltb-false _ _ q in
+      let h : ticksInAll o (p .part .blocks) - ticksDone o ≤ n = ltb-false _ _ q in
       let l : k ≡ suc (k - 1) = omega arith in
       let w : n ≡ suc (k - 1) + (n - k) = omega arith in
       subst⁻¹ (λ (x : ℕ). Ran x k) w (subst⁻¹ (λ (x : ℕ). Ran (suc (k - 1) + (n - k)) x) l (ran-whole (k - 1) (n - k) (omega arith)))
 
-  pub ran-all : (n k : ℕ) → ticksDone o < ticksInAll o (p .blocks) → k ≡ min n (ticksInAll o (p .blocks) - ticksDone o) → Ran n k
+  pub ran-all : (n k : ℕ) → ticksDone o < ticksInAll o (p .part .blocks) → k ≡ min n (ticksInAll o (p .part .blocks) - ticksDone o) → Ran n k
   ran-all n k g e = ran-by n k _ refl g e
 
--- a part that is not busy: ticks change nothing and do no work
-module _ (p : Record) where
-  rest-next : (f : Phase) → isBusy f ≡ false → tickedIn p f ≡ p
-  rest-next Idle e = refl
-  rest-next (Suspended o) e = refl
-  rest-next (Busy o) e = absurd (false≢true (sym e))
+-- a part on which nothing runs: ticks change nothing and do no work
+module _ (p : Record) (e : running (p .phase) ≡ NoWork) where
+  pub rest-record : (n : ℕ) → recordAfter n p ≡ p
+  rest-record zero = refl
+  rest-record (suc n) = ap tickOnce (rest-record n) ∙ ap (tickedAt p) e
 
-  rest-touch : (f : Phase) → isBusy f ≡ false → touchIn f (p .page) ≡ none
-  rest-touch Idle e = refl
-  rest-touch (Suspended o) e = refl
-  rest-touch (Busy o) e = absurd (false≢true (sym e))
+  pub rest-memory : (m : Memory) (xs : List ℕ) (n : ℕ) → memoryAfter m n p xs ≡ xs
+  rest-memory m xs zero = refl
+  rest-memory m xs (suc n) =
+      let t : touchOf (recordAfter n p) ≡ none = ap touchOf (rest-record n) ∙ ap (λ (w : Work). touchAt w (p .page)) e in
+      ap (λ (w : Touch). touched m w (memoryAfter m n p xs)) t ∙ rest-memory m xs n
 
-  module _ (e : isBusy (p .phase) ≡ false) where
-    pub rest-record : (n : ℕ) → recordAfter n p ≡ p
-    rest-record zero = refl
-    rest-record (suc n) = ap tickOnce (rest-record n) ∙ rest-next (p .phase) e
-
-    pub rest-memory : (m : Memory) (xs : List ℕ) (n : ℕ) → memoryAfter m n p xs ≡ xs
-    rest-memory m xs zero = refl
-    rest-memory m xs (suc n) =
-        let t : touchOf (recordAfter n p) ≡ none = ap touchOf (rest-record n) ∙ rest-touch (p .phase) e in
-        ap (λ (w : Touch). touched m w (memoryAfter m n p xs)) t ∙ rest-memory m xs n
-
-    pub rest-works : (n : ℕ) → workingTicks n p ≡ 0
-    rest-works zero = refl
-    rest-works (suc n) =
-        let w : works (recordAfter n p) ≡ 0 = ap works (rest-record n) ∙ ap bit e in
-        rw (w, rest-works n)
+  pub rest-works : (n : ℕ) → workingTicks n p ≡ 0
+  rest-works zero = refl
+  rest-works (suc n) =
+      let w : works (recordAfter n p) ≡ 0 = ap works (rest-record n) ∙ ap workBit e in
+      rw (w, rest-works n)

@@ -2,49 +2,66 @@
 use Prim.Native.Nat.{ℕ, _<_}
 use mathlib.Core.Path.{_≡_, refl, sym, ap, _∙_}
 use mathlib.Core.Bool.{Bool, true, false}
+use mathlib.Core.List.{List}
 use borrow.Author.Tests.{ltb-true, lt-ltb}
 use Rattle.types.specs.declared.Operation.{Operation}
 use Rattle.types.specs.declared.Phase.{Phase}
 use Rattle.types.specs.declared.Phase.the-variants.{Idle, Busy, Suspended}
+use Rattle.types.specs.declared.Work.the-variants.{At}
+use Rattle.types.specs.declared.Stored.{Stored}
+use Rattle.types.specs.declared.Part.{Part}
 use Rattle.types.specs.declared.Record.{Record}
 use Rattle.words.specs.Logic.{_or_}
 use Rattle.words.proofs.Tests.{and-l, and-r, and-in}
 use Rattle.paper.specs.Sizes.{sizeOk}
-use Rattle.paper.specs.Records.{altered, marked}
+use Rattle.paper.specs.Phases.{running}
+use Rattle.paper.specs.Records.{marked}
 use Rattle.paper.specs.Operations.{ticksInAll, ticksDone, aligned, inside, targetFree}
-use Rattle.paper.specs.Soundness.{sleepOk, latchOk, contentOk, operationOk, phaseOk, bitsOk, pageOk, sound}
+use Rattle.paper.proofs.Phases.{no-work-at, at-same}
+use Rattle.paper.specs.Soundness.{sleepOk, latchOk, contentOk, operationOk, phaseOk, bitsOk, pageOk, partSound, sound}
 
--- the parts of soundness
-pub record Sound (p : Record) : Type 0 where
+-- the parts of soundness, of a part in a phase with page data
+pub record Sound (p : Part) (f : Phase) (g : List ℕ) : Type 0 where
   pub size : sizeOk (p .blocks) ≡ true
-  pub sleep : sleepOk (p .phase) (p .asleep) ≡ true
-  pub latch : latchOk (p .phase) (p .wel) ≡ true
-  pub phase-ok : phaseOk (p .phase) (p .blocks) (p .status) (p .function) ≡ true
-  pub bits : bitsOk (p .phase) (p .wel) (p .status) (p .function) ≡ true
-  pub page-ok : pageOk (p .phase) (p .page) ≡ true
+  pub sleep : sleepOk f (p .asleep) ≡ true
+  pub latch : latchOk f (p .wel) ≡ true
+  pub phase-ok : phaseOk f (p .blocks) (p .stored) ≡ true
+  pub bits : bitsOk f (p .wel) (p .stored) ≡ true
+  pub page-ok : pageOk f g ≡ true
 
-pub sound-parts : (p : Record) → sound p ≡ true → Sound p
-unfolding sound
+-- a record that is sound by what it is made of
+abbrev pub recordOf : Part → Phase → List ℕ → Record
+recordOf p f g = record { part = p; phase = f; page = g }
+
+pub sound-parts : (p : Record) → sound p ≡ true → Sound (p .part) (p .phase) (p .page)
+unfolding sound partSound
 sound-parts p h =
-    let h1 = and-r _ _ h in
+    let h0 = and-l _ _ h in
+    let h1 = and-r _ _ h0 in
     let h2 = and-r _ _ h1 in
     let h3 = and-r _ _ h2 in
-    let h4 = and-r _ _ h3 in
-    record { size = and-l _ _ h; sleep = and-l _ _ h1; latch = and-l _ _ h2; phase-ok = and-l _ _ h3; bits = and-l _ _ h4; page-ok = and-r _ _ h4 }
+    record { size = and-l _ _ h0; sleep = and-l _ _ h1; latch = and-l _ _ h2; phase-ok = and-l _ _ h3; bits = and-r _ _ h3; page-ok = and-r _ _ h }
 
-pub sound-whole : (p : Record) → Sound p → sound p ≡ true
+pub part-whole : (p : Part) (f : Phase) (g : List ℕ) → Sound p f g → partSound p f ≡ true
+unfolding partSound
+part-whole p f g s = and-in (s .size) (and-in (s .sleep) (and-in (s .latch) (and-in (s .phase-ok) (s .bits))))
+
+pub sound-of : (p : Part) (f : Phase) (g : List ℕ) → partSound p f ≡ true → pageOk f g ≡ true → sound (recordOf p f g) ≡ true
 unfolding sound
-sound-whole p s =
-    and-in (s .size) (and-in (s .sleep) (and-in (s .latch) (and-in (s .phase-ok) (and-in (s .bits) (s .page-ok)))))
+sound-of p f g s k = and-in s k
+
+pub sound-whole : (p : Part) (f : Phase) (g : List ℕ) → Sound p f g → sound (recordOf p f g) ≡ true
+sound-whole p f g s = sound-of p f g (part-whole p f g s) (s .page-ok)
 
 -- the parts of a record whose phase is known
-pub sound-in : (p : Record) (f : Phase) → p .phase ≡ f → sound p ≡ true → Sound (altered p (p .armed) (p .asleep) f)
-sound-in p f e h = sound-parts (altered p (p .armed) (p .asleep) f) (ap (λ (g : Phase). sound (altered p (p .armed) (p .asleep) g)) (sym e) ∙ h)
+pub sound-in : (p : Record) (f : Phase) → p .phase ≡ f → sound p ≡ true → Sound (p .part) f (p .page)
+sound-in p f e h =
+    sound-parts (recordOf (p .part) f (p .page)) (ap (λ (g : Phase). sound (recordOf (p .part) g (p .page))) (sym e) ∙ h)
 
 -- the armed mark does not matter
-pub marked-sound : (p : Record) (armed : Bool) → sound p ≡ true → sound (marked p armed) ≡ true
-unfolding sound
-marked-sound p armed h = h
+pub marked-sound : (p : Part) (f : Phase) (g : List ℕ) (armed : Bool) → sound (recordOf p f g) ≡ true → sound (recordOf (marked p armed) f g) ≡ true
+unfolding sound partSound
+marked-sound p f g armed h = h
 
 -- an awake part may be in any phase
 pub awake-ok : (f : Phase) → sleepOk f false ≡ true
@@ -54,26 +71,32 @@ awake-ok (Busy o) = refl
 awake-ok (Suspended o) = refl
 
 -- the parts of an operation that is in order
-pub record InOrder (o : Operation) (n status function : ℕ) : Type 0 where
+pub record InOrder (o : Operation) (n : ℕ) (s : Stored) : Type 0 where
   pub begins : aligned o n ≡ true
   pub within : inside o n ≡ true
-  pub open-target : targetFree o n status function ≡ true
+  pub open-target : targetFree o n s ≡ true
   pub going : ticksDone o < ticksInAll o n
   pub content : contentOk o ≡ true
 
-pub in-order : (o : Operation) (n status function : ℕ) → operationOk o n status function ≡ true → InOrder o n status function
+pub in-order : (o : Operation) (n : ℕ) (s : Stored) → operationOk o n s ≡ true → InOrder o n s
 unfolding operationOk
-in-order o n status function h =
+in-order o n s h =
     let h1 = and-r _ _ h in
     let h2 = and-r _ _ h1 in
     let h3 = and-r _ _ h2 in
     record { begins = and-l _ _ h; within = and-l _ _ h1; open-target = and-l _ _ h2; going = ltb-true _ _ (and-l _ _ h3); content = and-r _ _ h3 }
 
-pub in-order-whole : (o : Operation) (n status function : ℕ) → InOrder o n status function → operationOk o n status function ≡ true
+pub in-order-whole : (o : Operation) (n : ℕ) (s : Stored) → InOrder o n s → operationOk o n s ≡ true
 unfolding operationOk
-in-order-whole o n status function i =
+in-order-whole o n s i =
     and-in (i .begins) (and-in (i .within) (and-in (i .open-target) (and-in (lt-ltb _ _ (i .going)) (i .content))))
 
--- the operation of a busy part
-pub busy-in-order : (p : Record) (o : Operation) → p .phase ≡ Busy o → sound p ≡ true → InOrder o (p .blocks) (p .status) (p .function)
-busy-in-order p o e h = in-order o (p .blocks) (p .status) (p .function) (sound-in p (Busy o) e h .phase-ok)
+-- what runs on a sound part is in order
+running-ok : (f : Phase) (o : Operation) (n : ℕ) (s : Stored) → running f ≡ At o → phaseOk f n s ≡ true → operationOk o n s ≡ true
+running-ok Idle o n s e h = absurd (no-work-at e)
+running-ok (Busy x) o n s e h = ap (λ (y : Operation). operationOk y n s) (sym (at-same e)) ∙ h
+running-ok (Suspended x) o n s e h = absurd (no-work-at e)
+
+pub running-in-order : (p : Record) (o : Operation) → running (p .phase) ≡ At o → sound p ≡ true → InOrder o (p .part .blocks) (p .part .stored)
+running-in-order p o e h =
+    in-order o (p .part .blocks) (p .part .stored) (running-ok (p .phase) o (p .part .blocks) (p .part .stored) e (sound-parts p h .phase-ok))

@@ -4,7 +4,7 @@ use mathlib.Core.Path.{_≡_, refl}
 use mathlib.Core.List.{List, [], _∷_}
 use mathlib.Core.Bool.{Bool, cond}
 use Rattle.types.specs.declared.Columns.{Columns}
-use Rattle.paper.specs.Table.{Entry, codes, columns, isRead}
+use Rattle.paper.specs.Table.{Entry, codes, columns, takenAsleep, takenBusy, takenSuspended, isRead}
 
 -- the codes of the entries whose columns pass a test
 abbrev pub codesOf : (Columns → Bool) → List Entry → List ℕ
@@ -17,15 +17,15 @@ pub reads : codesOf isRead codes ≡ 0x03 ∷ 0x0B ∷ 0x05 ∷ 0x48 ∷ 0x9F �
 reads = refl
 
 -- 21: asleep, code not ABh
-pub taken-asleep : codesOf (λ (k : Columns). k .asleep) codes ≡ 0xAB ∷ []
+pub taken-asleep : codesOf (λ (k : Columns). takenAsleep (k .taken)) codes ≡ 0xAB ∷ []
 taken-asleep = refl
 
 -- 22: busy, code not 05h, 48h, 75h, B0h, 66h, 99h
-pub taken-busy : codesOf (λ (k : Columns). k .busy) codes ≡ 0x05 ∷ 0x48 ∷ 0x75 ∷ 0xB0 ∷ 0x66 ∷ 0x99 ∷ []
+pub taken-busy : codesOf (λ (k : Columns). takenBusy (k .taken)) codes ≡ 0x05 ∷ 0x48 ∷ 0x75 ∷ 0xB0 ∷ 0x66 ∷ 0x99 ∷ []
 taken-busy = refl
 
 -- 23: suspended, code not a read, 7Ah, 30h, 66h, 99h
-pub taken-suspended : codesOf (λ (k : Columns). k .suspended) codes ≡ 0x03 ∷ 0x0B ∷ 0x05 ∷ 0x48 ∷ 0x9F ∷ 0x90 ∷ 0xAB ∷ 0x68 ∷ 0x7A ∷ 0x30 ∷ 0x66 ∷ 0x99 ∷ []
+pub taken-suspended : codesOf (λ (k : Columns). takenSuspended (k .taken)) codes ≡ 0x03 ∷ 0x0B ∷ 0x05 ∷ 0x48 ∷ 0x9F ∷ 0x90 ∷ 0xAB ∷ 0x68 ∷ 0x7A ∷ 0x30 ∷ 0x66 ∷ 0x99 ∷ []
 taken-suspended = refl
 
 -- the codes that need WEL

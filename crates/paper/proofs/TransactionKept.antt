@@ -1,6 +1,6 @@
 -- What a transaction keeps: refused, ignored or executed, it keeps a record sound, and its size and identity.
 use Prim.Native.Nat.{ℕ}
-use mathlib.Core.Path.{_≡_, refl, sym, ap, _∙_}
+use mathlib.Core.Path.{_≡_, refl, ap, _∙_}
 use mathlib.Core.Bool.{Bool, true, false, cond, false≢true}
 use mathlib.Core.List.{List}
 use lib.ListN.{length, getD}
@@ -12,131 +12,148 @@ use Rattle.types.specs.declared.EraseUnit.{EraseUnit}
 use Rattle.types.specs.declared.EraseUnit.the-variants.{Sector, Block32, Block64, Chip, Row}
 use Rattle.types.specs.declared.Register.{Register}
 use Rattle.types.specs.declared.Register.the-variants.{Status, Function}
+use Rattle.types.specs.declared.Operation.{Operation}
 use Rattle.types.specs.declared.Phase.{Phase}
 use Rattle.types.specs.declared.Phase.the-variants.{Idle, Busy, Suspended}
+use Rattle.types.specs.declared.Work.{Work}
+use Rattle.types.specs.declared.Work.the-variants.{NoWork, At}
 use Rattle.types.specs.declared.Command.{Command}
 use Rattle.types.specs.declared.Command.the-variants.{Read, FastRead, ReadStatus, ReadFunction, ReadIdentity, ReadMakerDevice, Wake, ReadRow, WriteEnable, WriteDisable, WriteStatus, WriteFunction, PageProgram, SectorErase, BlockErase32, BlockErase64, ChipErase, Suspend, Resume, Sleep, ArmReset, Reset, RowErase, RowProgram}
 use Rattle.types.specs.declared.Decoded.{Decoded}
 use Rattle.types.specs.declared.Decoded.the-variants.{Known, Unknown}
 use Rattle.types.specs.declared.Length.{Length}
-use Rattle.types.specs.declared.Length.the-variants.{AtLeast}
-use Rattle.types.specs.declared.Source.the-variants.{Nothing}
+use Rattle.types.specs.declared.Length.the-variants.{Exactly, AtLeast}
+use Rattle.types.specs.declared.Taken.the-variants.{Rest}
+use Rattle.types.specs.declared.Named.{Named}
+use Rattle.types.specs.declared.Named.the-variants.{Bare}
+use Rattle.types.specs.declared.Wanted.{Wanted}
+use Rattle.types.specs.declared.Wanted.the-variants.{Any}
+use Rattle.types.specs.declared.Source.the-variants.{None}
 use Rattle.types.specs.declared.Effect.{Effect}
 use Rattle.types.specs.declared.Effect.the-variants.{Looks, Enables, Disables, Programs, Erases, Writes, Suspends, Resumes, Sleeps, Wakes, Arms, Resets}
+use Rattle.types.specs.declared.Part.{Part}
 use Rattle.types.specs.declared.Record.{Record}
-use Rattle.types.specs.declared.Answer.{Answer}
+use Rattle.types.specs.declared.Data.{Data}
+use Rattle.types.specs.declared.Data.the-variants.{Kept, Sent}
+use Rattle.types.specs.declared.Outcome.{Outcome}
 use Rattle.words.specs.Logic.{_or_}
 use Rattle.words.specs.Lists.{allZero}
-use Rattle.words.proofs.Tests.{and-r, and-in}
-use Rattle.paper.specs.Records.{isBusy, isSuspended, marked, resting, settled}
-use Rattle.paper.specs.Suspend.{suspendable, suspendedIn, resumedIn}
+use Rattle.words.proofs.Tests.{and-l, and-r, and-in}
+use Rattle.paper.specs.Program.{programOf}
+use Rattle.paper.specs.Erase.{memoryOf, eraseOf}
+use Rattle.paper.specs.Registers.{writeOf}
+use Rattle.paper.specs.Phases.{isBusy, isSuspended, startedIn, suspendedIn, resumedIn}
+use Rattle.paper.specs.Records.{settled, marked, resting}
+use Rattle.paper.specs.Operations.{targetFree}
+use Rattle.paper.specs.Suspend.{suspendable, resumable}
 use Rattle.paper.specs.Soundness.{sleepOk, pageOk, sound}
-use Rattle.paper.specs.Table.{decoded, line, columns}
-use Rattle.paper.specs.Commands.{after, arms, afterExecuted}
-use Rattle.paper.specs.Numbers.{commandNumber, transactionRefusal}
-use Rattle.paper.specs.Calls.{refused, ignored, executed, answerTo, transacted}
+use Rattle.paper.specs.Table.{decoded, line, WEL, columns}
+use Rattle.paper.specs.Commands.{changed, begins, settles, starts, changeBy, changeIgnored}
+use Rattle.paper.specs.Numbers.{freeOk, ignoredNumber, transactionRefusal}
+use Rattle.paper.specs.Calls.{refused, ignored, executed, outcomeTo, outcomeOf, transacted}
+use Rattle.paper.proofs.Phases.{idle-of}
 use Rattle.paper.proofs.MadeSound.{made-sound}
-use Rattle.paper.proofs.Soundness.{sound-parts, sound-whole, sound-in, marked-sound, awake-ok}
+use Rattle.paper.proofs.Soundness.{recordOf, sound-parts, sound-of, sound-whole, sound-in, marked-sound, awake-ok}
 use Rattle.paper.proofs.Numbers.{CommandTaken, command-taken}
-use Rattle.paper.proofs.Begun.{program-begun, settled-empty, erase-begun, write-begun, idle-empty}
-use Rattle.paper.proofs.Kept.{idle-sound}
+use Rattle.paper.proofs.Begun.{Valid, program-begun, settled-empty, erase-begun, write-begun, idle-empty}
+use Rattle.paper.proofs.Kept.{fresh-sound}
 
--- what holds of the record before, of one with the armed mark cleared and of one after a command that no number applies to, holds of the record after a transaction
-module _ (P : Record → Type 0) (p : Record) (wp : Bool) (i : List ℕ) (same : P p) (unarmed : P (marked p false))
-    (did : (k : Command) → commandNumber (columns k) p i wp ≡ 0 → P (afterExecuted (columns k .effect) p i)) where
-  answered : (k : Command) (t : Bool) → eqb (commandNumber (columns k) p i wp) 0 ≡ t
-      → P (cond {A = Answer} t (executed (columns k) p i) (ignored (Known k) p (commandNumber (columns k) p i wp) (length i)) .next)
-  answered k true e = did k (eqb-true _ _ e)
-  answered k false e = unarmed
+-- what holds of the record before, of one after a transaction that was ignored, and of one after a command that no number applies to, holds of the record after a transaction
+module _ (P : Record → Type 0) (p : Record) (wp : Bool) (i : List ℕ) (same : P p)
+    (passed-over : (d : Decoded) (n : ℕ) → P (changed (changeIgnored d n (p .part) (p .phase)) i p))
+    (did : (k : Command) → ignoredNumber (Known k) (p .part) (p .phase) i wp ≡ 0 → P (changed (executed (columns k) (p .part) (p .phase) i .change) i p)) where
+  answered-to : (k : Command) (t : Bool) → eqb (ignoredNumber (Known k) (p .part) (p .phase) i wp) 0 ≡ t
+      → P (changed (cond {A = Outcome} t (executed (columns k) (p .part) (p .phase) i) (ignored (Known k) (ignoredNumber (Known k) (p .part) (p .phase) i wp) (p .part) (p .phase) (length i)) .change) i p)
+  answered-to k true e = did k (eqb-true _ _ e)
+  answered-to k false e = passed-over (Known k) (ignoredNumber (Known k) (p .part) (p .phase) i wp)
 
-  after-answer : (d : Decoded) → P (answerTo d p wp i .next)
-  after-answer (Known k) = answered k (eqb (commandNumber (columns k) p i wp) 0) refl
-  after-answer Unknown = unarmed
+  after-outcome : (d : Decoded) → P (changed (outcomeTo d (p .part) (p .phase) wp i .change) i p)
+  after-outcome (Known k) = answered-to k (eqb (ignoredNumber (Known k) (p .part) (p .phase) i wp) 0) refl
+  after-outcome Unknown = passed-over Unknown 20
 
-  refused-or-not : (n : ℕ) (t : Bool) → P (cond {A = Answer} t (answerTo (decoded (getD i 0 0)) p wp i) (refused p n) .next)
-  refused-or-not n true = after-answer (decoded (getD i 0 0))
+  refused-or-not : (n : ℕ) (t : Bool) → P (changed (cond {A = Outcome} t (outcomeTo (decoded (getD i 0 0)) (p .part) (p .phase) wp i) (refused n) .change) i p)
+  refused-or-not n true = after-outcome (decoded (getD i 0 0))
   refused-or-not n false = same
 
   pub after-transaction : (a r o : ℕ) → P (transacted p a r wp i o .next)
-  unfolding transacted
-  after-transaction a r o = refused-or-not (transactionRefusal p a r (length i) o) (eqb (transactionRefusal p a r (length i) o) 0)
+  unfolding transacted outcomeOf
+  after-transaction a r o =
+      let n = transactionRefusal (p .part .blocks) (sound p) a r (length i) o in
+      refused-or-not n (eqb n 0)
 
 -- a part of the same size and identity
-abbrev SamePart : Record → Record → Type 0
-SamePart p q = (q .blocks ≡ p .blocks) × (q .identity ≡ p .identity)
+abbrev SamePart : Part → Record → Type 0
+SamePart p q = (q .part .blocks ≡ p .blocks) × (q .part .identity ≡ p .identity)
 
-module _ (p : Record) where
-  suspended-same : (f : Phase) → SamePart p (suspendedIn p f)
-  suspended-same Idle = (refl, refl)
-  suspended-same (Busy o) = (refl, refl)
-  suspended-same (Suspended o) = (refl, refl)
+module _ (p : Record) (i : List ℕ) where
+  starts-same : (w : Work) (d : Data) → SamePart (p .part) (changed (starts w (p .part) (p .phase) d) i p)
+  starts-same NoWork d = (refl, refl)
+  starts-same (At o) d = (refl, refl)
 
-  resumed-same : (f : Phase) → SamePart p (resumedIn p f)
-  resumed-same Idle = (refl, refl)
-  resumed-same (Busy o) = (refl, refl)
-  resumed-same (Suspended o) = (refl, refl)
+  change-same : (e : Effect) (w : Work) → SamePart (p .part) (changed (changeBy e w (p .part) (p .phase)) i p)
+  change-same Looks w = (refl, refl)
+  change-same Enables w = (refl, refl)
+  change-same Disables w = (refl, refl)
+  change-same (Programs m) w = starts-same w Sent
+  change-same (Erases u) w = starts-same w Kept
+  change-same (Writes r) w = starts-same w Kept
+  change-same Suspends w = (refl, refl)
+  change-same Resumes w = (refl, refl)
+  change-same Sleeps w = (refl, refl)
+  change-same Wakes w = (refl, refl)
+  change-same Arms w = (refl, refl)
+  change-same Resets w = (refl, refl)
 
-  after-same : (e : Effect) (i : List ℕ) → SamePart p (after e p i)
-  after-same Looks i = (refl, refl)
-  after-same Enables i = (refl, refl)
-  after-same Disables i = (refl, refl)
-  after-same (Programs m) i = (refl, refl)
-  after-same (Erases u) i = (refl, refl)
-  after-same (Writes r) i = (refl, refl)
-  after-same Suspends i = suspended-same (p .phase)
-  after-same Resumes i = resumed-same (p .phase)
-  after-same Sleeps i = (refl, refl)
-  after-same Wakes i = (refl, refl)
-  after-same Arms i = (refl, refl)
-  after-same Resets i = (refl, refl)
+  module _ (a r : ℕ) (wp : Bool) (o : ℕ) where
+    transaction-same : SamePart (p .part) (transacted p a r wp i o .next)
+    transaction-same =
+        after-transaction (SamePart (p .part)) p wp i (refl, refl) (λ d n. (refl, refl))
+        (λ k e. change-same (columns k .effect) (begins (columns k .effect) (p .part .blocks) i)) a r o
 
-  module _ (a r : ℕ) (wp : Bool) (i : List ℕ) (o : ℕ) where
-    transaction-same : SamePart p (transacted p a r wp i o .next)
-    transaction-same = after-transaction (SamePart p) p wp i (refl, refl) (refl, refl) (λ k e. after-same (columns k .effect) i) a r o
-
-    pub transaction-size : transacted p a r wp i o .next .blocks ≡ p .blocks
+    pub transaction-size : transacted p a r wp i o .next .part .blocks ≡ p .part .blocks
     transaction-size = transaction-same .0
 
-    pub transaction-identity : transacted p a r wp i o .next .identity ≡ p .identity
+    pub transaction-identity : transacted p a r wp i o .next .part .identity ≡ p .part .identity
     transaction-identity = transaction-same .1
-
--- neither busy nor suspended is idle
-idle-of : (f : Phase) → isBusy f ≡ false → isSuspended f ≡ false → f ≡ Idle
-idle-of Idle b s = refl
-idle-of (Busy o) b s = absurd (false≢true (sym b))
-idle-of (Suspended o) b s = absurd (false≢true (sym s))
 
 -- what commands that are taken make of a sound record
 module _ (p : Record) (s : sound p ≡ true) where
-  suspends : (f : Phase) → p .phase ≡ f → suspendable f ≡ true → sound (suspendedIn p f) ≡ true
+  marks : (armed : Bool) → sound (recordOf (marked (p .part) armed) (p .phase) (p .page)) ≡ true
+  marks armed = marked-sound (p .part) (p .phase) (p .page) armed s
+
+  -- a part that is made anew, unarmed
+  unarms : (q : Part) (f : Phase) (g : List ℕ) → sound (recordOf q f g) ≡ true → sound (recordOf (marked q false) f g) ≡ true
+  unarms q f g h = marked-sound q f g false h
+
+  suspends : (f : Phase) → p .phase ≡ f → suspendable f ≡ true → sound (recordOf (settled (p .part) (suspendedIn f) false) (suspendedIn f) (p .page)) ≡ true
   unfolding pageOk
-  suspends Idle e h = s
+  suspends Idle e h = absurd (false≢true h)
   suspends (Busy o) e h =
       let q = sound-in p (Busy o) e s in
-      made-sound (p .blocks) (p .identity) (p .status) (p .function) false (p .armed) (p .asleep) (Suspended o) (p .page)
-      (q .size) (q .sleep) refl (and-in h (q .phase-ok)) (q .page-ok)
-  suspends (Suspended o) e h = s
+      sound-of (settled (p .part) (Suspended o) false) (Suspended o) (p .page)
+      (made-sound (p .part) (p .part .stored) (Suspended o) false (q .size) (q .sleep) refl (and-in h (q .phase-ok))) (q .page-ok)
+  suspends (Suspended o) e h = absurd (false≢true h)
 
-  resumes : (f : Phase) → p .phase ≡ f → sound (resumedIn p f) ≡ true
+  resumes : (f : Phase) → p .phase ≡ f → resumable f ≡ true → sound (recordOf (settled (p .part) (resumedIn f) true) (resumedIn f) (p .page)) ≡ true
   unfolding pageOk
-  resumes Idle e = s
-  resumes (Busy o) e = s
-  resumes (Suspended o) e =
+  resumes Idle e h = absurd (false≢true h)
+  resumes (Busy o) e h = absurd (false≢true h)
+  resumes (Suspended o) e h =
       let q = sound-in p (Suspended o) e s in
-      made-sound (p .blocks) (p .identity) (p .status) (p .function) true (p .armed) (p .asleep) (Busy o) (p .page)
-      (q .size) (q .sleep) refl (and-r _ _ (q .phase-ok)) (q .page-ok)
+      sound-of (settled (p .part) (Busy o) true) (Busy o) (p .page)
+      (made-sound (p .part) (p .part .stored) (Busy o) true (q .size) (q .sleep) refl (and-r _ _ (q .phase-ok))) (q .page-ok)
 
-  rests : (asleep : Bool) → sleepOk (p .phase) asleep ≡ true → sound (resting p asleep) ≡ true
+  rests : (asleep : Bool) → sleepOk (p .phase) asleep ≡ true → sound (recordOf (resting (p .part) asleep) (p .phase) (p .page)) ≡ true
   rests asleep h =
       let q = sound-parts p s in
-      sound-whole (resting p asleep) (record { size = q .size; sleep = h; latch = q .latch; phase-ok = q .phase-ok; bits = q .bits; page-ok = q .page-ok })
+      sound-whole (resting (p .part) asleep) (p .phase) (p .page) (record { size = q .size; sleep = h; latch = q .latch; phase-ok = q .phase-ok; bits = q .bits; page-ok = q .page-ok })
 
   module _ (i : List ℕ) (wp : Bool) where
     -- a command that is taken only by an awake and idle part
-    module _ {l : Length} {w : Bool} {e : Effect} (t : CommandTaken (line l w false false false Nothing 0 e) p i wp) where
-      awake : p .asleep ≡ false
+    module _ {l : Length} {v : Bool} {a : Named} {g : Wanted} {c : Effect} {w : Work} (t : CommandTaken (line l v Rest a g None 0 c) w (p .part) (p .phase) i wp) where
+      awake : p .part .asleep ≡ false
       unfolding _or_
-      awake = not-true (p .asleep) (t .not-asleep)
+      awake = not-true (p .part .asleep) (t .not-asleep)
 
       idle : p .phase ≡ Idle
       unfolding _or_
@@ -145,54 +162,62 @@ module _ (p : Record) (s : sound p ≡ true) where
       empty : allZero (p .page) ≡ true
       empty = idle-empty p idle s
 
-      latches : (wel : Bool) → sound (settled p (p .phase) wel (p .page)) ≡ true
+      latches : (wel : Bool) → sound (recordOf (settled (p .part) (p .phase) wel) (p .phase) (p .page)) ≡ true
       latches wel =
-          ap (λ (f : Phase). sound (settled p f wel (p .page))) idle
-          ∙ settled-empty p (sound-parts p s .size) awake empty Idle wel refl refl refl
+          ap (λ (f : Phase). sound (recordOf (settled (p .part) f wel) f (p .page))) idle
+          ∙ settled-empty (p .part) (sound-parts p s .size) awake (p .page) empty Idle wel refl refl refl
 
-      sleeps : sound (resting p true) ≡ true
+      sleeps : sound (recordOf (resting (p .part) true) (p .phase) (p .page)) ≡ true
       unfolding _or_
       sleeps = rests true (ap (λ (f : Phase). sleepOk f true) idle)
 
-    programs : (m : Memory) → CommandTaken (line (AtLeast 5) true false false false Nothing 0 (Programs m)) p i wp → sound (after (Programs m) p i) ≡ true
-    unfolding _or_
-    programs m t = program-begun p (sound-parts p s .size) (awake t) m i (leb-true 5 (length i) (t .length-ok)) (t .row-address-ok) (t .free-ok)
+    -- what begins is free
+    open-to : (o : Operation) → freeOk (At o) (p .part) wp ≡ true → targetFree o (p .part .blocks) (p .part .stored) ≡ true
+    open-to o h = and-l _ _ h
 
-    erases : {l : Length} (u : EraseUnit) → CommandTaken (line l true false false false Nothing 0 (Erases u)) p i wp → sound (after (Erases u) p i) ≡ true
-    unfolding _or_
-    erases u t = erase-begun p (sound-parts p s .size) (awake t) (empty t) u i (t .row-address-ok) (t .free-ok)
+    programs : {a : Named} (m : Memory) → Valid m i → CommandTaken (line (AtLeast 5) WEL Rest a Any None 0 (Programs m)) (At (programOf m (p .part .blocks) i)) (p .part) (p .phase) i wp
+        → sound (changed (settles (p .part) (startedIn (p .phase) (programOf m (p .part .blocks) i)) true Sent) i p) ≡ true
+    programs m v t =
+        unarms _ _ _ (program-begun (p .part) (sound-parts p s .size) (awake t) m i (leb-true 5 (length i) (t .length-ok)) v (open-to (programOf m (p .part .blocks) i) (t .free-ok)))
 
-    writes : {l : Length} (r : Register) → CommandTaken (line l true false false false Nothing 0 (Writes r)) p i wp → sound (after (Writes r) p i) ≡ true
-    writes r t = write-begun p (sound-parts p s .size) (awake t) (empty t) r i
+    erases : {l : Length} {a : Named} (u : EraseUnit) → Valid (memoryOf u) i → CommandTaken (line l WEL Rest a Any None 0 (Erases u)) (At (eraseOf u (p .part .blocks) i)) (p .part) (p .phase) i wp
+        → sound (changed (settles (p .part) (startedIn (p .phase) (eraseOf u (p .part .blocks) i)) true Kept) i p) ≡ true
+    erases u v t =
+        unarms _ _ _ (erase-begun (p .part) (sound-parts p s .size) (awake t) (p .page) (empty t) u i v (open-to (eraseOf u (p .part .blocks) i) (t .free-ok)))
 
-    executed-sound : (k : Command) → CommandTaken (columns k) p i wp → sound (after (columns k .effect) p i) ≡ true
-    executed-sound Read t = s
-    executed-sound FastRead t = s
-    executed-sound ReadStatus t = s
-    executed-sound ReadFunction t = s
-    executed-sound ReadIdentity t = s
-    executed-sound ReadMakerDevice t = s
-    executed-sound Wake t = rests false (awake-ok (p .phase))
-    executed-sound ReadRow t = s
-    executed-sound WriteEnable t = latches t true
-    executed-sound WriteDisable t = latches t false
+    writes : (r : Register) → CommandTaken (line (Exactly 2) WEL Rest Bare Any None 0 (Writes r)) (At (writeOf r i)) (p .part) (p .phase) i wp
+        → sound (changed (settles (p .part) (startedIn (p .phase) (writeOf r i)) true Kept) i p) ≡ true
+    writes r t = unarms _ _ _ (write-begun (p .part) (sound-parts p s .size) (awake t) (p .page) (empty t) r i)
+
+    executed-sound : (k : Command) → CommandTaken (columns k) (begins (columns k .effect) (p .part .blocks) i) (p .part) (p .phase) i wp
+        → sound (changed (executed (columns k) (p .part) (p .phase) i .change) i p) ≡ true
+    executed-sound Read t = marks false
+    executed-sound FastRead t = marks false
+    executed-sound ReadStatus t = marks false
+    executed-sound ReadFunction t = marks false
+    executed-sound ReadIdentity t = marks false
+    executed-sound ReadMakerDevice t = marks false
+    executed-sound Wake t = unarms _ _ _ (rests false (awake-ok (p .phase)))
+    executed-sound ReadRow t = marks false
+    executed-sound WriteEnable t = unarms _ _ _ (latches t true)
+    executed-sound WriteDisable t = unarms _ _ _ (latches t false)
     executed-sound WriteStatus t = writes Status t
     executed-sound WriteFunction t = writes Function t
-    executed-sound PageProgram t = programs Array t
-    executed-sound SectorErase t = erases Sector t
-    executed-sound BlockErase32 t = erases Block32 t
-    executed-sound BlockErase64 t = erases Block64 t
-    executed-sound ChipErase t = erases Chip t
-    executed-sound Suspend t = suspends (p .phase) refl (t .state-ok)
-    executed-sound Resume t = resumes (p .phase) refl
-    executed-sound Sleep t = sleeps t
-    executed-sound ArmReset t = s
-    executed-sound Reset t = idle-sound (p .blocks) (p .identity) (p .status) (p .function) false false (sound-parts p s .size)
-    executed-sound RowErase t = erases Row t
-    executed-sound RowProgram t = programs Rows t
+    executed-sound PageProgram t = programs Array tt t
+    executed-sound SectorErase t = erases Sector tt t
+    executed-sound BlockErase32 t = erases Block32 tt t
+    executed-sound BlockErase64 t = erases Block64 tt t
+    executed-sound ChipErase t = erases Chip tt t
+    executed-sound Suspend t = unarms _ _ _ (suspends (p .phase) refl (t .state-ok))
+    executed-sound Resume t = unarms _ _ _ (resumes (p .phase) refl (t .state-ok))
+    executed-sound Sleep t = unarms _ _ _ (sleeps t)
+    executed-sound ArmReset t = marks true
+    executed-sound Reset t = fresh-sound (p .part .blocks) (p .part .identity) (p .part .stored) (sound-parts p s .size)
+    executed-sound RowErase t = erases Row (t .address-ok) t
+    executed-sound RowProgram t = programs Rows (t .address-ok) t
 
 pub transaction-sound : (p : Record) (a r : ℕ) (wp : Bool) (i : List ℕ) (o : ℕ) → sound p ≡ true → sound (transacted p a r wp i o .next) ≡ true
 transaction-sound p a r wp i o s =
-    after-transaction (λ (q : Record). sound q ≡ true) p wp i s (marked-sound p false s)
-    (λ k e. marked-sound (after (columns k .effect) p i) (arms (columns k .effect)) (executed-sound p s i wp k (command-taken (columns k) p i wp e)))
+    after-transaction (λ (q : Record). sound q ≡ true) p wp i s (λ d n. marks p s false)
+    (λ k e. executed-sound p s i wp k (command-taken (columns k) (begins (columns k .effect) (p .part .blocks) i) (p .part) (p .phase) i wp e))
     a r o

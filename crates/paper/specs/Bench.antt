@@ -4,18 +4,14 @@ use mathlib.Core.List.{List, [], _∷_, _++_}
 use mathlib.Core.Bool.{Bool, true, false, cond}
 use lib.ListN.{length, getD, take, drop, replicate}
 use lib.Dec.{eqb, leb, ltb}
-use Rattle.types.specs.declared.Memory.the-variants.{Array, Rows}
-use Rattle.types.specs.declared.Record.{Record}
 use Rattle.types.specs.declared.Identity.{Identity}
-use Rattle.types.specs.declared.Answer.{Answer}
-use Rattle.types.specs.declared.Ticked.{Ticked}
 use Rattle.types.specs.declared.Line.{Line}
 use Rattle.types.specs.declared.Line.the-variants.{Transaction, Ticks, Neither}
 use Rattle.words.specs.Logic.{_and_, _or_}
 use Rattle.words.specs.Lists.{every}
 use Rattle.paper.specs.Erase.{erasedByte}
-use Rattle.paper.specs.Reads.{undriven}
-use Rattle.paper.specs.Calls.{poweredUp, transacted, outputAfter, ticked, tickedMemory}
+use Rattle.paper.specs.Calls.{noStored, poweredUp}
+use Rattle.paper.specs.Board.{Board, sentTo, drivenBy, waited, afterSent, afterTicks}
 
 -- The characters: LF, space, `-`, `?`, and the letters of the lines
 abbrev pub LF : ℕ
@@ -134,40 +130,12 @@ ticksText number done = decimal number ++ (space ∷ []) ++ decimal done ++ (LF 
 unfoldable pub otherText : List ℕ
 otherText = query ∷ LF ∷ []
 
--- A part on the bench: its record, its array and its rows
-pub record Board : Type 0 where
-  pub part : Record
-  pub array : List ℕ
-  pub rows : List ℕ
-
-abbrev pub boardOf : Record → List ℕ → List ℕ → Board
-boardOf p xs rs = record { part = p; array = xs; rows = rs }
-
--- the answer to a transaction with a part on the bench, and its output, which goes into a buffer of FFh
-abbrev pub sentTo : Board → Bool → List ℕ → Answer
-sentTo b wp i = transacted (b .part) (length (b .array)) (length (b .rows)) wp i (length i)
-
-abbrev pub drivenBy : Board → Bool → List ℕ → List ℕ
-drivenBy b wp i = outputAfter (b .part) (b .array) (b .rows) wp i (undriven (length i))
-
--- the answer to a tick call
-abbrev pub waited : Board → ℕ → Ticked
-waited b n = ticked (b .part) (length (b .array)) (length (b .rows)) n
-
 -- what is printed for a transaction, and for ticks
 abbrev pub sentText : Board → Bool → List ℕ → List ℕ
 sentText b wp i = answerText (sentTo b wp i .number) (sentTo b wp i .first) (drivenBy b wp i)
 
 abbrev pub waitedText : Board → ℕ → List ℕ
 waitedText b n = ticksText (waited b n .number) (waited b n .done)
-
--- the part after a transaction, and after ticks
-abbrev pub afterSent : Board → Bool → List ℕ → Board
-afterSent b wp i = record { part = sentTo b wp i .next; array = b .array; rows = b .rows }
-
-abbrev pub afterTicks : Board → ℕ → Board
-afterTicks b n =
-    record { part = waited b n .next; array = tickedMemory Array (b .part) (length (b .array)) (length (b .rows)) n (b .array); rows = tickedMemory Rows (b .part) (length (b .array)) (length (b .rows)) n (b .rows) }
 
 -- what is printed for a line l that says so, and the part after it
 abbrev pub lineText : Line → List ℕ → Board → List ℕ
@@ -196,7 +164,7 @@ benchIdentity = record { maker = 17; kind = 34; capacity = 51; device = 68 }
 -- the part of n blocks: registers 0, an array of a and rows of r bytes of FFh
 abbrev pub benchBoard : ℕ → ℕ → ℕ → Board
 benchBoard n a r =
-    record { part = poweredUp n benchIdentity 0 0 .next; array = replicate a erasedByte; rows = replicate r erasedByte }
+    record { state = poweredUp n benchIdentity noStored .next; array = replicate a erasedByte; rows = replicate r erasedByte }
 
 -- bench reads up to 65,536 bytes on the 1-block part, in lines of 1 to 64 pairs. With an array of a and rows of r bytes, which are 65,536 and 1,024, it prints so much, and leaves the part so
 abbrev pub benchText : ℕ → ℕ → List ℕ → List ℕ

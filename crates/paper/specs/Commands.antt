@@ -1,58 +1,84 @@
--- What an executed command makes of the record.
+-- What a transaction makes of the record.
 use Prim.Native.Nat.{ℕ}
 use mathlib.Core.List.{List}
 use mathlib.Core.Bool.{Bool, true, false}
-use Rattle.types.specs.declared.Operation.{Operation}
-use Rattle.types.specs.declared.Phase.the-variants.{Busy}
+use Rattle.types.specs.declared.Phase.{Phase}
+use Rattle.types.specs.declared.Phase.the-variants.{Idle}
+use Rattle.types.specs.declared.Work.{Work}
+use Rattle.types.specs.declared.Work.the-variants.{NoWork, At}
 use Rattle.types.specs.declared.Decoded.{Decoded}
 use Rattle.types.specs.declared.Effect.{Effect}
 use Rattle.types.specs.declared.Effect.the-variants.{Looks, Enables, Disables, Programs, Erases, Writes, Suspends, Resumes, Sleeps, Wakes, Arms, Resets}
+use Rattle.types.specs.declared.Part.{Part}
 use Rattle.types.specs.declared.Record.{Record}
-use Rattle.paper.specs.Records.{marked, resting, settled}
-use Rattle.paper.specs.Program.{dataSent, pageData, programOf}
+use Rattle.types.specs.declared.Data.{Data}
+use Rattle.types.specs.declared.Data.the-variants.{Kept, Sent, Zero}
+use Rattle.types.specs.declared.Change.{Change}
+use Rattle.types.specs.declared.Change.the-variants.{Same, Marked, Became}
+use Rattle.paper.specs.Phases.{startedIn, suspendedIn, resumedIn}
+use Rattle.paper.specs.Records.{settled, freshPart, marked, resting}
+use Rattle.paper.specs.Program.{dataSent, pageData, noData, programOf}
 use Rattle.paper.specs.Erase.{eraseOf}
 use Rattle.paper.specs.Registers.{writeOf}
-use Rattle.paper.specs.Suspend.{suspendedIn, resumedIn}
-use Rattle.paper.specs.Reset.{wasReset}
 
--- the part busy with an operation that has no tick done; WEL stays 1
-abbrev pub begun : Record → Operation → List ℕ → Record
-begun p o d = settled p (Busy o) true d
+-- what becomes of page data g in a call with the input i
+abbrev pub pageAfter : Data → List ℕ → List ℕ → List ℕ
+pageAfter Kept i g = g
+pageAfter Sent i g = pageData (dataSent i)
+pageAfter Zero i g = noData
 
--- the record after a command's effect with the input i, but for the armed mark
-abbrev pub after : Effect → Record → List ℕ → Record
-after Looks p i = p
-after Enables p i = settled p (p .phase) true (p .page)
-after Disables p i = settled p (p .phase) false (p .page)
-after (Programs m) p i = begun p (programOf m (p .blocks) i) (pageData (dataSent i))
-after (Erases u) p i = begun p (eraseOf u (p .blocks) i) (p .page)
-after (Writes r) p i = begun p (writeOf r i) (p .page)
-after Suspends p i = suspendedIn p (p .phase)
-after Resumes p i = resumedIn p (p .phase)
-after Sleeps p i = resting p true
-after Wakes p i = resting p false
-after Arms p i = p
-after Resets p i = wasReset p
+-- the record after a change by a call with the input i
+abbrev pub changed : Change → List ℕ → Record → Record
+changed Same i p = p
+changed (Marked armed) i p = record { part = marked (p .part) armed; phase = p .phase; page = p .page }
+changed (Became q f d) i p = record { part = q; phase = f; page = pageAfter d i (p .page) }
+
+-- what a command begins on a part of n blocks, with the input i
+abbrev pub begins : Effect → ℕ → List ℕ → Work
+begins Looks n i = NoWork
+begins Enables n i = NoWork
+begins Disables n i = NoWork
+begins (Programs m) n i = At (programOf m n i)
+begins (Erases u) n i = At (eraseOf u n i)
+begins (Writes r) n i = At (writeOf r i)
+begins Suspends n i = NoWork
+begins Resumes n i = NoWork
+begins Sleeps n i = NoWork
+begins Wakes n i = NoWork
+begins Arms n i = NoWork
+begins Resets n i = NoWork
 
 -- every transaction but an executed 66h leaves the part unarmed
-abbrev pub arms : Effect → Bool
-arms Looks = false
-arms Enables = false
-arms Disables = false
-arms (Programs m) = false
-arms (Erases u) = false
-arms (Writes r) = false
-arms Suspends = false
-arms Resumes = false
-arms Sleeps = false
-arms Wakes = false
-arms Arms = true
-arms Resets = false
+abbrev pub unarmed : Part → Phase → Data → Change
+unarmed p f d = Became (marked p false) f d
 
--- the record after an executed command
-abbrev pub afterExecuted : Effect → Record → List ℕ → Record
-afterExecuted e p i = marked (after e p i) (arms e)
+-- the part in another phase with another latch
+abbrev pub settles : Part → Phase → Bool → Data → Change
+settles p f wel d = unarmed (settled p f wel) f d
 
--- the record after a transaction that the part ignored with a number: the same but for the armed mark, which is cleared
-abbrev pub afterIgnored : Decoded → ℕ → Record → Record
-afterIgnored d number p = marked p false
+-- the part busy with the operation that a command begins, which has no tick done; WEL stays 1
+abbrev pub starts : Work → Part → Phase → Data → Change
+starts NoWork p f d = Marked false
+starts (At o) p f d = settles p (startedIn f o) true d
+
+-- what an executed command changes, of a part in a phase, where it begins w
+abbrev pub changeBy : Effect → Work → Part → Phase → Change
+changeBy Looks w p f = Marked false
+changeBy Enables w p f = settles p f true Kept
+changeBy Disables w p f = settles p f false Kept
+changeBy (Programs m) w p f = starts w p f Sent
+changeBy (Erases u) w p f = starts w p f Kept
+changeBy (Writes r) w p f = starts w p f Kept
+-- WIP and WEL become 0, PSUS or ESUS 1
+changeBy Suspends w p f = settles p (suspendedIn f) false Kept
+-- resume goes on with the next tick and sets WEL to 1
+changeBy Resumes w p f = settles p (resumedIn f) true Kept
+changeBy Sleeps w p f = unarmed (resting p true) f Kept
+changeBy Wakes w p f = unarmed (resting p false) f Kept
+changeBy Arms w p f = Marked true
+-- operation dropped, WEL 0, awake, unarmed: what power-up gives for the same size, identity and stored register bits
+changeBy Resets w p f = Became (freshPart (p .blocks) (p .identity) (p .stored)) Idle Zero
+
+-- what a transaction changes that the part ignored with a number: the armed mark alone, which is cleared
+abbrev pub changeIgnored : Decoded → ℕ → Part → Phase → Change
+changeIgnored d number p f = Marked false

@@ -6,6 +6,7 @@ use lib.ListN.{length}
 use lib.Dec.{eqb, ltb, leb}
 use Rattle.types.specs.declared.Memory.{Memory}
 use Rattle.types.specs.declared.Identity.{Identity}
+use Rattle.types.specs.declared.Stored.{Stored}
 use Rattle.types.specs.declared.Record.{Record}
 use Rattle.words.specs.Logic.{_and_, whenZero}
 use Rattle.paper.specs.Sizes.{arrayBytes, rowsBytes, pageBytes, sameMemory}
@@ -13,7 +14,8 @@ use Rattle.paper.specs.Program.{narrowedByte}
 use Rattle.paper.specs.Erase.{erasedByte}
 use Rattle.paper.specs.Operations.{free, Touch, none, blank, narrow}
 use Rattle.paper.specs.Ticks.{recordAfter, touchOf}
-use Rattle.paper.specs.Numbers.{transactionRefusal, tickNumber}
+use Rattle.paper.specs.Soundness.{sound}
+use Rattle.paper.specs.Numbers.{transactionRefusal}
 use Rattle.paper.specs.Calls.{poweredUp, transacted, ticked}
 
 -- a call: a transaction with the pin's level (true where WP# is high), its input and the length of its output buffer; or so many ticks
@@ -23,8 +25,8 @@ pub data Call : Type 0 where
 
 -- the record after a call, with the part's own memory lent
 abbrev pub recordAfterCall : Call → Record → Record
-recordAfterCall (transaction wp i o) p = transacted p (arrayBytes (p .blocks)) rowsBytes wp i o .next
-recordAfterCall (ticks n) p = ticked p (arrayBytes (p .blocks)) rowsBytes n .next
+recordAfterCall (transaction wp i o) p = transacted p (arrayBytes (p .part .blocks)) rowsBytes wp i o .next
+recordAfterCall (ticks n) p = ticked p (arrayBytes (p .part .blocks)) rowsBytes n .next
 
 -- the record after a list of calls
 abbrev pub recordAfterCalls : List Call → Record → Record
@@ -36,10 +38,14 @@ abbrev pub tickTouches : ℕ → Record → List Touch
 tickTouches zero p = []
 tickTouches (suc n) p = tickTouches n p ++ (touchOf (recordAfter n p) ∷ [])
 
--- what a call reaches: a transaction nothing, a refused tick call nothing
+-- what a tick call of n ticks that answered a number reaches: refused, nothing
+abbrev pub reachedBy : ℕ → ℕ → Record → List Touch
+reachedBy number n p = whenZero number (tickTouches n p) []
+
+-- what a call reaches: a transaction nothing
 abbrev pub callTouches : Call → Record → List Touch
 callTouches (transaction wp i o) p = []
-callTouches (ticks n) p = whenZero (tickNumber p (arrayBytes (p .blocks)) rowsBytes n) (tickTouches n p) []
+callTouches (ticks n) p = reachedBy (ticked p (arrayBytes (p .part .blocks)) rowsBytes n .number) n p
 
 -- the history: what a list of calls reaches, in order
 abbrev pub history : List Call → Record → List Touch
@@ -47,8 +53,8 @@ history [] p = []
 history (c ∷ cs) p = callTouches c p ++ history cs (recordAfterCall c p)
 
 -- the history of a part from its power-up on
-abbrev pub historyOf : ℕ → Identity → ℕ → ℕ → List Call → List Touch
-historyOf n id status function cs = history cs (poweredUp n id status function .next)
+abbrev pub historyOf : ℕ → Identity → Stored → List Call → List Touch
+historyOf n id s cs = history cs (poweredUp n id s .next)
 
 -- the byte x at a place of a memory after a touch: set to FFh by an erase tick that reached it, narrowed by a program tick that did
 abbrev pub byteAfter : Memory → ℕ → Touch → ℕ → ℕ
@@ -63,7 +69,7 @@ byteAfterAll m at (t ∷ ts) x = byteAfterAll m at ts (byteAfter m at t x)
 
 -- a byte whose block is protected, or whose row is locked, under the record's registers
 abbrev pub shielded : Memory → ℕ → Record → Bool
-shielded m at p = not (free m at (p .blocks) (p .status) (p .function))
+shielded m at p = not (free m at (p .part .blocks) (p .part .stored))
 
 -- and was so throughout: at first, and after every call
 abbrev pub shieldedThroughout : Memory → ℕ → List Call → Record → Bool
@@ -73,5 +79,5 @@ shieldedThroughout m at (c ∷ cs) p = shielded m at p and shieldedThroughout m 
 -- a call that is no executed or ignored transaction: ticks, or a transaction that is refused
 abbrev pub standsAside : Call → Record → Bool
 standsAside (transaction wp i o) p =
-    not (eqb (transactionRefusal p (arrayBytes (p .blocks)) rowsBytes (length i) o) 0)
+    not (eqb (transactionRefusal (p .part .blocks) (sound p) (arrayBytes (p .part .blocks)) rowsBytes (length i) o) 0)
 standsAside (ticks n) p = true

@@ -1,4 +1,5 @@
 pub mod Sizes
+pub mod Phases
 pub mod Records
 pub mod Soundness
 pub mod Calls
@@ -14,7 +15,7 @@ pub mod Commands
 pub mod Ticks
 pub mod Protection
 pub mod Suspend
-pub mod Reset
 pub mod History
 pub mod CBench
+pub mod Board
 pub mod Bench

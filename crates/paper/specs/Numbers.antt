@@ -4,31 +4,33 @@ use mathlib.Core.List.{List}
 use mathlib.Core.Bool.{Bool, true, false, not}
 use lib.ListN.{length}
 use lib.Dec.{eqb, leb}
-use Rattle.types.specs.declared.Memory.{Memory}
-use Rattle.types.specs.declared.Memory.the-variants.{Array, Rows}
 use Rattle.types.specs.declared.Register.{Register}
 use Rattle.types.specs.declared.Register.the-variants.{Status, Function}
+use Rattle.types.specs.declared.Operation.{Operation}
+use Rattle.types.specs.declared.Operation.the-variants.{Program, Erase, Write}
 use Rattle.types.specs.declared.Phase.{Phase}
 use Rattle.types.specs.declared.Phase.the-variants.{Idle}
+use Rattle.types.specs.declared.Work.{Work}
+use Rattle.types.specs.declared.Work.the-variants.{NoWork, At}
+use Rattle.types.specs.declared.Stored.{Stored}
+use Rattle.types.specs.declared.Part.{Part}
 use Rattle.types.specs.declared.Decoded.{Decoded}
 use Rattle.types.specs.declared.Decoded.the-variants.{Known, Unknown}
-use Rattle.types.specs.declared.Source.{Source}
-use Rattle.types.specs.declared.Source.the-variants.{Nothing, ArrayBytes, RowBytes, StatusByte, FunctionByte, IdentityBytes, MakerDevice, DeviceByte}
-use Rattle.types.specs.declared.Effect.{Effect}
-use Rattle.types.specs.declared.Effect.the-variants.{Looks, Enables, Disables, Programs, Erases, Writes, Suspends, Resumes, Sleeps, Wakes, Arms, Resets}
+use Rattle.types.specs.declared.Named.{Named}
+use Rattle.types.specs.declared.Named.the-variants.{Bare, Place, InRow}
+use Rattle.types.specs.declared.Wanted.{Wanted}
+use Rattle.types.specs.declared.Wanted.the-variants.{Any, Running, Halted, Armed}
 use Rattle.types.specs.declared.Columns.{Columns}
-use Rattle.types.specs.declared.Record.{Record}
 use Rattle.words.specs.Logic.{_and_, _or_, unless, _orElse_}
 use Rattle.paper.specs.Sizes.{sizeOk, arrayBytes, rowsBytes, transactionLimit, tickLimit}
 use Rattle.paper.specs.Address.{rowOk}
 use Rattle.paper.specs.Protection.{barred}
-use Rattle.paper.specs.Program.{programOf}
-use Rattle.paper.specs.Erase.{memoryOf, eraseOf}
-use Rattle.paper.specs.Records.{isBusy, isSuspended}
+use Rattle.paper.specs.Phases.{isBusy, isSuspended}
 use Rattle.paper.specs.Operations.{targetFree}
-use Rattle.paper.specs.Soundness.{bitsOk, sound}
-use Rattle.paper.specs.Table.{columns, lengthOk}
+use Rattle.paper.specs.Soundness.{bitsOk}
+use Rattle.paper.specs.Table.{columns, lengthOk, takenAsleep, takenBusy, takenSuspended}
 use Rattle.paper.specs.Suspend.{suspendable, resumable}
+use Rattle.paper.specs.Commands.{begins}
 
 -- 1: size, n blocks, not 1, 4, 8, 16, or array length, a bytes, not the record's size
 unfoldable pub sizeNumber : ℕ → ℕ → ℕ
@@ -47,108 +49,68 @@ unfoldable pub outputNumber : ℕ → ℕ → ℕ
 outputNumber n o = unless (eqb o n) 4
 
 -- 5: record not sound
-unfoldable pub soundNumber : Record → ℕ
-soundNumber p = unless (sound p) 5
+unfoldable pub soundNumber : Bool → ℕ
+soundNumber sound = unless sound 5
 
 -- 6: more than 4,096 ticks asked
 unfoldable pub ticksNumber : ℕ → ℕ
 ticksNumber n = unless (leb n tickLimit) 6
 
 -- power-up can give only 1 and 5; 5 there: status bits 1..0 or function bits 3..0 not zero
-unfoldable pub powerUpNumber : ℕ → ℕ → ℕ → ℕ
-powerUpNumber n status function = unless (sizeOk n) 1 orElse unless (bitsOk Idle false status function) 5
+unfoldable pub powerUpNumber : ℕ → Stored → ℕ
+powerUpNumber n s = unless (sizeOk n) 1 orElse unless (bitsOk Idle false s) 5
 
--- a transaction's 1 to 5, for an array of a, rows of r, an input of n and an output of o bytes
-unfoldable pub transactionRefusal : Record → ℕ → ℕ → ℕ → ℕ → ℕ
-transactionRefusal p a r n o =
-    sizeNumber (p .blocks) a orElse rowsNumber r orElse lengthNumber n orElse outputNumber n o orElse soundNumber p
+-- a transaction's 1 to 5, for a record of n blocks that is sound or is not, an array of a and rows of r bytes; l and o are the lengths of input and output
+unfoldable pub transactionRefusal : ℕ → Bool → ℕ → ℕ → ℕ → ℕ → ℕ
+transactionRefusal n sound a r l o =
+    sizeNumber n a orElse rowsNumber r orElse lengthNumber l orElse outputNumber l o orElse soundNumber sound
 
 -- ticks can give only 1, 2, 5 and 6
-unfoldable pub tickNumber : Record → ℕ → ℕ → ℕ → ℕ
-tickNumber p a r n =
-    sizeNumber (p .blocks) a orElse rowsNumber r orElse soundNumber p orElse ticksNumber n
+unfoldable pub tickNumber : ℕ → Bool → ℕ → ℕ → ℕ → ℕ
+tickNumber n sound a r ticks =
+    sizeNumber n a orElse rowsNumber r orElse soundNumber sound orElse ticksNumber ticks
 
 -- 25: nothing running that can be suspended, nothing to resume, or 99h not armed
-abbrev pub stateOk : Effect → Phase → Bool → Bool
-stateOk Looks f armed = true
-stateOk Enables f armed = true
-stateOk Disables f armed = true
-stateOk (Programs m) f armed = true
-stateOk (Erases u) f armed = true
-stateOk (Writes r) f armed = true
-stateOk Suspends f armed = suspendable f
-stateOk Resumes f armed = resumable f
-stateOk Sleeps f armed = true
-stateOk Wakes f armed = true
-stateOk Arms f armed = true
-stateOk Resets f armed = armed
-
--- the commands that send a row address: 68h, 64h and 62h
-abbrev pub namesRows : Memory → Bool
-namesRows Array = false
-namesRows Rows = true
-
-abbrev pub readsRow : Source → Bool
-readsRow Nothing = false
-readsRow ArrayBytes = false
-readsRow RowBytes = true
-readsRow StatusByte = false
-readsRow FunctionByte = false
-readsRow IdentityBytes = false
-readsRow MakerDevice = false
-readsRow DeviceByte = false
-
-abbrev pub writesRow : Effect → Bool
-writesRow Looks = false
-writesRow Enables = false
-writesRow Disables = false
-writesRow (Programs m) = namesRows m
-writesRow (Erases u) = namesRows (memoryOf u)
-writesRow (Writes r) = false
-writesRow Suspends = false
-writesRow Resumes = false
-writesRow Sleeps = false
-writesRow Wakes = false
-writesRow Arms = false
-writesRow Resets = false
+abbrev pub stateOk : Wanted → Part → Phase → Bool
+stateOk Any p f = true
+stateOk Running p f = suspendable f
+stateOk Halted p f = resumable f
+stateOk Armed p f = p .armed
 
 -- 27: row address not valid
-abbrev pub rowAddressOk : Columns → List ℕ → Bool
-rowAddressOk k i = not (readsRow (k .source) or writesRow (k .effect)) or rowOk i
+abbrev pub addressOk : Named → List ℕ → Bool
+addressOk Bare i = true
+addressOk Place i = true
+addressOk InRow i = rowOk i
 
 -- the pin bars status writes alone
-abbrev pub pinOk : Register → ℕ → Bool → Bool
-pinOk Status status wp = not (barred status wp)
-pinOk Function status wp = true
+abbrev pub pinOk : Register → Stored → Bool → Bool
+pinOk Status s wp = not (barred (s .status) wp)
+pinOk Function s wp = true
 
--- 28: protected, locked, or status write barred by the pin, on a part of n blocks
-abbrev pub freeOk : Effect → ℕ → ℕ → ℕ → List ℕ → Bool → Bool
-freeOk Looks n status function i wp = true
-freeOk Enables n status function i wp = true
-freeOk Disables n status function i wp = true
-freeOk (Programs m) n status function i wp = targetFree (programOf m n i) n status function
-freeOk (Erases u) n status function i wp = targetFree (eraseOf u n i) n status function
-freeOk (Writes r) n status function i wp = pinOk r status wp
-freeOk Suspends n status function i wp = true
-freeOk Resumes n status function i wp = true
-freeOk Sleeps n status function i wp = true
-freeOk Wakes n status function i wp = true
-freeOk Arms n status function i wp = true
-freeOk Resets n status function i wp = true
+abbrev pub writeOk : Operation → Stored → Bool → Bool
+writeOk (Program m b k c d) s wp = true
+writeOk (Erase u b d) s wp = true
+writeOk (Write r v) s wp = pinOk r s wp
 
--- 21 to 28, of a command with these columns and the input i, with WP# high where wp is true: 0 where it is executed
-unfoldable pub commandNumber : Columns → Record → List ℕ → Bool → ℕ
-commandNumber k p i wp =
-    unless (k .asleep or not (p .asleep)) 21
-    orElse unless (k .busy or not (isBusy (p .phase))) 22
-    orElse unless (k .suspended or not (isSuspended (p .phase))) 23
+-- 28: protected, locked, or status write barred by the pin, of what a command begins
+abbrev pub freeOk : Work → Part → Bool → Bool
+freeOk NoWork p wp = true
+freeOk (At o) p wp = targetFree o (p .blocks) (p .stored) and writeOk o (p .stored) wp
+
+-- 21 to 28, of a command with these columns that begins w, on a part in a phase, with the input i, and with WP# high where wp is true: 0 where it is executed
+unfoldable pub commandNumber : Columns → Work → Part → Phase → List ℕ → Bool → ℕ
+commandNumber k w p f i wp =
+    unless (takenAsleep (k .taken) or not (p .asleep)) 21
+    orElse unless (takenBusy (k .taken) or not (isBusy f)) 22
+    orElse unless (takenSuspended (k .taken) or not (isSuspended f)) 23
     orElse unless (lengthOk (k .length) (length i)) 24
-    orElse unless (stateOk (k .effect) (p .phase) (p .armed)) 25
+    orElse unless (stateOk (k .wanted) p f) 25
     orElse unless (not (k .wel) or p .wel) 26
-    orElse unless (rowAddressOk k i) 27
-    orElse unless (freeOk (k .effect) (p .blocks) (p .status) (p .function) i wp) 28
+    orElse unless (addressOk (k .named) i) 27
+    orElse unless (freeOk w p wp) 28
 
 -- 20 to 28: 20 where the first byte is in no row of the command table, even asleep or busy
-abbrev pub ignoredNumber : Decoded → Record → List ℕ → Bool → ℕ
-ignoredNumber (Known k) p i wp = commandNumber (columns k) p i wp
-ignoredNumber Unknown p i wp = 20
+abbrev pub ignoredNumber : Decoded → Part → Phase → List ℕ → Bool → ℕ
+ignoredNumber (Known k) p f i wp = commandNumber (columns k) (begins (columns k .effect) (p .blocks) i) p f i wp
+ignoredNumber Unknown p f i wp = 20

@@ -8,6 +8,7 @@ use Rattle.types.specs.declared.Memory.{Memory}
 use Rattle.types.specs.declared.Memory.the-variants.{Array, Rows}
 use Rattle.types.specs.declared.EraseUnit.{EraseUnit}
 use Rattle.types.specs.declared.EraseUnit.the-variants.{Sector, Block32, Block64, Chip, Row}
+use Rattle.types.specs.declared.Stored.{Stored}
 use Rattle.types.specs.declared.Operation.{Operation}
 use Rattle.types.specs.declared.Operation.the-variants.{Program, Erase, Write}
 use Rattle.paper.specs.Sizes.{memoryBytes, sameMemory, pageBytes}
@@ -45,24 +46,24 @@ inside (Program m b s k d) n = leb (b + pageBytes) (memoryBytes m n)
 inside (Erase u b d) n = leb (b + unitBytes u n) (memoryBytes (memoryOf u) n)
 inside (Write r v) n = true
 
--- a place of a memory is unprotected or unlocked under the status and function registers
-abbrev pub free : Memory → ℕ → ℕ → ℕ → ℕ → Bool
-free Array b n status function = not (protectedAt (codeOf status) n b)
-free Rows b n status function = not (locked function (b / pageBytes))
+-- a place of a memory is unprotected or unlocked under the registers, on a part of n blocks
+abbrev pub free : Memory → ℕ → ℕ → Stored → Bool
+free Array b n s = not (protectedAt (codeOf (s .status)) n b)
+free Rows b n s = not (locked (s .function) (b / pageBytes))
 
 -- a unit is: any but CER lies in one block or row, so its base decides; CER needs all four BP bits 0
-abbrev pub unitFree : EraseUnit → ℕ → ℕ → ℕ → ℕ → Bool
-unitFree Sector b n status function = free Array b n status function
-unitFree Block32 b n status function = free Array b n status function
-unitFree Block64 b n status function = free Array b n status function
-unitFree Chip b n status function = eqb (codeOf status) 0
-unitFree Row b n status function = free Rows b n status function
+abbrev pub unitFree : EraseUnit → ℕ → ℕ → Stored → Bool
+unitFree Sector b n s = free Array b n s
+unitFree Block32 b n s = free Array b n s
+unitFree Block64 b n s = free Array b n s
+unitFree Chip b n s = eqb (codeOf (s .status)) 0
+unitFree Row b n s = free Rows b n s
 
 -- the operation's target is unprotected or unlocked under the registers
-abbrev pub targetFree : Operation → ℕ → ℕ → ℕ → Bool
-targetFree (Program m b s k d) n status function = free m b n status function
-targetFree (Erase u b d) n status function = unitFree u b n status function
-targetFree (Write r v) n status function = true
+abbrev pub targetFree : Operation → ℕ → Stored → Bool
+targetFree (Program m b s k d) n g = free m b n g
+targetFree (Erase u b d) n g = unitFree u b n g
+targetFree (Write r v) n g = true
 
 -- a unit whose erase can be suspended
 abbrev pub unitSuspends : EraseUnit → Bool

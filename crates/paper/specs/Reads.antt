@@ -5,9 +5,9 @@ use mathlib.Core.List.{List, [], _∷_}
 use lib.ListN.{length, take, drop, replicate}
 use lib.Dec.{leb}
 use Rattle.types.specs.declared.Source.{Source}
-use Rattle.types.specs.declared.Source.the-variants.{Nothing, ArrayBytes, RowBytes, StatusByte, FunctionByte, IdentityBytes, MakerDevice, DeviceByte}
+use Rattle.types.specs.declared.Source.the-variants.{None, ArrayBytes, RowBytes, StatusByte, FunctionByte, IdentityBytes, MakerPair, DeviceByte}
 use Rattle.types.specs.declared.Columns.{Columns}
-use Rattle.types.specs.declared.Record.{Record}
+use Rattle.types.specs.declared.Part.{Part}
 use Rattle.words.specs.Logic.{_and_}
 use Rattle.words.specs.Lists.{upTo, round}
 use Rattle.paper.specs.Sizes.{pageBytes}
@@ -24,36 +24,36 @@ undriven n = replicate n undrivenByte
 
 -- the bytes that a command drives, round and round: array reads run on past the end to address 0, row reads wrap inside the row,
 -- status and function repeat, 9Fh repeats M, T, C, 90h alternates M and D, ABh repeats D
-abbrev pub sourceBytes : Source → Record → List ℕ → List ℕ → List ℕ → List ℕ
-sourceBytes Nothing p xs rs i = []
+abbrev pub sourceBytes : Source → Part → List ℕ → List ℕ → List ℕ → List ℕ
+sourceBytes None p xs rs i = []
 sourceBytes ArrayBytes p xs rs i = xs
 sourceBytes RowBytes p xs rs i = take pageBytes (drop (rowBase i) rs)
-sourceBytes StatusByte p xs rs i = p .status ∷ []
-sourceBytes FunctionByte p xs rs i = p .function ∷ []
+sourceBytes StatusByte p xs rs i = p .stored .status ∷ []
+sourceBytes FunctionByte p xs rs i = p .stored .function ∷ []
 sourceBytes IdentityBytes p xs rs i = p .identity .maker ∷ p .identity .kind ∷ p .identity .capacity ∷ []
-sourceBytes MakerDevice p xs rs i = p .identity .maker ∷ p .identity .device ∷ []
+sourceBytes MakerPair p xs rs i = p .identity .maker ∷ p .identity .device ∷ []
 sourceBytes DeviceByte p xs rs i = p .identity .device ∷ []
 
 -- at which of them it begins: at A, at the row's byte address; 90h with bit 0 of the third address byte clear: M first, set: D first
 abbrev pub sourceStart : Source → ℕ → List ℕ → ℕ
-sourceStart Nothing n i = 0
+sourceStart None n i = 0
 sourceStart ArrayBytes n i = addressIn n i
 sourceStart RowBytes n i = rowByte i
 sourceStart StatusByte n i = 0
 sourceStart FunctionByte n i = 0
 sourceStart IdentityBytes n i = 0
-sourceStart MakerDevice n i = thirdAddressByte i % 2
+sourceStart MakerPair n i = thirdAddressByte i % 2
 sourceStart DeviceByte n i = 0
 
 -- the byte at place j of an executed command's output
-abbrev pub outputByte : Columns → Record → List ℕ → List ℕ → List ℕ → ℕ → ℕ
+abbrev pub outputByte : Columns → Part → List ℕ → List ℕ → List ℕ → ℕ → ℕ
 outputByte k p xs rs i j =
     cond (isRead k and leb (k .from) j)
     (round (sourceBytes (k .source) p xs rs i) (sourceStart (k .source) (p .blocks) i) (j - k .from))
     undrivenByte
 
 -- its whole output, as long as the input
-unfoldable pub outputOf : Columns → Record → List ℕ → List ℕ → List ℕ → List ℕ
+unfoldable pub outputOf : Columns → Part → List ℕ → List ℕ → List ℕ → List ℕ
 outputOf k p xs rs i = upTo (length i) (outputByte k p xs rs i)
 
 -- the first driven place of n; it equals the transaction length where nothing is driven

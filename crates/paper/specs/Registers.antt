@@ -5,6 +5,7 @@ use lib.ListN.{getD}
 use lib.Bits.{bitOr}
 use Rattle.types.specs.declared.Register.{Register}
 use Rattle.types.specs.declared.Register.the-variants.{Status, Function}
+use Rattle.types.specs.declared.Stored.{Stored}
 use Rattle.types.specs.declared.Operation.{Operation}
 use Rattle.types.specs.declared.Operation.the-variants.{Program, Erase, Write}
 
@@ -17,23 +18,17 @@ held Function b = b / 16 * 16
 unfoldable pub writeOf : Register → List ℕ → Operation
 writeOf r i = Write r (held r (getD i 1 0))
 
--- 01h stores bits 7..2 (the byte that it holds has the others 0)
-abbrev pub statusWritten : Register → ℕ → ℕ → ℕ
-statusWritten Status v status = v
-statusWritten Function v status = status
+-- the registers with this status and this function; what else they have stays
+abbrev pub withBytes : ℕ → ℕ → Stored → Stored
+withBytes status function s = record { status = status; function = function }
 
--- 42h may set IRL bits and never clears one; other bits are disregarded
-abbrev pub functionWritten : Register → ℕ → ℕ → ℕ
-functionWritten Status v function = function
-functionWritten Function v function = bitOr (function / 16) (v / 16) * 16
+-- the registers after a write's tick: 01h stores bits 7..2 (the byte that it holds has the others 0); 42h may set IRL bits and never clears one, other bits are disregarded
+abbrev pub registerWritten : Register → ℕ → Stored → Stored
+registerWritten Status v s = withBytes v (s .function) s
+registerWritten Function v s = withBytes (s .status) (bitOr (s .function / 16) (v / 16) * 16) s
 
--- the registers' stored bits after an operation's last tick
-abbrev pub statusAfter : Operation → ℕ → ℕ
-statusAfter (Program m b s k d) status = status
-statusAfter (Erase u b d) status = status
-statusAfter (Write r v) status = statusWritten r v status
-
-abbrev pub functionAfter : Operation → ℕ → ℕ
-functionAfter (Program m b s k d) function = function
-functionAfter (Erase u b d) function = function
-functionAfter (Write r v) function = functionWritten r v function
+-- the registers after an operation's last tick
+abbrev pub storedAfter : Operation → Stored → Stored
+storedAfter (Program m b s k d) g = g
+storedAfter (Erase u b d) g = g
+storedAfter (Write r v) g = registerWritten r v g

@@ -8,11 +8,14 @@ use Rattle.types.specs.declared.Operation.{Operation}
 use Rattle.types.specs.declared.Operation.the-variants.{Program, Erase, Write}
 use Rattle.types.specs.declared.Phase.{Phase}
 use Rattle.types.specs.declared.Phase.the-variants.{Idle, Busy, Suspended}
+use Rattle.types.specs.declared.Stored.{Stored}
+use Rattle.types.specs.declared.Part.{Part}
 use Rattle.types.specs.declared.Record.{Record}
 use Rattle.words.specs.Logic.{_and_, _or_}
 use Rattle.words.specs.Lists.{allZero}
 use Rattle.paper.specs.Sizes.{sizeOk, pageBytes}
-use Rattle.paper.specs.Records.{isIdle, statusLow, functionLow}
+use Rattle.paper.specs.Phases.{isIdle}
+use Rattle.paper.specs.Records.{statusLow, functionLow}
 use Rattle.paper.specs.Registers.{held}
 use Rattle.paper.specs.Operations.{ticksInAll, ticksDone, aligned, inside, targetFree, canSuspend, keptBy}
 
@@ -33,23 +36,23 @@ contentOk (Erase u b d) = true
 contentOk (Write r v) = eqb (held r v) v
 
 -- the operation's target is aligned, inside the part and unprotected or unlocked under the record's registers; CER only with a BP code of 0; ticks done are fewer than its ticks in all
-unfoldable pub operationOk : Operation → ℕ → ℕ → ℕ → Bool
-operationOk o n status function =
+unfoldable pub operationOk : Operation → ℕ → Stored → Bool
+operationOk o n s =
     aligned o n
     and inside o n
-    and targetFree o n status function
+    and targetFree o n s
     and ltb (ticksDone o) (ticksInAll o n)
     and contentOk o
 
 -- so the operation that a part is busy with or suspended from; only PP, SER, BER32 or BER64 is suspended
-abbrev pub phaseOk : Phase → ℕ → ℕ → ℕ → Bool
-phaseOk Idle n status function = true
-phaseOk (Busy o) n status function = operationOk o n status function
-phaseOk (Suspended o) n status function = canSuspend o and operationOk o n status function
+abbrev pub phaseOk : Phase → ℕ → Stored → Bool
+phaseOk Idle n s = true
+phaseOk (Busy o) n s = operationOk o n s
+phaseOk (Suspended o) n s = canSuspend o and operationOk o n s
 
 -- stored register bits that other fields define (WIP, WEL, ESUS, PSUS) agree with them; function bits 1..0 are 0
-unfoldable pub bitsOk : Phase → Bool → ℕ → ℕ → Bool
-bitsOk f wel status function = eqb (status % 4) (statusLow f wel) and eqb (function % 16) (functionLow f)
+unfoldable pub bitsOk : Phase → Bool → Stored → Bool
+bitsOk f wel s = eqb (s .status % 4) (statusLow f wel) and eqb (s .function % 16) (functionLow f)
 
 -- how many bytes of page data a phase keeps
 abbrev pub keptIn : Phase → ℕ
@@ -61,12 +64,15 @@ keptIn (Suspended o) = keptBy o
 unfoldable pub pageOk : Phase → List ℕ → Bool
 pageOk f d = allZero (drop (keptIn f) d)
 
+-- a part in a phase
+unfoldable pub partSound : Part → Phase → Bool
+partSound p f =
+    sizeOk (p .blocks)
+    and sleepOk f (p .asleep)
+    and latchOk f (p .wel)
+    and phaseOk f (p .blocks) (p .stored)
+    and bitsOk f (p .wel) (p .stored)
+
 -- the whole
 unfoldable pub sound : Record → Bool
-sound p =
-    sizeOk (p .blocks)
-    and sleepOk (p .phase) (p .asleep)
-    and latchOk (p .phase) (p .wel)
-    and phaseOk (p .phase) (p .blocks) (p .status) (p .function)
-    and bitsOk (p .phase) (p .wel) (p .status) (p .function)
-    and pageOk (p .phase) (p .page)
+sound p = partSound (p .part) (p .phase) and pageOk (p .phase) (p .page)

@@ -13,9 +13,15 @@ use Rattle.types.specs.declared.Decoded.the-variants.{Known, Unknown}
 use Rattle.types.specs.declared.Length.{Length}
 use Rattle.types.specs.declared.Length.the-variants.{Exactly, AtLeast}
 use Rattle.types.specs.declared.Source.{Source}
-use Rattle.types.specs.declared.Source.the-variants.{Nothing, ArrayBytes, RowBytes, StatusByte, FunctionByte, IdentityBytes, MakerDevice, DeviceByte}
+use Rattle.types.specs.declared.Source.the-variants.{None, ArrayBytes, RowBytes, StatusByte, FunctionByte, IdentityBytes, MakerPair, DeviceByte}
 use Rattle.types.specs.declared.Effect.{Effect}
 use Rattle.types.specs.declared.Effect.the-variants.{Looks, Enables, Disables, Programs, Erases, Writes, Suspends, Resumes, Sleeps, Wakes, Arms, Resets}
+use Rattle.types.specs.declared.Taken.{Taken}
+use Rattle.types.specs.declared.Taken.the-variants.{Rest, OrHalted, OrBusy, Awake, OrAsleep}
+use Rattle.types.specs.declared.Named.{Named}
+use Rattle.types.specs.declared.Named.the-variants.{Bare, Place, InRow}
+use Rattle.types.specs.declared.Wanted.{Wanted}
+use Rattle.types.specs.declared.Wanted.the-variants.{Any, Running, Halted, Armed}
 use Rattle.types.specs.declared.Columns.{Columns}
 
 infixl 80 _is_
@@ -48,37 +54,66 @@ unfoldable pub decoded : ℕ → Decoded
 decoded n = lookUp codes n
 
 -- a line of the table
-abbrev pub line : Length → Bool → Bool → Bool → Bool → Source → ℕ → Effect → Columns
-line l w a b s d f e =
-    record { length = l; wel = w; asleep = a; busy = b; suspended = s; source = d; from = f; effect = e }
+abbrev pub line : Length → Bool → Taken → Named → Wanted → Source → ℕ → Effect → Columns
+line l w t a s d f e =
+    record { length = l; wel = w; taken = t; named = a; wanted = s; source = d; from = f; effect = e }
 
--- the table's other columns: the length; whether WEL is needed; whether the command is taken while the part is asleep, busy or suspended, which 21, 22 and 23 ask;
--- what it drives and from which place; what it does with the record
+-- the entries of the column for WEL
+abbrev pub WEL : Bool
+WEL = true
+
+abbrev pub no : Bool
+no = false
+
+-- the table's other columns: the length; whether WEL is needed; when the command is taken, which 21, 22 and 23 ask; what its address names, which 27 asks;
+-- what it wants of the state, which 25 asks; what it drives and from which place; what it does with the record
 abbrev pub columns : Command → Columns
-columns Read = line (AtLeast 4) false false false true ArrayBytes 4 Looks
-columns FastRead = line (AtLeast 5) false false false true ArrayBytes 5 Looks
-columns ReadStatus = line (AtLeast 1) false false true true StatusByte 1 Looks
-columns ReadFunction = line (AtLeast 1) false false true true FunctionByte 1 Looks
-columns ReadIdentity = line (AtLeast 1) false false false true IdentityBytes 1 Looks
-columns ReadMakerDevice = line (AtLeast 4) false false false true MakerDevice 4 Looks
-columns Wake = line (AtLeast 1) false true false true DeviceByte 4 Wakes
-columns ReadRow = line (AtLeast 5) false false false true RowBytes 5 Looks
-columns WriteEnable = line (Exactly 1) false false false false Nothing 0 Enables
-columns WriteDisable = line (Exactly 1) false false false false Nothing 0 Disables
-columns WriteStatus = line (Exactly 2) true false false false Nothing 0 (Writes Status)
-columns WriteFunction = line (Exactly 2) true false false false Nothing 0 (Writes Function)
-columns PageProgram = line (AtLeast 5) true false false false Nothing 0 (Programs Array)
-columns SectorErase = line (Exactly 4) true false false false Nothing 0 (Erases Sector)
-columns BlockErase32 = line (Exactly 4) true false false false Nothing 0 (Erases Block32)
-columns BlockErase64 = line (Exactly 4) true false false false Nothing 0 (Erases Block64)
-columns ChipErase = line (Exactly 1) true false false false Nothing 0 (Erases Chip)
-columns Suspend = line (Exactly 1) false false true false Nothing 0 Suspends
-columns Resume = line (Exactly 1) false false false true Nothing 0 Resumes
-columns Sleep = line (Exactly 1) false false false false Nothing 0 Sleeps
-columns ArmReset = line (Exactly 1) false false true true Nothing 0 Arms
-columns Reset = line (Exactly 1) false false true true Nothing 0 Resets
-columns RowErase = line (Exactly 4) true false false false Nothing 0 (Erases Row)
-columns RowProgram = line (AtLeast 5) true false false false Nothing 0 (Programs Rows)
+columns Read = line (AtLeast 4) no OrHalted Place Any ArrayBytes 4 Looks
+columns FastRead = line (AtLeast 5) no OrHalted Place Any ArrayBytes 5 Looks
+columns ReadStatus = line (AtLeast 1) no Awake Bare Any StatusByte 1 Looks
+columns ReadFunction = line (AtLeast 1) no Awake Bare Any FunctionByte 1 Looks
+columns ReadIdentity = line (AtLeast 1) no OrHalted Bare Any IdentityBytes 1 Looks
+columns ReadMakerDevice = line (AtLeast 4) no OrHalted Bare Any MakerPair 4 Looks
+columns Wake = line (AtLeast 1) no OrAsleep Bare Any DeviceByte 4 Wakes
+columns ReadRow = line (AtLeast 5) no OrHalted InRow Any RowBytes 5 Looks
+columns WriteEnable = line (Exactly 1) no Rest Bare Any None 0 Enables
+columns WriteDisable = line (Exactly 1) no Rest Bare Any None 0 Disables
+columns WriteStatus = line (Exactly 2) WEL Rest Bare Any None 0 (Writes Status)
+columns WriteFunction = line (Exactly 2) WEL Rest Bare Any None 0 (Writes Function)
+columns PageProgram = line (AtLeast 5) WEL Rest Place Any None 0 (Programs Array)
+columns SectorErase = line (Exactly 4) WEL Rest Place Any None 0 (Erases Sector)
+columns BlockErase32 = line (Exactly 4) WEL Rest Place Any None 0 (Erases Block32)
+columns BlockErase64 = line (Exactly 4) WEL Rest Place Any None 0 (Erases Block64)
+columns ChipErase = line (Exactly 1) WEL Rest Bare Any None 0 (Erases Chip)
+columns Suspend = line (Exactly 1) no OrBusy Bare Running None 0 Suspends
+columns Resume = line (Exactly 1) no OrHalted Bare Halted None 0 Resumes
+columns Sleep = line (Exactly 1) no Rest Bare Any None 0 Sleeps
+columns ArmReset = line (Exactly 1) no Awake Bare Any None 0 Arms
+columns Reset = line (Exactly 1) no Awake Bare Armed None 0 Resets
+columns RowErase = line (Exactly 4) WEL Rest InRow Any None 0 (Erases Row)
+columns RowProgram = line (AtLeast 5) WEL Rest InRow Any None 0 (Programs Rows)
+
+-- a command is taken while the part is asleep, busy, or suspended
+abbrev pub takenAsleep : Taken → Bool
+takenAsleep Rest = false
+takenAsleep OrHalted = false
+takenAsleep OrBusy = false
+takenAsleep Awake = false
+takenAsleep OrAsleep = true
+
+abbrev pub takenBusy : Taken → Bool
+takenBusy Rest = false
+takenBusy OrHalted = false
+takenBusy OrBusy = true
+takenBusy Awake = true
+takenBusy OrAsleep = false
+
+abbrev pub takenSuspended : Taken → Bool
+takenSuspended Rest = false
+takenSuspended OrHalted = true
+takenSuspended OrBusy = false
+takenSuspended Awake = true
+takenSuspended OrAsleep = true
 
 -- a length that the table asks for
 abbrev pub lengthOk : Length → ℕ → Bool
@@ -87,13 +122,13 @@ lengthOk (AtLeast l) n = leb l n
 
 -- a command that drives something
 abbrev pub drives : Source → Bool
-drives Nothing = false
+drives None = false
 drives ArrayBytes = true
 drives RowBytes = true
 drives StatusByte = true
 drives FunctionByte = true
 drives IdentityBytes = true
-drives MakerDevice = true
+drives MakerPair = true
 drives DeviceByte = true
 
 -- the reads are 03h, 0Bh, 05h, 48h, 9Fh, 90h, ABh and 68h

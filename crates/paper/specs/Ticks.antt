@@ -6,45 +6,52 @@ use lib.Dec.{ltb}
 use Rattle.types.specs.declared.Memory.{Memory}
 use Rattle.types.specs.declared.Operation.{Operation}
 use Rattle.types.specs.declared.Phase.{Phase}
-use Rattle.types.specs.declared.Phase.the-variants.{Idle, Busy, Suspended}
+use Rattle.types.specs.declared.Work.{Work}
+use Rattle.types.specs.declared.Work.the-variants.{NoWork, At}
+use Rattle.types.specs.declared.Part.{Part}
 use Rattle.types.specs.declared.Record.{Record}
 use Rattle.words.specs.Logic.{bit}
 use Rattle.paper.specs.Program.{noData}
-use Rattle.paper.specs.Registers.{statusAfter, functionAfter}
-use Rattle.paper.specs.Records.{isBusy, made, goingOn}
+use Rattle.paper.specs.Registers.{storedAfter}
+use Rattle.paper.specs.Phases.{running, isBusy, goingOn, restOf}
+use Rattle.paper.specs.Records.{made}
 use Rattle.paper.specs.Operations.{ticksInAll, ticksDone, advancedBy, Touch, none, nextTouch, touched}
 
 -- the last tick makes the part idle and WEL 0. A tick never touches the armed mark
+abbrev pub finishedPart : Part → Phase → Operation → Part
+finishedPart p f o = made p (storedAfter o (p .stored)) (restOf f) false
+
 abbrev pub finished : Record → Operation → Record
 finished p o =
-    made (p .blocks) (p .identity) (statusAfter o (p .status)) (functionAfter o (p .function)) false (p .armed) (p .asleep) Idle noData
+    record { part = finishedPart (p .part) (p .phase) o; phase = restOf (p .phase); page = noData }
 
--- a tick of a part that is busy with an operation
+-- any other tick leaves it at its operation
+abbrev pub advanced : Record → Operation → Record
+advanced p o = record { part = p .part; phase = goingOn (p .phase) o; page = p .page }
+
+-- a tick of a part that works on an operation
 unfoldable pub worked : Record → Operation → Record
 worked p o =
-    cond (ltb (ticksDone o + 1) (ticksInAll o (p .blocks)))
-    (goingOn p (advancedBy 1 o))
+    cond (ltb (ticksDone o + 1) (ticksInAll o (p .part .blocks)))
+    (advanced p (advancedBy 1 o))
     (finished p o)
 
 -- the record after a tick. Ticks on an idle, sleeping or suspended part change nothing
-abbrev pub tickedIn : Record → Phase → Record
-tickedIn p Idle = p
-tickedIn p (Busy o) = worked p o
-tickedIn p (Suspended o) = p
+abbrev pub tickedAt : Record → Work → Record
+tickedAt p NoWork = p
+tickedAt p (At o) = worked p o
 
--- the record after one tick
 abbrev pub tickOnce : Record → Record
-tickOnce p = tickedIn p (p .phase)
+tickOnce p = tickedAt p (running (p .phase))
 
--- what a tick in a phase reaches, with the page data g
-abbrev pub touchIn : Phase → List ℕ → Touch
-touchIn Idle g = none
-touchIn (Busy o) g = nextTouch o g
-touchIn (Suspended o) g = none
+-- what a tick reaches, with the page data g
+abbrev pub touchAt : Work → List ℕ → Touch
+touchAt NoWork g = none
+touchAt (At o) g = nextTouch o g
 
 -- what a part's next tick reaches
 abbrev pub touchOf : Record → Touch
-touchOf p = touchIn (p .phase) (p .page)
+touchOf p = touchAt (running (p .phase)) (p .page)
 
 -- 1 where a tick does work
 abbrev pub works : Record → ℕ

@@ -1,1 +1,2 @@
+pub mod IdleSound
 pub mod Tight

@@ -1,20 +1,24 @@
-// The record: how it is made, when it is sound, and power-up.
+// The record: how a part is made, when a record is sound, and power-up.
 ghost use mathlib.Core.Path.{_≡_};
 ghost use Prim.Native.Nat.{_+_, _*_};
+ghost use Rattle.types.specs.declared.Phase.the-variants.{Idle};
 ghost use Rattle.words.specs.Logic.{bit};
 ghost use Rattle.paper.specs.Program.{noData};
-ghost use Rattle.paper.specs.Records.{isIdle, isErase, isProgram, wip, statusLow, functionLow, made, fresh};
-ghost use Rattle.paper.specs.Soundness.{latchOk, phaseOk, bitsOk, keptIn, pageOk, sound};
+ghost use Rattle.paper.specs.Phases.{isErase, isProgram};
+ghost use Rattle.paper.specs.Records.{statusLow, functionLow, registersIn, made, settled, freshPart, fresh};
+ghost use Rattle.paper.specs.Soundness.{latchOk, phaseOk, bitsOk, keptIn, partSound, sound};
 ghost use Rattle.paper.specs.Numbers.{powerUpNumber};
-ghost use Rattle.paper.specs.Calls.{poweredUp};
-ghost use Rattle.heads.specs.Heads.{headOf, whole, idleSound};
-use types::Head;
+ghost use Rattle.paper.specs.Calls.{noStored, zeroRecord, poweredUp};
+ghost use Rattle.paper.proofs.Soundness.{recordOf};
 use types::Identity;
 use types::Operation;
+use types::Part;
 use types::Phase;
 use types::PoweredUp;
 use types::Record;
 use types::Register;
+use types::Stored;
+use types::Work;
 
 // Page data of no program: all zero.
 pub fn no_data() -> [u8; 256]
@@ -23,21 +27,11 @@ pub fn no_data() -> [u8; 256]
     [0u8; 256]
 }
 
-fn wip_of(phase: Phase) -> u8
-    ensures { λ r. ⌜ r ≡ wip phase ⌝ }
-{
-    match phase {
-        Phase::Idle => 0,
-        Phase::Busy(_) => 1,
-        Phase::Suspended(_) => 0,
-    }
-}
-
 // WEL and WIP at bits 1 and 0.
 fn status_low(phase: Phase, wel: bool) -> u8
     ensures { λ r. ⌜ r ≡ statusLow phase wel ⌝ }
 {
-    2 * words::bit_of(wel) + wip_of(phase)
+    2 * words::bit_of(wel) + words::bit_of(phases::is_busy(phase))
 }
 
 fn suspended_bits(op: Operation) -> u8
@@ -54,95 +48,95 @@ fn suspended_bits(op: Operation) -> u8
 fn function_low(phase: Phase) -> u8
     ensures { λ r. ⌜ r ≡ functionLow phase ⌝ }
 {
-    match phase {
-        Phase::Idle => 0,
-        Phase::Busy(_) => 0,
-        Phase::Suspended(op) => suspended_bits(op),
+    let halted = phases::halted(phase);
+    match halted {
+        Work::NoWork => 0,
+        Work::At(op) => suspended_bits(op),
     }
 }
 
-// A head with the stored bits of its registers. The bits that other fields define go by those.
-pub fn make_head(
-    blocks: u16,
-    identity: Identity,
-    status: u8,
-    function: u8,
-    wel: bool,
-    armed: bool,
-    asleep: bool,
-    phase: Phase,
-) -> Head
-    ensures { λ r. ⌜ r ≡ headOf (made blocks identity status function wel armed asleep phase noData) ⌝ }
+// The registers with their stored bits. The bits that phase and latch define go by these.
+fn registers_in(phase: Phase, wel: bool, stored: Stored) -> Stored
+    ensures { λ r. ⌜ r ≡ registersIn phase wel stored ⌝ }
 {
-    let stored_status = operations::held_byte(Register::Status, status);
+    let status = operations::held_byte(Register::Status, stored.status);
     let low_status = status_low(phase, wel);
-    let stored_function = operations::held_byte(Register::Function, function);
+    let function = operations::held_byte(Register::Function, stored.function);
     let low_function = function_low(phase);
-    Head {
+    let mut next = stored;
+    next.status = status + low_status;
+    next.function = function + low_function;
+    next
+}
+
+// A part in a phase, with the stored bits of some registers and with a latch. Size, identity and marks stay.
+pub fn make(part: Part, stored: Stored, phase: Phase, wel: bool) -> Part
+    ensures { λ r. ⌜ r ≡ made part stored phase wel ⌝ }
+{
+    let mut next = part;
+    let registers = registers_in(phase, wel, stored);
+    next.stored = registers;
+    next.wel = wel;
+    next
+}
+
+// A part in a phase with a latch.
+pub fn settle(part: Part, phase: Phase, wel: bool) -> Part
+    ensures { λ r. ⌜ r ≡ settled part phase wel ⌝ }
+{
+    let stored = part.stored;
+    make(part, stored, phase, wel)
+}
+
+// An awake, unarmed part with WEL 0, for an idle phase.
+pub fn fresh_part(blocks: u16, identity: Identity, stored: Stored) -> Part
+    ensures { λ r. ⌜ r ≡ freshPart blocks identity stored ⌝ }
+{
+    let registers = registers_in(Phase::Idle, false, stored);
+    Part {
         blocks: blocks,
         identity: identity,
-        status: stored_status + low_status,
-        function: stored_function + low_function,
-        wel: wel,
-        armed: armed,
-        asleep: asleep,
-        phase: phase,
+        stored: registers,
+        wel: false,
+        armed: false,
+        asleep: false,
     }
 }
 
-// A record with the stored bits of its registers, made as a head is.
-pub fn make(
-    blocks: u16,
-    identity: Identity,
-    status: u8,
-    function: u8,
-    wel: bool,
-    armed: bool,
-    asleep: bool,
-    phase: Phase,
-    page: [u8; 256],
-) -> Record
-    ensures { λ r. ⌜ r ≡ made blocks identity status function wel armed asleep phase page ⌝ }
+fn make_fresh(blocks: u16, identity: Identity, stored: Stored) -> Record
+    ensures { λ r. ⌜ r ≡ fresh blocks identity stored ⌝ }
 {
-    let head = make_head(
-        blocks,
-        identity,
-        status,
-        function,
-        wel,
-        armed,
-        asleep,
-        phase,
-    );
-    heads::join(head, page)
-}
-
-// An idle, awake, unarmed record with WEL 0 and page data zero.
-pub fn make_fresh(blocks: u16, identity: Identity, status: u8, function: u8) -> Record
-    ensures { λ r. ⌜ r ≡ fresh blocks identity status function ⌝ }
-{
-    let off = false;
-    make(
-        blocks,
-        identity,
-        status,
-        function,
-        off,
-        off,
-        off,
-        Phase::Idle,
-        no_data(),
-    )
-}
-
-fn is_idle(phase: Phase) -> bool
-    ensures { λ r. ⌜ r ≡ isIdle phase ⌝ }
-{
-    match phase {
-        Phase::Idle => true,
-        Phase::Busy(_) => false,
-        Phase::Suspended(_) => false,
+    let part = fresh_part(blocks, identity, stored);
+    let page = no_data();
+    Record {
+        part: part,
+        phase: Phase::Idle,
+        page: page,
     }
+}
+
+// The registers of zeros.
+pub fn no_stored() -> Stored
+    ensures { λ r. ⌜ r ≡ noStored ⌝ }
+{
+    Stored {
+        status: 0,
+        function: 0,
+    }
+}
+
+// The record of a refused power-up: an idle 1-block record, all else zero.
+pub fn zero_record() -> Record
+    ensures { λ r. ⌜ r ≡ zeroRecord ⌝ }
+{
+    let identity = Identity {
+        maker: 0,
+        kind: 0,
+        capacity: 0,
+        device: 0,
+    };
+    let stored = no_stored();
+    make_fresh(1, identity, stored)
 }
 
 fn latch_ok(phase: Phase, wel: bool) -> bool
@@ -155,27 +149,24 @@ fn latch_ok(phase: Phase, wel: bool) -> bool
     }
 }
 
-fn phase_ok(phase: Phase, blocks: u16, status: u8, function: u8) -> bool
-    ensures { λ r. ⌜ r ≡ phaseOk phase blocks status function ⌝ }
+fn phase_ok(phase: Phase, blocks: u16, stored: Stored) -> bool
+    ensures { λ r. ⌜ r ≡ phaseOk phase blocks stored ⌝ }
 {
     match phase {
         Phase::Idle => true,
-        Phase::Busy(op) => operations::operation_ok(op, blocks, status, function),
+        Phase::Busy(op) => operations::operation_ok(op, blocks, stored),
         Phase::Suspended(op) => {
             let halts = operations::can_suspend(op);
-            words::both(
-                halts,
-                operations::operation_ok(op, blocks, status, function),
-            )
+            words::both(halts, operations::operation_ok(op, blocks, stored))
         }
     }
 }
 
-fn bits_ok(phase: Phase, wel: bool, status: u8, function: u8) -> bool
-    ensures { λ r. ⌜ r ≡ bitsOk phase wel status function ⌝ }
+fn bits_ok(phase: Phase, wel: bool, stored: Stored) -> bool
+    ensures { λ r. ⌜ r ≡ bitsOk phase wel stored ⌝ }
 {
-    let latches = status % 4 == status_low(phase, wel);
-    let marks = function % 16 == function_low(phase);
+    let latches = stored.status % 4 == status_low(phase, wel);
+    let marks = stored.function % 16 == function_low(phase);
     words::both(latches, marks)
 }
 
@@ -189,78 +180,77 @@ fn kept_in(phase: Phase) -> usize
     }
 }
 
-fn page_ok(phase: Phase, page: &[u8]) -> bool
-    ensures { λ r. ⌜ r ≡ pageOk phase (now (page .entry)) ⌝ }
+// Whether a part in a phase is sound, whatever its page data.
+fn is_sound_part(part: Part, phase: Phase) -> bool
+    ensures { λ r. ⌜ r ≡ partSound part phase ⌝ }
 {
-    runs::zero_from(page, kept_in(phase))
-}
-
-// Whether a record in two, head and page data, is sound.
-pub fn is_sound_head(head: Head, page: &[u8]) -> bool
-    ensures { λ r. ⌜ r ≡ sound (whole head (now (page .entry))) ⌝ }
-{
-    let phase = head.phase;
-    let size = sizes::size_ok(head.blocks as u64);
-    let sleep = words::either(is_idle(phase), !head.asleep);
-    let latch = latch_ok(phase, head.wel);
-    let operation = phase_ok(phase, head.blocks, head.status, head.function);
-    let bits = bits_ok(phase, head.wel, head.status, head.function);
-    let kept = page_ok(phase, page);
+    let stored = part.stored;
+    let size = sizes::size_ok(part.blocks as u64);
+    let sleep = words::either(phases::is_idle(phase), !part.asleep);
+    let latch = latch_ok(phase, part.wel);
+    let operation = phase_ok(phase, part.blocks, stored);
+    let bits = bits_ok(phase, part.wel, stored);
     words::both(
         size,
-        words::both(
-            sleep,
-            words::both(latch, words::both(operation, words::both(bits, kept))),
-        ),
+        words::both(sleep, words::both(latch, words::both(operation, bits))),
     )
 }
 
-// Whether an idle record is sound: the tests that are not met by being idle.
-pub fn is_sound_idle(blocks: u16, wel: bool, status: u8, function: u8, page: &[u8]) -> bool
-    ensures { λ r. ⌜ r ≡ idleSound blocks wel status function (now (page .entry)) ⌝ }
+// Whether a record is sound that is an idle part with page data: the tests that are not met by being idle.
+fn is_sound_idle(part: Part, page: &[u8]) -> bool
+    ensures { λ r. ⌜ r ≡ sound (recordOf part Idle (now (page .entry))) ⌝ }
 {
-    let size = sizes::size_ok(blocks as u64);
-    let bits = bits_ok(Phase::Idle, wel, status, function);
-    let kept = page_ok(Phase::Idle, page);
+    let stored = part.stored;
+    let size = sizes::size_ok(part.blocks as u64);
+    let bits = bits_ok(Phase::Idle, part.wel, stored);
+    let kept = runs::zero_from(page, 0);
     words::both(size, words::both(bits, kept))
 }
 
-// Whether a record is sound.
-pub fn is_sound(part: Record) -> bool
-    ensures { λ r. ⌜ r ≡ sound part ⌝ }
+// Whether a record is sound that is a part in a phase with page data.
+pub fn is_sound_in(part: Part, phase: Phase, page: &[u8]) -> bool
+    ensures { λ r. ⌜ r ≡ sound (recordOf part phase (now (page .entry))) ⌝ }
 {
-    let page = part.page;
-    is_sound_head(heads::head_of(part), &page)
+    if phases::is_idle(phase) {
+        return is_sound_idle(part, page);
+    }
+    let whole = is_sound_part(part, phase);
+    let kept = runs::zero_from(page, kept_in(phase));
+    words::both(whole, kept)
 }
 
-fn power_up_number(blocks: u16, status: u8, function: u8) -> u8
-    ensures { λ r. ⌜ r ≡ powerUpNumber blocks status function ⌝ }
+// Whether a record is sound.
+pub fn is_sound(state: Record) -> bool
+    ensures { λ r. ⌜ r ≡ sound state ⌝ }
+{
+    let part = state.part;
+    let phase = state.phase;
+    let page = state.page;
+    is_sound_in(part, phase, &page)
+}
+
+fn power_up_number(blocks: u16, stored: Stored) -> u8
+    ensures { λ r. ⌜ r ≡ powerUpNumber blocks stored ⌝ }
 {
     let size = sizes::size_ok(blocks as u64);
-    let bits = bits_ok(Phase::Idle, false, status, function);
+    let bits = bits_ok(Phase::Idle, false, stored);
     words::number_or(size, 1, words::number_or(bits, 5, 0))
 }
 
 // Power-up: an idle, awake, unarmed record with WEL 0 and page data zero; refused, with 1 or 5, an idle
 // 1-block record, all else zero.
-pub fn power_up(blocks: u16, identity: Identity, status: u8, function: u8) -> PoweredUp
-    ensures { λ r. ⌜ r ≡ poweredUp blocks identity status function ⌝ }
+pub fn power_up(blocks: u16, identity: Identity, stored: Stored) -> PoweredUp
+    ensures { λ r. ⌜ r ≡ poweredUp blocks identity stored ⌝ }
 {
-    let number = power_up_number(blocks, status, function);
+    let number = power_up_number(blocks, stored);
     if number != 0 {
-        let none = Identity {
-            maker: 0,
-            kind: 0,
-            capacity: 0,
-            device: 0,
-        };
-        let next = make_fresh(1, none, 0, 0);
+        let none = zero_record();
         return PoweredUp {
-            next: next,
+            next: none,
             number: number,
         };
     }
-    let next = make_fresh(blocks, identity, status, function);
+    let next = make_fresh(blocks, identity, stored);
     PoweredUp {
         next: next,
         number: 0,

@@ -9,8 +9,8 @@ pub fn memory_number_or(blocks: u16, array: usize, rows: usize, rest: u8) -> u8
     ensures { λ r. ⌜ r ≡ (sizeNumber blocks array orElse rowsNumber rows orElse rest) ⌝ }
 {
     let known = sizes::size_ok(blocks as u64);
-    let same = array == (blocks as usize) * 65536;
+    let same = array == (blocks as usize) * types::BLOCK_BYTES;
     let size = words::both(known, same);
-    let row = rows == 1024;
+    let row = rows == types::ROWS_BYTES;
     words::number_or(size, 1, words::number_or(row, 2, rest))
 }

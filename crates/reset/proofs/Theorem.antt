@@ -4,16 +4,16 @@ use mathlib.Core.Path.{_≡_, refl, sym, ap, _∙_}
 use mathlib.Core.Bool.{Bool, true, false}
 use mathlib.Core.List.{List, [], _∷_, _++_, append-nil}
 use Rattle.types.specs.declared.Identity.{Identity}
+use Rattle.types.specs.declared.Stored.{Stored}
 use Rattle.types.specs.declared.PoweredUp.{PoweredUp}
 use Rattle.types.specs.declared.Answer.{Answer}
 use Rattle.types.specs.declared.Record.{Record}
 use Rattle.paper.specs.Operations.{Touch}
-use Rattle.paper.specs.Records.{marked}
-use Rattle.paper.specs.Reset.{wasReset}
+use Rattle.paper.specs.Records.{marked, fresh}
 use Rattle.paper.specs.Soundness.{sound}
 use Rattle.paper.specs.Calls.{poweredUp}
 use Rattle.paper.specs.History.{Call, recordAfterCall, recordAfterCalls, history}
-use Rattle.paper.proofs.Soundness.{sound-parts}
+use Rattle.paper.proofs.Soundness.{recordOf, sound-parts}
 use Rattle.paper.proofs.Kept.{power-up-sound, powered-fresh}
 use Rattle.paper.proofs.CallKept.{calls-sound, calls-size}
 use Rattle.reset.specs.Closing.{wake, arm, reset, allAside, untilArmed, untilReset, closing, poweredAs, answerToReset, FreshAfter}
@@ -23,8 +23,8 @@ use Rattle.reset.proofs.Steps.{woken, armed-now, reset-now, powered-as}
 -- a part that is awake and armed, and that 99h may be sent to
 record Armed (q : Record) : Type 0 where
   is-sound : sound q ≡ true
-  awake : q .asleep ≡ false
-  is-armed : q .armed ≡ true
+  awake : q .part .asleep ≡ false
+  is-armed : q .part .armed ≡ true
 
 module _ (w1 w2 w3 : Bool) (b c : List Call) (p : Record) where
   abbrev atArm : Record
@@ -32,6 +32,10 @@ module _ (w1 w2 w3 : Bool) (b c : List Call) (p : Record) where
 
   abbrev atReset : Record
   atReset = recordAfterCalls (untilReset w1 w2 b c) p
+
+  -- the part freshly powered, with the size, identity and stored register bits that it has just before 99h
+  abbrev freshened : Record
+  freshened = fresh (atReset .part .blocks) (atReset .part .identity) (atReset .part .stored)
 
   armed-here : recordAfterCalls (untilArmed w1 w2 b) p ≡ recordAfterCall (arm w2) atArm
   armed-here = calls-append b (arm w2 ∷ []) (recordAfterCall (wake w1) p)
@@ -56,10 +60,10 @@ module _ (w1 w2 w3 : Bool) (b c : List Call) (p : Record) where
     arm-sound : sound atArm ≡ true
     arm-sound = calls-sound (wake w1 ∷ b) p s
 
-    arm-awake : atArm .asleep ≡ false
+    arm-awake : atArm .part .asleep ≡ false
     arm-awake = all-aside-alike b (recordAfterCall (wake w1) p) hb .asleep ∙ woken p s w1
 
-    armed-as : recordAfterCalls (untilArmed w1 w2 b) p ≡ marked atArm true
+    armed-as : recordAfterCalls (untilArmed w1 w2 b) p ≡ recordOf (marked (atArm .part) true) (atArm .phase) (atArm .page)
     armed-as = armed-here ∙ armed-now atArm arm-sound w2 arm-awake
 
     ready : Armed atReset
@@ -67,22 +71,22 @@ module _ (w1 w2 w3 : Bool) (b c : List Call) (p : Record) where
         let l = all-aside-alike c (recordAfterCalls (untilArmed w1 w2 b) p) hc in
         record {
           is-sound = calls-sound (untilReset w1 w2 b c) p s;
-          awake = ap (λ (q : Record). q .asleep) reset-here ∙ l .asleep ∙ ap (λ (q : Record). q .asleep) armed-as ∙ arm-awake;
-          is-armed = ap (λ (q : Record). q .armed) reset-here ∙ l .armed ∙ ap (λ (q : Record). q .armed) armed-as;
+          awake = ap (λ (q : Record). q .part .asleep) reset-here ∙ l .asleep ∙ ap (λ (q : Record). q .part .asleep) armed-as ∙ arm-awake;
+          is-armed = ap (λ (q : Record). q .part .armed) reset-here ∙ l .armed ∙ ap (λ (q : Record). q .part .armed) armed-as;
         }
 
-    answer : answerToReset w3 atReset ≡ record { next = wasReset atReset; number = 0; first = 1 }
+    answer : answerToReset w3 atReset ≡ record { next = freshened; number = 0; first = 1 }
     answer = reset-now atReset (ready .is-sound) w3 (ready .awake) (ready .is-armed)
 
-    powered : (n : ℕ) (id : Identity) → p .blocks ≡ n → p .identity ≡ id → poweredAs n id atReset ≡ record { next = wasReset atReset; number = 0 }
+    powered : (n : ℕ) (id : Identity) → p .part .blocks ≡ n → p .part .identity ≡ id → poweredAs n id atReset ≡ record { next = freshened; number = 0 }
     powered n id en ei =
-        let m : atReset .blocks ≡ n = calls-size (untilReset w1 w2 b c) p ∙ en in
-        let i : atReset .identity ≡ id = calls-identity (untilReset w1 w2 b c) p ∙ ei in
+        let m : atReset .part .blocks ≡ n = calls-size (untilReset w1 w2 b c) p ∙ en in
+        let i : atReset .part .identity ≡ id = calls-identity (untilReset w1 w2 b c) p ∙ ei in
         ap (λ (k : ℕ). poweredAs k id atReset) (sym m)
-        ∙ ap (λ (j : Identity). poweredAs (atReset .blocks) j atReset) (sym i)
-        ∙ powered-as (atReset .blocks) (atReset .identity) (atReset .status) (atReset .function) (sound-parts atReset (ready .is-sound) .size)
+        ∙ ap (λ (j : Identity). poweredAs (atReset .part .blocks) j atReset) (sym i)
+        ∙ powered-as (atReset .part .blocks) (atReset .part .identity) (atReset .part .stored) (sound-parts atReset (ready .is-sound) .size)
 
-    fresh-as : (n : ℕ) (id : Identity) → p .blocks ≡ n → p .identity ≡ id → FreshAfter n id w1 w2 w3 b c p
+    fresh-as : (n : ℕ) (id : Identity) → p .part .blocks ≡ n → p .part .identity ≡ id → FreshAfter n id w1 w2 w3 b c p
     fresh-as n id en ei =
         record {
           executed = ap (λ (t : Answer). t .number) answer;
@@ -94,18 +98,18 @@ module _ (w1 w2 w3 : Bool) (b c : List Call) (p : Record) where
 -- from every sound record, whatever its phase, asleep or awake
 pub wake-arm-reset : (p : Record) (w1 w2 w3 : Bool) (b c : List Call) → sound p ≡ true
     → allAside b (recordAfterCall (wake w1) p) ≡ true → allAside c (recordAfterCalls (untilArmed w1 w2 b) p) ≡ true
-    → FreshAfter (p .blocks) (p .identity) w1 w2 w3 b c p
-wake-arm-reset p w1 w2 w3 b c s hb hc = fresh-as w1 w2 w3 b c p s hb hc (p .blocks) (p .identity) refl refl
+    → FreshAfter (p .part .blocks) (p .part .identity) w1 w2 w3 b c p
+wake-arm-reset p w1 w2 w3 b c s hb hc = fresh-as w1 w2 w3 b c p s hb hc (p .part .blocks) (p .part .identity) refl refl
 
 -- from a power-up that was not refused on
-module _ (n : ℕ) (id : Identity) (status function : ℕ) where
+module _ (n : ℕ) (id : Identity) (g : Stored) where
   -- after every list of calls a
-  pub reset-after-history : (a : List Call) (w1 w2 w3 : Bool) (b c : List Call) → poweredUp n id status function .number ≡ 0
-      → let p = recordAfterCalls a (poweredUp n id status function .next) in
+  pub reset-after-history : (a : List Call) (w1 w2 w3 : Bool) (b c : List Call) → poweredUp n id g .number ≡ 0
+      → let p = recordAfterCalls a (poweredUp n id g .next) in
       allAside b (recordAfterCall (wake w1) p) ≡ true → allAside c (recordAfterCalls (untilArmed w1 w2 b) p) ≡ true
       → FreshAfter n id w1 w2 w3 b c p
   reset-after-history a w1 w2 w3 b c h hb hc =
-      let o = poweredUp n id status function .next in
-      fresh-as w1 w2 w3 b c (recordAfterCalls a o) (calls-sound a o (power-up-sound n id status function)) hb hc n id
-      (calls-size a o ∙ ap (λ (q : Record). q .blocks) (powered-fresh n id status function h))
-      (calls-identity a o ∙ ap (λ (q : Record). q .identity) (powered-fresh n id status function h))
+      let o = poweredUp n id g .next in
+      fresh-as w1 w2 w3 b c (recordAfterCalls a o) (calls-sound a o (power-up-sound n id g)) hb hc n id
+      (calls-size a o ∙ ap (λ (q : Record). q .part .blocks) (powered-fresh n id g h))
+      (calls-identity a o ∙ ap (λ (q : Record). q .part .identity) (powered-fresh n id g h))

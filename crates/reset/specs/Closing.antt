@@ -5,12 +5,13 @@ use mathlib.Core.Bool.{Bool, true}
 use mathlib.Core.List.{List, [], _∷_, _++_}
 use Rattle.types.specs.declared.Register.the-variants.{Status, Function}
 use Rattle.types.specs.declared.Identity.{Identity}
+use Rattle.types.specs.declared.Stored.{Stored}
 use Rattle.types.specs.declared.PoweredUp.{PoweredUp}
 use Rattle.types.specs.declared.Answer.{Answer}
 use Rattle.types.specs.declared.Record.{Record}
 use Rattle.words.specs.Logic.{_and_}
 use Rattle.paper.specs.Sizes.{arrayBytes, rowsBytes}
-use Rattle.paper.specs.Registers.{held}
+use Rattle.paper.specs.Registers.{held, withBytes}
 use Rattle.paper.specs.Calls.{poweredUp, transacted}
 use Rattle.paper.specs.History.{Call, transaction, recordAfterCall, recordAfterCalls, history, standsAside}
 
@@ -41,13 +42,17 @@ untilReset w1 w2 b c = wake w1 ∷ (b ++ (arm w2 ∷ c))
 abbrev pub closing : Bool → Bool → Bool → List Call → List Call → List Call
 closing w1 w2 w3 b c = wake w1 ∷ (b ++ (arm w2 ∷ (c ++ (reset w3 ∷ []))))
 
+-- the stored bits of registers, without those that other fields define
+abbrev pub storedBits : Stored → Stored
+storedBits s = withBytes (held Status (s .status)) (held Function (s .function)) s
+
 -- a part of n blocks and an identity, powered up with the stored register bits of the record q
 abbrev pub poweredAs : ℕ → Identity → Record → PoweredUp
-poweredAs n id q = poweredUp n id (held Status (q .status)) (held Function (q .function))
+poweredAs n id q = poweredUp n id (storedBits (q .part .stored))
 
 -- what a record answers to 99h
 abbrev pub answerToReset : Bool → Record → Answer
-answerToReset wp q = transacted q (arrayBytes (q .blocks)) rowsBytes wp (0x99 ∷ []) 1
+answerToReset wp q = transacted q (arrayBytes (q .part .blocks)) rowsBytes wp (0x99 ∷ []) 1
 
 -- after the calls that close, a part that had the record p is one of n blocks and that identity, freshly powered with its stored register bits just before 99h:
 -- 99h is executed, the power-up is not refused, the records are equal, and no call but those of b and c reaches a stored byte

@@ -1,6 +1,6 @@
 // The command table.
 ghost use mathlib.Core.Path.{_≡_};
-ghost use Rattle.paper.specs.Table.{line, columns, lengthOk, drives};
+ghost use Rattle.paper.specs.Table.{line, columns, takenAsleep, takenBusy, takenSuspended, lengthOk, drives};
 ghost use Rattle.paper.specs.Reads.{firstDriven};
 use types::Columns;
 use types::Command;
@@ -10,35 +10,41 @@ use types::EraseUnit::*;
 use types::Length;
 use types::Length::*;
 use types::Memory::*;
+use types::Named;
+use types::Named::*;
 use types::Register::*;
 use types::Source;
 use types::Source::*;
+use types::Taken;
+use types::Taken::*;
+use types::Wanted;
+use types::Wanted::*;
 
-// The entries of the table's columns that are tests.
-const YES: bool = true;
+// The entries of the column for WEL.
+const WEL: bool = true;
 
 const NO: bool = false;
 
-// A line of the table: the length, whether WEL is needed, whether the command is taken while the part
-// is asleep, busy or suspended, what it drives and from which place, and what it does.
+// A line of the table: the length, whether WEL is needed, when the command is taken, what its address names, what it
+// wants of the state, what it drives and from which place, and what it does.
 fn line(
     length: Length,
     wel: bool,
-    asleep: bool,
-    busy: bool,
-    suspended: bool,
+    taken: Taken,
+    named: Named,
+    wanted: Wanted,
     source: Source,
     from: usize,
     effect: Effect,
 ) -> Columns
-    ensures { λ r. ⌜ r ≡ line length wel asleep busy suspended source from effect ⌝ }
+    ensures { λ r. ⌜ r ≡ line length wel taken named wanted source from effect ⌝ }
 {
     Columns {
         length: length,
         wel: wel,
-        asleep: asleep,
-        busy: busy,
-        suspended: suspended,
+        taken: taken,
+        named: named,
+        wanted: wanted,
         source: source,
         from: from,
         effect: effect,
@@ -50,30 +56,69 @@ pub fn columns_of(command: Command) -> Columns
     ensures { λ r. ⌜ r ≡ columns command ⌝ }
 {
     match command {
-        Command::Read => line(AtLeast(4), NO, NO, NO, YES, ArrayBytes, 4, Looks),
-        Command::FastRead => line(AtLeast(5), NO, NO, NO, YES, ArrayBytes, 5, Looks),
-        Command::ReadStatus => line(AtLeast(1), NO, NO, YES, YES, StatusByte, 1, Looks),
-        Command::ReadFunction => line(AtLeast(1), NO, NO, YES, YES, FunctionByte, 1, Looks),
-        Command::ReadIdentity => line(AtLeast(1), NO, NO, NO, YES, IdentityBytes, 1, Looks),
-        Command::ReadMakerDevice => line(AtLeast(4), NO, NO, NO, YES, MakerDevice, 4, Looks),
-        Command::Wake => line(AtLeast(1), NO, YES, NO, YES, DeviceByte, 4, Wakes),
-        Command::ReadRow => line(AtLeast(5), NO, NO, NO, YES, RowBytes, 5, Looks),
-        Command::WriteEnable => line(Exactly(1), NO, NO, NO, NO, Nothing, 0, Enables),
-        Command::WriteDisable => line(Exactly(1), NO, NO, NO, NO, Nothing, 0, Disables),
-        Command::WriteStatus => line(Exactly(2), YES, NO, NO, NO, Nothing, 0, Writes(Status)),
-        Command::WriteFunction => line(Exactly(2), YES, NO, NO, NO, Nothing, 0, Writes(Function)),
-        Command::PageProgram => line(AtLeast(5), YES, NO, NO, NO, Nothing, 0, Programs(Array)),
-        Command::SectorErase => line(Exactly(4), YES, NO, NO, NO, Nothing, 0, Erases(Sector)),
-        Command::BlockErase32 => line(Exactly(4), YES, NO, NO, NO, Nothing, 0, Erases(Block32)),
-        Command::BlockErase64 => line(Exactly(4), YES, NO, NO, NO, Nothing, 0, Erases(Block64)),
-        Command::ChipErase => line(Exactly(1), YES, NO, NO, NO, Nothing, 0, Erases(Chip)),
-        Command::Suspend => line(Exactly(1), NO, NO, YES, NO, Nothing, 0, Suspends),
-        Command::Resume => line(Exactly(1), NO, NO, NO, YES, Nothing, 0, Resumes),
-        Command::Sleep => line(Exactly(1), NO, NO, NO, NO, Nothing, 0, Sleeps),
-        Command::ArmReset => line(Exactly(1), NO, NO, YES, YES, Nothing, 0, Arms),
-        Command::Reset => line(Exactly(1), NO, NO, YES, YES, Nothing, 0, Resets),
-        Command::RowErase => line(Exactly(4), YES, NO, NO, NO, Nothing, 0, Erases(Row)),
-        Command::RowProgram => line(AtLeast(5), YES, NO, NO, NO, Nothing, 0, Programs(Rows)),
+        Command::Read => line(AtLeast(4), NO, OrHalted, Place, Any, ArrayBytes, 4, Looks),
+        Command::FastRead => line(AtLeast(5), NO, OrHalted, Place, Any, ArrayBytes, 5, Looks),
+        Command::ReadStatus => line(AtLeast(1), NO, Awake, Bare, Any, StatusByte, 1, Looks),
+        Command::ReadFunction => line(AtLeast(1), NO, Awake, Bare, Any, FunctionByte, 1, Looks),
+        Command::ReadIdentity => line(AtLeast(1), NO, OrHalted, Bare, Any, IdentityBytes, 1, Looks),
+        Command::ReadMakerDevice => line(AtLeast(4), NO, OrHalted, Bare, Any, MakerPair, 4, Looks),
+        Command::Wake => line(AtLeast(1), NO, OrAsleep, Bare, Any, DeviceByte, 4, Wakes),
+        Command::ReadRow => line(AtLeast(5), NO, OrHalted, InRow, Any, RowBytes, 5, Looks),
+        Command::WriteEnable => line(Exactly(1), NO, Rest, Bare, Any, None, 0, Enables),
+        Command::WriteDisable => line(Exactly(1), NO, Rest, Bare, Any, None, 0, Disables),
+        Command::WriteStatus => line(Exactly(2), WEL, Rest, Bare, Any, None, 0, Writes(Status)),
+        Command::WriteFunction => line(Exactly(2), WEL, Rest, Bare, Any, None, 0, Writes(Function)),
+        Command::PageProgram => line(AtLeast(5), WEL, Rest, Place, Any, None, 0, Programs(Array)),
+        Command::SectorErase => line(Exactly(4), WEL, Rest, Place, Any, None, 0, Erases(Sector)),
+        Command::BlockErase32 => line(Exactly(4), WEL, Rest, Place, Any, None, 0, Erases(Block32)),
+        Command::BlockErase64 => line(Exactly(4), WEL, Rest, Place, Any, None, 0, Erases(Block64)),
+        Command::ChipErase => line(Exactly(1), WEL, Rest, Bare, Any, None, 0, Erases(Chip)),
+        Command::Suspend => line(Exactly(1), NO, OrBusy, Bare, Running, None, 0, Suspends),
+        Command::Resume => line(Exactly(1), NO, OrHalted, Bare, Halted, None, 0, Resumes),
+        Command::Sleep => line(Exactly(1), NO, Rest, Bare, Any, None, 0, Sleeps),
+        Command::ArmReset => line(Exactly(1), NO, Awake, Bare, Any, None, 0, Arms),
+        Command::Reset => line(Exactly(1), NO, Awake, Bare, Armed, None, 0, Resets),
+        Command::RowErase => line(Exactly(4), WEL, Rest, InRow, Any, None, 0, Erases(Row)),
+        Command::RowProgram => line(AtLeast(5), WEL, Rest, InRow, Any, None, 0, Programs(Rows)),
+    }
+}
+
+// Whether a command is taken while the part is asleep.
+pub fn taken_asleep(taken: Taken) -> bool
+    ensures { λ r. ⌜ r ≡ takenAsleep taken ⌝ }
+{
+    match taken {
+        Taken::Rest => false,
+        Taken::OrHalted => false,
+        Taken::OrBusy => false,
+        Taken::Awake => false,
+        Taken::OrAsleep => true,
+    }
+}
+
+// Whether it is taken while the part is busy.
+pub fn taken_busy(taken: Taken) -> bool
+    ensures { λ r. ⌜ r ≡ takenBusy taken ⌝ }
+{
+    match taken {
+        Taken::Rest => false,
+        Taken::OrHalted => false,
+        Taken::OrBusy => true,
+        Taken::Awake => true,
+        Taken::OrAsleep => false,
+    }
+}
+
+// Whether it is taken while the part is suspended.
+pub fn taken_suspended(taken: Taken) -> bool
+    ensures { λ r. ⌜ r ≡ takenSuspended taken ⌝ }
+{
+    match taken {
+        Taken::Rest => false,
+        Taken::OrHalted => true,
+        Taken::OrBusy => false,
+        Taken::Awake => true,
+        Taken::OrAsleep => true,
     }
 }
 
@@ -92,13 +137,13 @@ pub fn drives_any(source: Source) -> bool
     ensures { λ r. ⌜ r ≡ drives source ⌝ }
 {
     match source {
-        Source::Nothing => false,
+        Source::None => false,
         Source::ArrayBytes => true,
         Source::RowBytes => true,
         Source::StatusByte => true,
         Source::FunctionByte => true,
         Source::IdentityBytes => true,
-        Source::MakerDevice => true,
+        Source::MakerPair => true,
         Source::DeviceByte => true,
     }
 }

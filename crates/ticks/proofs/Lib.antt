@@ -1,2 +1,3 @@
 pub mod Laws
+pub mod Waited
 pub mod Tight

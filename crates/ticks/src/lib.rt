@@ -1,27 +1,33 @@
 // Ticks. A call works out how many of its ticks find something to do, does those in one run over the
-// memory that the operation is of, and makes the next record once.
+// memory that the operation is of, and tells once what becomes of the record.
 ghost use mathlib.Core.Path.{_≡_};
-ghost use mathlib.Core.Bool.{true, cond};
+ghost use mathlib.Core.Bool.{true};
 ghost use Prim.Native.Nat.{_+_, _*_, _≤_};
-ghost use lib.Dec.{eqb};
 ghost use lib.ListN.{length};
 ghost use Rattle.types.specs.declared.Memory.the-variants.{Array, Rows};
-ghost use Rattle.types.specs.declared.Phase.the-variants.{Busy};
+ghost use Rattle.types.specs.declared.Work.the-variants.{At};
 ghost use Rattle.paper.specs.Sizes.{arrayBytes, rowsBytes};
-ghost use Rattle.paper.specs.Registers.{statusWritten, functionWritten, statusAfter, functionAfter};
-ghost use Rattle.paper.specs.Records.{goingOn};
+ghost use Rattle.paper.specs.Registers.{registerWritten, storedAfter};
+ghost use Rattle.paper.specs.Phases.{running};
 ghost use Rattle.paper.specs.Operations.{ticksDone, advancedBy};
 ghost use Rattle.paper.specs.Soundness.{sound};
-ghost use Rattle.paper.specs.Ticks.{finished, recordAfter, memoryAfter, workingTicks, ran};
-ghost use Rattle.paper.specs.Numbers.{tickNumber};
+ghost use Rattle.paper.specs.Ticks.{finishedPart, memoryAfter, workingTicks, ran};
 ghost use Rattle.paper.specs.Calls.{ticked, tickedMemory};
+ghost use Rattle.paper.proofs.Soundness.{recordOf};
 ghost use Rattle.ticks.specs.Runs.{pagesErased, bytesNarrowed, Within};
+ghost use Rattle.ticks.specs.Waited.{ticksLeft, changeAfter, tickChange, numberIn, waitedOf, waitedMemory};
+use types::Change;
+use types::Data;
 use types::Memory;
 use types::Operation;
+use types::Part;
 use types::Phase;
 use types::Record;
 use types::Register;
+use types::Stored;
 use types::Ticked;
+use types::Waited;
+use types::Work;
 
 // So many pages from a place on set to FFh, lowest first.
 fn erase_pages(memory: &mut [u8], from: usize, count: usize)
@@ -30,35 +36,37 @@ fn erase_pages(memory: &mut [u8], from: usize, count: usize)
 {
     let mut i = 0;
     while i < count {
-        pages::erase_page(memory, from + i * 256);
+        pages::erase_page(memory, from + i * types::PAGE_BYTES);
         i += 1;
     }
 }
 
-// So many kept bytes, from byte done on, written in order of arrival to their places in the page at base.
-fn narrow_bytes(
-    memory: &mut [u8],
-    base: usize,
-    start: u8,
-    done: usize,
-    kept: &[u8; 256],
-    count: usize,
-)
-    requires { ⌜ (done + count ≤ 256) × (base + 256 ≤ length (now memory)) ⌝ }
-    ensures { λ _. ⌜ now (memory .exit) ≡ bytesNarrowed count base start done (now (kept .entry)) (now (memory .entry)) ⌝ }
+// So many kept bytes, from byte done on, written in order of arrival to their places in a page.
+fn narrow_page(page: &mut [u8], start: u8, done: usize, kept: &[u8], count: usize)
+    requires { ⌜ (done + count ≤ 256) × (length (now kept) ≡ 256) × (length (now page) ≡ 256) ⌝ }
+    ensures { λ _. ⌜ now (page .exit) ≡ bytesNarrowed count 0 start done (now (kept .entry)) (now (page .entry)) ⌝ }
 {
     let mut i = 0;
     while i < count {
         let k = done + i;
-        let place = base + (pages::page_place(start, k) as usize);
-        pages::narrow(memory, place, kept[k]);
+        let place = pages::page_place(start, k) as usize;
+        page[place] = page[place] & kept[k];
         i += 1;
     }
 }
 
+// The same to the page at a base of a memory, which is lent on.
+fn narrow_bytes(memory: &mut [u8], base: usize, start: u8, done: usize, kept: &[u8], count: usize)
+    requires { ⌜ (done + count ≤ 256) × (length (now kept) ≡ 256) × (base + 256 ≤ length (now memory)) ⌝ }
+    ensures { λ _. ⌜ now (memory .exit) ≡ bytesNarrowed count base start done (now (kept .entry)) (now (memory .entry)) ⌝ }
+{
+    let end = base + types::PAGE_BYTES;
+    narrow_page(&mut memory[base..end], start, done, kept, count);
+}
+
 // So many ticks of an operation, on the memory that it is of.
-fn touch(op: Operation, count: usize, kept: &[u8; 256], array: &mut [u8], rows: &mut [u8])
-    requires { ⌜ Within op count (length (now array)) (length (now rows)) ⌝ }
+fn touch(op: Operation, count: usize, kept: &[u8], array: &mut [u8], rows: &mut [u8])
+    requires { ⌜ (length (now kept) ≡ 256) × Within op count (length (now array)) (length (now rows)) ⌝ }
     ensures { λ _. ⌜ (now (array .exit) ≡ ran Array count op (now (kept .entry)) (now (array .entry))) × (now (rows .exit) ≡ ran Rows count op (now (kept .entry)) (now (rows .entry))) ⌝ }
 {
     match op {
@@ -75,70 +83,51 @@ fn touch(op: Operation, count: usize, kept: &[u8; 256], array: &mut [u8], rows: 
         Operation::Erase { unit, base, done } => {
             let memory = pages::unit_memory(unit);
             match memory {
-                Memory::Array => erase_pages(array, base + done * 256, count),
-                Memory::Rows => erase_pages(rows, base + done * 256, count),
+                Memory::Array => erase_pages(array, base + done * types::PAGE_BYTES, count),
+                Memory::Rows => erase_pages(rows, base + done * types::PAGE_BYTES, count),
             }
         }
         Operation::Write { .. } => {}
     }
 }
 
-fn status_written(register: Register, value: u8, status: u8) -> u8
-    ensures { λ r. ⌜ r ≡ statusWritten register value status ⌝ }
+fn register_written(register: Register, value: u8, stored: Stored) -> Stored
+    ensures { λ r. ⌜ r ≡ registerWritten register value stored ⌝ }
 {
+    let mut next = stored;
     match register {
-        Register::Status => value,
-        Register::Function => status,
+        Register::Status => {
+            next.status = value;
+            next
+        }
+        Register::Function => {
+            next.function = (stored.function / 16 | value / 16) * 16;
+            next
+        }
     }
 }
 
-fn function_written(register: Register, value: u8, function: u8) -> u8
-    ensures { λ r. ⌜ r ≡ functionWritten register value function ⌝ }
-{
-    match register {
-        Register::Status => function,
-        Register::Function => (function / 16 | value / 16) * 16,
-    }
-}
-
-fn status_after(op: Operation, status: u8) -> u8
-    ensures { λ r. ⌜ r ≡ statusAfter op status ⌝ }
+// The registers after an operation's last tick.
+fn stored_after(op: Operation, stored: Stored) -> Stored
+    ensures { λ r. ⌜ r ≡ storedAfter op stored ⌝ }
 {
     match op {
-        Operation::Program { .. } => status,
-        Operation::Erase { .. } => status,
-        Operation::Write { register, value } => status_written(register, value, status),
+        Operation::Program { .. } => stored,
+        Operation::Erase { .. } => stored,
+        Operation::Write { register, value } => register_written(register, value, stored),
     }
 }
 
-fn function_after(op: Operation, function: u8) -> u8
-    ensures { λ r. ⌜ r ≡ functionAfter op function ⌝ }
+// The part after an operation's last tick.
+fn finish(part: Part, phase: Phase, op: Operation) -> Part
+    ensures { λ r. ⌜ r ≡ finishedPart part phase op ⌝ }
 {
-    match op {
-        Operation::Program { .. } => function,
-        Operation::Erase { .. } => function,
-        Operation::Write { register, value } => function_written(register, value, function),
-    }
-}
-
-// The record after an operation's last tick.
-fn finish(part: Record, op: Operation) -> Record
-    ensures { λ r. ⌜ r ≡ finished part op ⌝ }
-{
-    let identity = part.identity;
-    let status = status_after(op, part.status);
-    let function = function_after(op, part.function);
-    let page = record::no_data();
+    let stored = part.stored;
     record::make(
-        part.blocks,
-        identity,
-        status,
-        function,
+        part,
+        stored_after(op, stored),
+        phases::rest_of(phase),
         false,
-        part.armed,
-        part.asleep,
-        Phase::Idle,
-        page,
     )
 }
 
@@ -173,97 +162,117 @@ fn advance(op: Operation, count: usize) -> Operation
     }
 }
 
-// A busy part the same but for its operation.
-fn go_on(part: Record, op: Operation) -> Record
-    ensures { λ r. ⌜ r ≡ goingOn part op ⌝ }
-{
-    let identity = part.identity;
-    let page = part.page;
-    Record {
-        blocks: part.blocks,
-        identity: identity,
-        status: part.status,
-        function: part.function,
-        wel: part.wel,
-        armed: part.armed,
-        asleep: part.asleep,
-        phase: Phase::Busy(op),
-        page: page,
-    }
-}
-
-// The record after so many ticks of those that are left.
-fn next_record(part: Record, op: Operation, count: usize, left: usize) -> Record
-    requires { ⌜ ticksDone op + count ≤ 16777216 ⌝ }
-    ensures { λ r. ⌜ r ≡ cond (eqb count left) (finished part op) (goingOn part (advancedBy count op)) ⌝ }
+// What so many ticks of an operation change, of those that are left.
+fn change_after(count: usize, left: usize, op: Operation, part: Part, phase: Phase) -> Change
+    requires { ⌜ (ticksDone op + count ≤ 16777216) × (left ≡ ticksLeft op (part .blocks)) ⌝ }
+    ensures { λ r. ⌜ r ≡ changeAfter count op part phase ⌝ }
 {
     if count == left {
-        return finish(part, op);
+        let last = finish(part, phase, op);
+        return Change::Became(last, phases::rest_of(phase), Data::Zero);
     }
-    go_on(part, advance(op, count))
+    let next = phases::going_on(phase, advance(op, count));
+    Change::Became(part, next, Data::Kept)
 }
 
-// Ticks of a part that is busy with an operation.
-fn work(part: Record, op: Operation, array: &mut [u8], rows: &mut [u8], ticks: usize) -> Ticked
-    requires { ⌜ (part .phase ≡ Busy op) × (sound part ≡ true) × (length (now array) ≡ arrayBytes (part .blocks)) × (length (now rows) ≡ rowsBytes) ⌝ }
-    ensures { λ r. ⌜ (r ≡ record { next = recordAfter ticks part; number = 0; done = workingTicks ticks part }) × (now (array .exit) ≡ memoryAfter Array ticks part (now (array .entry))) × (now (rows .exit) ≡ memoryAfter Rows ticks part (now (rows .entry))) ⌝ }
+// Ticks of a part on which an operation runs.
+fn work(
+    op: Operation,
+    part: Part,
+    phase: Phase,
+    page: &[u8],
+    array: &mut [u8],
+    rows: &mut [u8],
+    ticks: usize,
+) -> Waited
+    requires { ⌜ (running phase ≡ At op) × (sound (recordOf part phase (now page)) ≡ true) × (length (now page) ≡ 256) × (length (now array) ≡ arrayBytes (part .blocks)) × (length (now rows) ≡ rowsBytes) ⌝ }
+    ensures { λ r. ⌜ (r ≡ record { change = tickChange ticks (At op) part phase; number = 0; done = workingTicks ticks (recordOf part phase (now (page .entry))) }) × (now (array .exit) ≡ memoryAfter Array ticks (recordOf part phase (now (page .entry))) (now (array .entry))) × (now (rows .exit) ≡ memoryAfter Rows ticks (recordOf part phase (now (page .entry))) (now (rows .entry))) ⌝ }
 {
-    let page = part.page;
     let left = operations::ticks_in_all(op, part.blocks) - operations::ticks_done(op);
     let count = words::lesser(ticks, left);
-    touch(op, count, &page, array, rows);
-    let next = next_record(part, op, count, left);
-    Ticked {
-        next: next,
+    touch(op, count, page, array, rows);
+    let change = change_after(count, left, op, part, phase);
+    Waited {
+        change: change,
         number: 0,
         done: count,
     }
 }
 
 // Ticks of a sound part on its own memory.
-fn run(part: Record, array: &mut [u8], rows: &mut [u8], ticks: usize) -> Ticked
-    requires { ⌜ (sound part ≡ true) × (length (now array) ≡ arrayBytes (part .blocks)) × (length (now rows) ≡ rowsBytes) ⌝ }
-    ensures { λ r. ⌜ (r ≡ record { next = recordAfter ticks part; number = 0; done = workingTicks ticks part }) × (now (array .exit) ≡ memoryAfter Array ticks part (now (array .entry))) × (now (rows .exit) ≡ memoryAfter Rows ticks part (now (rows .entry))) ⌝ }
+fn run(
+    part: Part,
+    phase: Phase,
+    page: &[u8],
+    array: &mut [u8],
+    rows: &mut [u8],
+    ticks: usize,
+) -> Waited
+    requires { ⌜ (sound (recordOf part phase (now page)) ≡ true) × (length (now page) ≡ 256) × (length (now array) ≡ arrayBytes (part .blocks)) × (length (now rows) ≡ rowsBytes) ⌝ }
+    ensures { λ r. ⌜ (r ≡ record { change = tickChange ticks (running phase) part phase; number = 0; done = workingTicks ticks (recordOf part phase (now (page .entry))) }) × (now (array .exit) ≡ memoryAfter Array ticks (recordOf part phase (now (page .entry))) (now (array .entry))) × (now (rows .exit) ≡ memoryAfter Rows ticks (recordOf part phase (now (page .entry))) (now (rows .entry))) ⌝ }
 {
-    let phase = part.phase;
-    match phase {
-        Phase::Idle => Ticked {
-            next: part,
+    let running = phases::running(phase);
+    match running {
+        Work::NoWork => Waited {
+            change: Change::Same,
             number: 0,
             done: 0,
         },
-        Phase::Busy(op) => work(part, op, array, rows, ticks),
-        Phase::Suspended(_) => Ticked {
-            next: part,
-            number: 0,
-            done: 0,
-        },
+        Work::At(op) => work(op, part, phase, page, array, rows, ticks),
     }
 }
 
-fn tick_number(part: Record, array: usize, rows: usize, ticks: usize) -> u8
-    ensures { λ r. ⌜ r ≡ tickNumber part array rows ticks ⌝ }
+fn tick_number(part: Part, phase: Phase, page: &[u8], array: usize, rows: usize, ticks: usize) -> u8
+    ensures { λ r. ⌜ r ≡ numberIn part phase (now (page .entry)) array rows ticks ⌝ }
 {
-    let sound = record::is_sound(part);
-    let few = ticks <= 4096;
+    let whole = page.len() == types::PAGE_BYTES;
+    let sound = words::both(whole, record::is_sound_in(part, phase, page));
+    let few = ticks <= types::TICKS_MOST;
     let later = words::number_or(sound, 5, words::number_or(few, 6, 0));
     refusals::memory_number_or(part.blocks, array, rows, later)
 }
 
-// So many ticks. It answers the next record, the number, and how many ticks did work; refused, with 1, 2, 5
-// or 6, it writes nothing and gives the record back with 0 ticks.
-pub fn tick(part: Record, array: &mut [u8], rows: &mut [u8], ticks: usize) -> Ticked
-    ensures answer { λ r. ⌜ r ≡ ticked part (length (now (array .entry))) (length (now (rows .entry))) ticks ⌝ }
-    ensures array { λ _. ⌜ now (array .exit) ≡ tickedMemory Array part (length (now (array .entry))) (length (now (rows .entry))) ticks (now (array .entry)) ⌝ }
-    ensures rows { λ _. ⌜ now (rows .exit) ≡ tickedMemory Rows part (length (now (array .entry))) (length (now (rows .entry))) ticks (now (rows .entry)) ⌝ }
+// So many ticks of a part in a phase with page data, which stays where it is. It answers what becomes of the record,
+// the number, and how many ticks did work; refused, with 1, 2, 5 or 6, it writes nothing and the record stays the same.
+pub fn tick_part(
+    part: Part,
+    phase: Phase,
+    page: &[u8],
+    array: &mut [u8],
+    rows: &mut [u8],
+    ticks: usize,
+) -> Waited
+    ensures answer { λ r. ⌜ r ≡ waitedOf part phase (now (page .entry)) (length (now (array .entry))) (length (now (rows .entry))) ticks ⌝ }
+    ensures array { λ _. ⌜ now (array .exit) ≡ waitedMemory Array part phase (now (page .entry)) (length (now (array .entry))) (length (now (rows .entry))) ticks (now (array .entry)) ⌝ }
+    ensures rows { λ _. ⌜ now (rows .exit) ≡ waitedMemory Rows part phase (now (page .entry)) (length (now (array .entry))) (length (now (rows .entry))) ticks (now (rows .entry)) ⌝ }
 {
-    let number = tick_number(part, array.len(), rows.len(), ticks);
+    let number = tick_number(part, phase, page, array.len(), rows.len(), ticks);
     if number != 0 {
-        return Ticked {
-            next: part,
+        return Waited {
+            change: Change::Same,
             number: number,
             done: 0,
         };
     }
-    run(part, array, rows, ticks)
+    run(part, phase, page, array, rows, ticks)
+}
+
+// So many ticks. It answers the next record, the number, and how many ticks did work; refused, with 1, 2, 5
+// or 6, it writes nothing and gives the record back with 0 ticks.
+pub fn tick(state: Record, array: &mut [u8], rows: &mut [u8], ticks: usize) -> Ticked
+    ensures answer { λ r. ⌜ r ≡ ticked state (length (now (array .entry))) (length (now (rows .entry))) ticks ⌝ }
+    ensures array { λ _. ⌜ now (array .exit) ≡ tickedMemory Array state (length (now (array .entry))) (length (now (rows .entry))) ticks (now (array .entry)) ⌝ }
+    ensures rows { λ _. ⌜ now (rows .exit) ≡ tickedMemory Rows state (length (now (array .entry))) (length (now (rows .entry))) ticks (now (rows .entry)) ⌝ }
+{
+    let part = state.part;
+    let phase = state.phase;
+    let page = state.page;
+    let waited = tick_part(part, phase, &page, array, rows, ticks);
+    let change = waited.change;
+    let next = effects::apply(change, &page[0..0], state);
+    Ticked {
+        next: next,
+        number: waited.number,
+        done: waited.done,
+    }
 }

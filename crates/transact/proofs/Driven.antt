@@ -1,44 +1,72 @@
 -- A command that is executed has something to drive.
 use Prim.Native.Nat.{ℕ, _/_, _<_}
-use mathlib.Core.Path.{_≡_, refl}
-use mathlib.Core.Bool.{Bool, true, false, not, false≢true}
+use mathlib.Core.Path.{_≡_}
+use mathlib.Core.Bool.{true, false≢true}
 use mathlib.Core.List.{List}
 use native.Mathlib.Omega.{arith}
 use lib.ListN.{length, length-take, length-drop}
 use borrow.Author.Tests.{ltb-true}
+use Rattle.types.specs.declared.Command.{Command}
+use Rattle.types.specs.declared.Command.the-variants.{Read, FastRead, ReadStatus, ReadFunction, ReadIdentity, ReadMakerDevice, Wake, ReadRow, WriteEnable, WriteDisable, WriteStatus, WriteFunction, PageProgram, SectorErase, BlockErase32, BlockErase64, ChipErase, Suspend, Resume, Sleep, ArmReset, Reset, RowErase, RowProgram}
 use Rattle.types.specs.declared.Source.{Source}
-use Rattle.types.specs.declared.Source.the-variants.{Nothing, ArrayBytes, RowBytes, StatusByte, FunctionByte, IdentityBytes, MakerDevice, DeviceByte}
-use Rattle.types.specs.declared.Columns.{Columns}
-use Rattle.types.specs.declared.Record.{Record}
-use Rattle.words.specs.Logic.{_or_}
+use Rattle.types.specs.declared.Source.the-variants.{None, ArrayBytes, RowBytes, StatusByte, FunctionByte, IdentityBytes, MakerPair, DeviceByte}
+use Rattle.types.specs.declared.Part.{Part}
 use Rattle.words.proofs.Tests.{and-l}
 use Rattle.paper.specs.Sizes.{sizeOk, arrayBytes, rowsBytes}
 use Rattle.paper.specs.Address.{addressSent, rowOk}
-use Rattle.paper.specs.Table.{drives}
+use Rattle.paper.specs.Table.{columns, drives}
 use Rattle.paper.specs.Reads.{sourceBytes}
-use Rattle.paper.specs.Numbers.{readsRow, writesRow, rowAddressOk}
+use Rattle.paper.specs.Numbers.{addressOk}
 use Rattle.paper.proofs.Sizes.{size-range}
 use Rattle.transact.specs.Shown.{HasBytes}
 
--- a command that reads a row was sent a row address
-asked : (a b c : Bool) → (not (a or b) or c) ≡ true → a ≡ true → c ≡ true
-unfolding _or_
-asked true b c h e = h
-asked false b c h e = absurd (false≢true e)
+-- what reads a row was sent a row address
+abbrev Asked : Source → List ℕ → Type 0
+Asked None i = Unit {0}
+Asked ArrayBytes i = Unit {0}
+Asked RowBytes i = rowOk i ≡ true
+Asked StatusByte i = Unit {0}
+Asked FunctionByte i = Unit {0}
+Asked IdentityBytes i = Unit {0}
+Asked MakerPair i = Unit {0}
+Asked DeviceByte i = Unit {0}
 
-module _ (p : Record) (xs rs i : List ℕ) (s : sizeOk (p .blocks) ≡ true) (array : length xs ≡ arrayBytes (p .blocks)) (rows : length rs ≡ rowsBytes) where
-  some : (w : Source) → drives w ≡ true → (readsRow w ≡ true → rowOk i ≡ true) → length (sourceBytes w p xs rs i) ≡ 0 → ⊥
+module _ (p : Part) (xs rs i : List ℕ) (s : sizeOk (p .blocks) ≡ true) (array : length xs ≡ arrayBytes (p .blocks)) (rows : length rs ≡ rowsBytes) where
+  some : (w : Source) → Asked w i → drives w ≡ true → length (sourceBytes w p xs rs i) ≡ 0 → ⊥
   unfolding rowOk
-  some Nothing d r z = false≢true d
-  some ArrayBytes d r z = omega (arith, size-range (p .blocks) s)
-  some RowBytes d r z =
-      let h : addressSent i / 4096 < 4 = ltb-true _ _ (and-l _ _ (r refl)) in
+  some None r d z = false≢true d
+  some ArrayBytes r d z = omega (arith, size-range (p .blocks) s)
+  some RowBytes r d z =
+      let h : addressSent i / 4096 < 4 = ltb-true _ _ (and-l _ _ r) in
       omega (arith, simp (length-take, length-drop) at z)
-  some StatusByte d r z = omega arith
-  some FunctionByte d r z = omega arith
-  some IdentityBytes d r z = omega arith
-  some MakerDevice d r z = omega arith
-  some DeviceByte d r z = omega arith
+  some StatusByte r d z = omega arith
+  some FunctionByte r d z = omega arith
+  some IdentityBytes r d z = omega arith
+  some MakerPair r d z = omega arith
+  some DeviceByte r d z = omega arith
 
-  pub has-bytes : (k : Columns) → rowAddressOk k i ≡ true → HasBytes k p xs rs i
-  has-bytes k h d = some (k .source) d (asked (readsRow (k .source)) (writesRow (k .effect)) (rowOk i) h)
+  pub has-bytes : (k : Command) → addressOk (columns k .named) i ≡ true → HasBytes (columns k) p xs rs i
+  has-bytes Read h = some ArrayBytes tt
+  has-bytes FastRead h = some ArrayBytes tt
+  has-bytes ReadStatus h = some StatusByte tt
+  has-bytes ReadFunction h = some FunctionByte tt
+  has-bytes ReadIdentity h = some IdentityBytes tt
+  has-bytes ReadMakerDevice h = some MakerPair tt
+  has-bytes Wake h = some DeviceByte tt
+  has-bytes ReadRow h = some RowBytes h
+  has-bytes WriteEnable h = some None tt
+  has-bytes WriteDisable h = some None tt
+  has-bytes WriteStatus h = some None tt
+  has-bytes WriteFunction h = some None tt
+  has-bytes PageProgram h = some None tt
+  has-bytes SectorErase h = some None tt
+  has-bytes BlockErase32 h = some None tt
+  has-bytes BlockErase64 h = some None tt
+  has-bytes ChipErase h = some None tt
+  has-bytes Suspend h = some None tt
+  has-bytes Resume h = some None tt
+  has-bytes Sleep h = some None tt
+  has-bytes ArmReset h = some None tt
+  has-bytes Reset h = some None tt
+  has-bytes RowErase h = some None tt
+  has-bytes RowProgram h = some None tt

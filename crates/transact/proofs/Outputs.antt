@@ -9,9 +9,9 @@ use native.Mathlib.Nat.{eq-zero-or-pos}
 use lib.Dec.{leb}
 use lib.ListN.{length, length-take, length-drop}
 use Rattle.types.specs.declared.Source.{Source}
-use Rattle.types.specs.declared.Source.the-variants.{Nothing, RowBytes}
+use Rattle.types.specs.declared.Source.the-variants.{None, RowBytes}
 use Rattle.types.specs.declared.Columns.{Columns}
-use Rattle.types.specs.declared.Record.{Record}
+use Rattle.types.specs.declared.Part.{Part}
 use Rattle.words.specs.Logic.{_and_}
 use Rattle.words.specs.Lists.{upTo, round}
 use Rattle.words.proofs.Lists.{upTo-const}
@@ -20,7 +20,7 @@ use Rattle.paper.specs.Table.{drives}
 use Rattle.paper.specs.Reads.{undrivenByte, undriven, sourceBytes, sourceStart, outputOf}
 use Rattle.transact.specs.Shown.{shown, HasBytes}
 
-module _ (k : Columns) (p : Record) (xs rs i : List ℕ) where
+module _ (k : Columns) (p : Part) (xs rs i : List ℕ) where
   -- the output with what is driven apart
   outputFor : Source → Bool → List ℕ
   outputFor w t =
@@ -36,7 +36,7 @@ module _ (k : Columns) (p : Record) (xs rs i : List ℕ) where
         let n = subst (λ (x : Source). drives x ≡ true → length (sourceBytes x p xs rs i) ≡ 0 → ⊥) e h d in
         ⊎-elim (λ z. absurd (n z)) (λ l. l) (eq-zero-or-pos (length (sourceBytes w p xs rs i)))
 
-  pub blank-output : k .source ≡ Nothing → outputOf k p xs rs i ≡ undriven (length i)
+  pub blank-output : k .source ≡ None → outputOf k p xs rs i ≡ undriven (length i)
   unfolding outputOf outputFor _and_
   blank-output e = ap (λ (x : Source). outputFor x (drives x)) e ∙ upTo-const (length i) undrivenByte
 

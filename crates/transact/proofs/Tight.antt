@@ -8,14 +8,14 @@ use denote.Ref.{now}
 use Rattle.types.specs.declared.Record.{Record}
 use Rattle.words.proofs.Allowed.{OneResult, OneExit, agree}
 use Rattle.paper.specs.Calls.{transacted}
-use Rattle.transact.proofs.transact_head.Reads as transact-head
+use Rattle.transact.proofs.transact_part.Reads as transact-part
 use Rattle.transact.proofs.transact.Reads as transact
 
-pub transact-head-one : OneResult transact-head.Learnt
-transact-head-one κ a x y s t p q = agree (p .0) (q .0)
+pub transact-part-one : OneResult transact-part.Learnt
+transact-part-one κ a x y s t p q = agree (p .0) (q .0)
 
-pub transact-head-one-output : OneExit transact-head.Learnt (λ κ s. now (s .1 .1 .1 .1 .1 .1 .0))
-transact-head-one-output κ a x y s t p q = agree (p .1) (q .1)
+pub transact-part-one-output : OneExit transact-part.Learnt (λ κ s. now (s .1 .1 .1 .1 .1 .1 .1 .0))
+transact-part-one-output κ a x y s t p q = agree (p .1) (q .1)
 
 pub transact-one : OneResult transact.Learnt
 transact-one κ a x y s t p q = agree (p .0) (q .0)

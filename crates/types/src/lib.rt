@@ -1,6 +1,18 @@
 // The values of the model, named as in the specification: the record of a part with its phase and
 // operation, the rows of the command table, and what the calls answer.
 
+// A page, and a row, have 256 bytes, a block 65,536, the rows 1,024.
+pub const PAGE_BYTES: usize = 256;
+
+pub const BLOCK_BYTES: usize = 65536;
+
+pub const ROWS_BYTES: usize = 1024;
+
+// A transaction has at most 4,096 bytes, and a tick call asks at most 4,096 ticks.
+pub const TRANSACTION_MOST: usize = 4096;
+
+pub const TICKS_MOST: usize = 4096;
+
 // The two memories of a part: the array of blocks, and the four information rows.
 pub enum Memory {
     Array,
@@ -58,6 +70,12 @@ pub enum Phase {
     Suspended(Operation),
 }
 
+// An operation, or none: what runs, what is suspended, what a transaction begins.
+pub enum Work {
+    NoWork,
+    At(Operation),
+}
+
 // The identity bytes M (maker), T (type), C (capacity) and D (device).
 pub struct Identity {
     pub maker: u8,
@@ -66,39 +84,43 @@ pub struct Identity {
     pub device: u8,
 }
 
-// The record of a part.
-pub struct Record {
-    pub blocks: u16,
-    pub identity: Identity,
+// The registers of a part: their stored bits, which power-up takes and reset keeps, and among them those that
+// other fields define (WIP, WEL, ESUS and PSUS).
+pub struct Stored {
     pub status: u8,
     pub function: u8,
+}
+
+// What a part is, whatever it does.
+pub struct Part {
+    pub blocks: u16,
+    pub identity: Identity,
+    pub stored: Stored,
     pub wel: bool,
     pub armed: bool,
     pub asleep: bool,
+}
+
+// The record of a part: what it is, what it does, and the 256 bytes of page data.
+pub struct Record {
+    pub part: Part,
     pub phase: Phase,
     pub page: [u8; 256],
 }
 
-// A record without its page data.
-pub struct Head {
-    pub blocks: u16,
-    pub identity: Identity,
-    pub status: u8,
-    pub function: u8,
-    pub wel: bool,
-    pub armed: bool,
-    pub asleep: bool,
-    pub phase: Phase,
+// What becomes of page data: it is as it was, what was sent, or zero.
+pub enum Data {
+    Kept,
+    Sent,
+    Zero,
 }
 
-// What a transaction makes of a record: the same; the same but for the armed mark; or all but the page data
-// anew, where the page data is as it was, is what was sent, or is zero.
+// What a call makes of a record: the same; the same but for the armed mark; or part and phase anew, and page data
+// so.
 pub enum Change {
     Same,
     Marked(bool),
-    Became(Head),
-    Programmed(Head),
-    Cleared(Head),
+    Became(Part, Phase, Data),
 }
 
 // The commands, in the order of the command table.
@@ -143,13 +165,13 @@ pub enum Length {
 
 // What a command drives.
 pub enum Source {
-    Nothing,
+    None,
     ArrayBytes,
     RowBytes,
     StatusByte,
     FunctionByte,
     IdentityBytes,
-    MakerDevice,
+    MakerPair,
     DeviceByte,
 }
 
@@ -169,14 +191,40 @@ pub enum Effect {
     Resets,
 }
 
-// A row of the command table: the length, whether WEL is needed, whether the command is taken while
-// the part is asleep, busy or suspended, what it drives and from which place, and what it does.
+// When a command is taken: at rest, awake and idle; also while suspended; also while busy; whenever the part is awake;
+// or also while suspended or asleep.
+pub enum Taken {
+    Rest,
+    OrHalted,
+    OrBusy,
+    Awake,
+    OrAsleep,
+}
+
+// What the address bytes of a command name: nothing, also where it has none; a place of the array; a byte in a row.
+pub enum Named {
+    Bare,
+    Place,
+    InRow,
+}
+
+// What a command wants of the state: nothing, something running that can be suspended, something to resume, or the
+// reset armed.
+pub enum Wanted {
+    Any,
+    Running,
+    Halted,
+    Armed,
+}
+
+// A row of the command table: the length, whether WEL is needed, when the command is taken, what its address names,
+// what it wants of the state, what it drives and from which place, and what it does.
 pub struct Columns {
     pub length: Length,
     pub wel: bool,
-    pub asleep: bool,
-    pub busy: bool,
-    pub suspended: bool,
+    pub taken: Taken,
+    pub named: Named,
+    pub wanted: Wanted,
     pub source: Source,
     pub from: usize,
     pub effect: Effect,
@@ -205,6 +253,13 @@ pub struct Outcome {
 // What a tick call answers: the record after it, its number, and how many ticks did work.
 pub struct Ticked {
     pub next: Record,
+    pub number: u8,
+    pub done: usize,
+}
+
+// What a tick call answers, with what it makes of the record and not the record.
+pub struct Waited {
+    pub change: Change,
     pub number: u8,
     pub done: usize,
 }

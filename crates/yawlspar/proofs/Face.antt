@@ -1,98 +1,117 @@
 -- What the definitions for C come to in each case: no record held, and the call itself.
 use Prim.Native.Nat.{ℕ, _≤_}
 use mathlib.Core.Path.{_≡_, sym, ap, _∙_}
-use mathlib.Core.Bool.{true, false}
-use mathlib.Core.List.{List}
-use lib.ListN.{length}
+use mathlib.Core.Bool.{Bool, true, false}
+use mathlib.Core.List.{List, []}
+use lib.Dec.{eqb, leb}
+use native.Mathlib.Omega.{arith}
+use lib.ListN.{length, take, drop, length-take, length-drop}
 use borrow.Author.Tests.{eqb-true, leb-true, eq-eqb, ne-eqb}
 use Rattle.types.specs.declared.Memory.{Memory}
 use Rattle.types.specs.declared.Record.{Record}
-use Rattle.types.specs.declared.Answer.{Answer}
 use Rattle.types.specs.declared.Outcome.{Outcome}
 use Rattle.types.specs.declared.Ticked.{Ticked}
+use Rattle.types.specs.declared.Waited.{Waited}
 use Rattle.types.specs.declared.PoweredUp.{PoweredUp}
 use Rattle.words.specs.Logic.{_and_}
 use Rattle.words.proofs.Tests.{and-l, and-r, unless-zero, orElse-zero, orElse-on, orElse-first}
-use Rattle.paper.specs.Calls.{poweredUp, ticked, tickedMemory}
+use Rattle.paper.specs.Soundness.{sound}
+use Rattle.paper.specs.Calls.{outcomeOf, outputAfter, ticked, tickedMemory}
 use Rattle.paper.proofs.Sizes.{size-range}
-use Rattle.heads.specs.Outcomes.{changed, outcomeOf, outputFor, answerOf, transactedAt}
-use Rattle.heads.proofs.Outcomes.{outcome-told, output-told}
-use Rattle.image.specs.declared.Held.{Held}
-use Rattle.image.specs.Layout.{recordBytes, written, imageChanged}
-use Rattle.image.specs.Read.{recordIn, found}
-use Rattle.image.proofs.Back.{held-length, written-in}
-use Rattle.image.proofs.Changed.{held-changed}
-use Rattle.yawlspar.proofs.Laws.{first-few-at}
-use Rattle.yawlspar.specs.Face.{packed, identityOf, givenNumber, upNumber, powerUpImage, transactAnswer, transactImage, transactOutput, tickAnswer, tickImage, tickMemory}
+use Rattle.paper.proofs.Soundness.{recordOf}
+use Rattle.ticks.specs.Waited.{waitedOf, waitedMemory, tickedBy}
+use Rattle.ticks.proofs.Waited.{ticked-told, memory-told}
+use Rattle.record_bytes.specs.declared.Found.{Found}
+use Rattle.record_bytes.specs.Layout.{recordBytes, changeWritten}
+use Rattle.record_bytes.specs.Read.{Held, recordIn, found}
+use Rattle.record_bytes.proofs.Back.{held-length, held-state}
+use Rattle.record_bytes.proofs.Changed.{held-changed}
+use Rattle.yawlspar.proofs.Laws.{done-few}
+use Rattle.yawlspar.specs.Face.{packed, givenNumber, upOf, upNumber, powerUpBytes, heldOutcome, transactAnswer, transactBytes, transactOutput, tickAnswer, tickBytes, tickMemory}
 
--- a buffer that holds a record takes the next one
-pub next-written : (h : Held) (p : Record) (bs : List ℕ) → h ≡ recordIn bs → h .ok ≡ true → written p bs ≡ recordBytes p
-next-written h p bs f e = written-in p bs (held-length bs (ap (λ (x : Held). x .ok) (sym f) ∙ e))
-
--- a transaction
-module _ (h : Held) (a r wp : ℕ) (i : List ℕ) (o : ℕ) where
-  pub unheld-answer : h .ok ≡ false → 5 ≡ transactAnswer h a r wp i o
+-- no record held
+module _ (h : Held) (e : h .ok ≡ false) where
+  pub unheld-answer : (a r wp : ℕ) (i : List ℕ) (o : ℕ) → 5 ≡ transactAnswer h a r wp i o
   unfolding transactAnswer
-  unheld-answer e = rw e
+  unheld-answer a r wp i o = rw e
 
-  pub unheld-image : (bs : List ℕ) → h .ok ≡ false → bs ≡ transactImage h a r wp i o bs
-  unfolding transactImage
-  unheld-image bs e = rw e
+  pub unheld-bytes : (a r wp : ℕ) (i : List ℕ) (o : ℕ) (bs : List ℕ) → bs ≡ transactBytes h a r wp i o bs
+  unfolding transactBytes
+  unheld-bytes a r wp i o bs = rw e
 
-  -- the outcome, told by the head of the record that is held
-  module _ (u : Outcome) (e : h .ok ≡ true) (s : u ≡ outcomeOf (found h .head) (found h .sound) a r wp i o) where
-    told : answerOf u (h .part) i ≡ transactedAt (h .part) a r wp i o
-    unfolding _and_
-    told = rw (s, e) (outcome-told (h .part) wp i a r o)
-
-    pub told-few : u .first ≤ 4096
-    told-few = rw (ap (λ (x : Answer). x .first) told) (first-few-at (h .part) a r wp i o)
-
-    pub told-answer : packed (u .number) (u .first) ≡ transactAnswer h a r wp i o
-    unfolding transactAnswer
-    told-answer = rw e (ap (λ (x : Answer). packed (x .number) (x .first)) told)
-
-    pub told-image : (bs : List ℕ) → h ≡ recordIn bs → imageChanged (u .change) i bs ≡ transactImage h a r wp i o bs
-    unfolding transactImage
-    told-image bs f =
-        let g : recordIn bs .ok ≡ true = ap (λ (x : Held). x .ok) (sym f) ∙ e in
-        held-changed (u .change) i bs g ∙ ap (λ (x : Held). recordBytes (changed (u .change) (x .part) i)) (sym f) ∙ rw e (ap (λ (x : Answer). recordBytes (x .next)) told)
-
-module _ (h : Held) (xs rs : List ℕ) (wp : ℕ) (i o : List ℕ) where
-  pub unheld-output : h .ok ≡ false → o ≡ transactOutput h xs rs wp i o
+  pub unheld-output : (xs rs : List ℕ) (wp : ℕ) (i o : List ℕ) → o ≡ transactOutput h xs rs wp i o
   unfolding transactOutput
-  unheld-output e = rw e
+  unheld-output xs rs wp i o = rw e
 
-  pub told-output : h .ok ≡ true → outputFor (found h .head) (found h .sound) xs rs wp i o ≡ transactOutput h xs rs wp i o
-  unfolding transactOutput _and_
-  told-output e = rw e (output-told (h .part) wp i xs rs o)
-
--- ticks
-module _ (h : Held) (a r n : ℕ) where
-  pub unheld-tick-answer : h .ok ≡ false → 5 ≡ tickAnswer h a r n
+  pub unheld-tick-answer : (a r n : ℕ) → 5 ≡ tickAnswer h a r n
   unfolding tickAnswer
-  unheld-tick-answer e = rw e
+  unheld-tick-answer a r n = rw e
 
-  pub unheld-tick-image : (bs : List ℕ) → h .ok ≡ false → bs ≡ tickImage h a r n bs
-  unfolding tickImage
-  unheld-tick-image bs e = rw e
+  pub unheld-tick-bytes : (a r n : ℕ) (bs : List ℕ) → bs ≡ tickBytes h a r n bs
+  unfolding tickBytes
+  unheld-tick-bytes a r n bs = rw e
 
-  pub unheld-memory : (m : Memory) (xs : List ℕ) → h .ok ≡ false → xs ≡ tickMemory m h a r n xs
+  pub unheld-memory : (m : Memory) (a r n : ℕ) (xs : List ℕ) → xs ≡ tickMemory m h a r n xs
   unfolding tickMemory
-  unheld-memory m xs e = rw e
+  unheld-memory m a r n xs = rw e
 
-  module _ (x : Ticked) (e : h .ok ≡ true) (s : x ≡ ticked (h .part) a r n) where
-    pub tick-answer : packed (x .number) (x .done) ≡ tickAnswer h a r n
-    unfolding tickAnswer
-    tick-answer = rw (e, s)
+-- a record held: what was found, and how its page data is lent
+module _ (bs : List ℕ) (e : recordIn bs .ok ≡ true) (x : Found) (ex : x ≡ found (recordIn bs)) where
+  abbrev held : Record
+  held = recordIn bs .state
 
-    pub tick-image : (bs : List ℕ) → recordBytes (x .next) ≡ tickImage h a r n bs
-    unfolding tickImage
-    tick-image bs = rw (e, s)
+  abbrev lent : List ℕ
+  lent = take 256 (drop 38 bs)
 
-  pub tick-memory : (m : Memory) (xs : List ℕ) → h .ok ≡ true → tickedMemory m (h .part) a r n xs ≡ tickMemory m h a r n xs
-  unfolding tickMemory
-  tick-memory m xs e = rw e
+  -- a transaction: s is whether the record is sound, t also that the level is one
+  module _ (wp : ℕ) (s t : Bool) (es : s ≡ sound (recordOf (x .part) (x .phase) lent)) (et : t ≡ (s and leb wp 1)) where
+    sound-told : t ≡ (sound held and leb wp 1)
+    sound-told = et ∙ rw (es, ex, held-state bs e)
+
+    module _ (a r : ℕ) (i : List ℕ) (o : ℕ) (u : Outcome) (eu : u ≡ outcomeOf (x .part) (x .phase) t a r (eqb wp 1) i o) where
+      told : u ≡ heldOutcome (recordIn bs) a r wp i o
+      told = eu ∙ rw (sound-told, ex, e)
+
+      pub told-answer : packed (u .number) (u .first) ≡ transactAnswer (recordIn bs) a r wp i o
+      unfolding transactAnswer
+      told-answer = ap (λ (y : Outcome). packed (y .number) (y .first)) told
+
+      pub told-bytes : changeWritten (u .change) i bs ≡ transactBytes (recordIn bs) a r wp i o bs
+      unfolding transactBytes
+      told-bytes = held-changed (u .change) i bs e ∙ rw (told, e)
+
+    pub told-output : (xs rs i o y : List ℕ) → y ≡ outputAfter (x .part) (x .phase) t xs rs (eqb wp 1) i o → y ≡ transactOutput (recordIn bs) xs rs wp i o
+    unfolding transactOutput
+    told-output xs rs i o y ey = ey ∙ rw (sound-told, ex, e)
+
+  -- ticks
+  abbrev whole : Record
+  whole = recordOf (held .part) (held .phase) lent
+
+  lent-length : length lent ≡ 256
+  lent-length = simp (length-take, length-drop) (omega (arith, held-length bs e))
+
+  module _ (a r n : ℕ) where
+    module _ (u : Waited) (eu : u ≡ waitedOf (x .part) (x .phase) lent a r n) where
+      ticks-told : tickedBy u held ≡ ticked held a r n
+      ticks-told =
+          ap (tickedBy u) (sym (held-state bs e)) ∙ rw (eu, ex) (ticked-told whole lent-length a r n) ∙ ap (λ (q : Record). ticked q a r n) (held-state bs e)
+
+      pub told-done : u .done ≤ 4096
+      told-done = rw (ap (λ (y : Ticked). y .done) ticks-told) (done-few held a r n)
+
+      pub tick-answer : packed (u .number) (u .done) ≡ tickAnswer (recordIn bs) a r n
+      unfolding tickAnswer
+      tick-answer = rw e (ap (λ (y : Ticked). packed (y .number) (y .done)) ticks-told)
+
+      pub tick-bytes : changeWritten (u .change) [] bs ≡ tickBytes (recordIn bs) a r n bs
+      unfolding tickBytes
+      tick-bytes = held-changed (u .change) [] bs e ∙ rw e (ap (λ (y : Ticked). recordBytes (y .next)) ticks-told)
+
+    pub tick-memory : (m : Memory) (xs y : List ℕ) → y ≡ waitedMemory m (x .part) (x .phase) lent a r n xs → y ≡ tickMemory m (recordIn bs) a r n xs
+    unfolding tickMemory
+    tick-memory m xs y ey =
+        ey ∙ rw (ex, e) (memory-told whole lent-length a r n m xs ∙ ap (λ (q : Record). tickedMemory m q a r n xs) (held-state bs e))
 
 -- power-up: what the numbers that it can take are
 pub record Given (l n m t c d status function : ℕ) : Type 0 where
@@ -122,13 +141,13 @@ module _ (n m t c d status function : ℕ) (bs : List ℕ) (k : ℕ) (g : k ≡ 
   unfolding upNumber
   given-number h = rw (← g) (sym (orElse-first k _ h))
 
-  module _ (x : PoweredUp) (z : k ≡ 0) (u : x ≡ poweredUp n (identityOf m t c d) status function) where
+  module _ (x : PoweredUp) (z : k ≡ 0) (u : x ≡ upOf n m t c d status function) where
     pub own-number : x .number ≡ upNumber (length bs) n m t c d status function
     unfolding upNumber
     own-number = rw (← g, ← u) (sym (orElse-on k _ z))
 
-    pub own-image : x .number ≡ 0 → recordBytes (x .next) ≡ powerUpImage n m t c d status function bs
-    own-image e = rw (eq-eqb _ _ (sym own-number ∙ e), u)
+    pub own-bytes : x .number ≡ 0 → recordBytes (x .next) ≡ powerUpBytes n m t c d status function bs
+    own-bytes e = rw (eq-eqb _ _ (sym own-number ∙ e), u)
 
-  pub no-image : (v : ℕ) → v ≡ upNumber (length bs) n m t c d status function → (v ≡ 0 → ⊥) → bs ≡ powerUpImage n m t c d status function bs
-  no-image v e h = rw (ne-eqb _ _ (λ (q : upNumber (length bs) n m t c d status function ≡ 0). h (e ∙ q)))
+  pub no-bytes : (v : ℕ) → v ≡ upNumber (length bs) n m t c d status function → (v ≡ 0 → ⊥) → bs ≡ powerUpBytes n m t c d status function bs
+  no-bytes v e h = rw (ne-eqb _ _ (λ (q : upNumber (length bs) n m t c d status function ≡ 0). h (e ∙ q)))

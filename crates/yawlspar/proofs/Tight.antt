@@ -20,14 +20,14 @@ page-place-one κ a x y s t p q = agree p q
 pub power-up-one : OneResult yawlspar-power-up.Learnt
 power-up-one κ a x y s t p q = agree (p .0) (q .0)
 
-pub power-up-one-image : OneExit yawlspar-power-up.Learnt (λ κ s. now (s .0))
-power-up-one-image κ a x y s t p q = agree (p .1) (q .1)
+pub power-up-one-bytes : OneExit yawlspar-power-up.Learnt (λ κ s. now (s .0))
+power-up-one-bytes κ a x y s t p q = agree (p .1) (q .1)
 
 pub transact-one : OneResult yawlspar-transact.Learnt
 transact-one κ a x y s t p q = agree (p .0) (q .0)
 
-pub transact-one-image : OneExit yawlspar-transact.Learnt (λ κ s. now (s .0))
-transact-one-image κ a x y s t p q = agree (p .1 .0) (q .1 .0)
+pub transact-one-bytes : OneExit yawlspar-transact.Learnt (λ κ s. now (s .0))
+transact-one-bytes κ a x y s t p q = agree (p .1 .0) (q .1 .0)
 
 pub transact-one-output : OneExit yawlspar-transact.Learnt (λ κ s. now (s .1 .1 .1 .1 .1 .0))
 transact-one-output κ a x y s t p q = agree (p .1 .1) (q .1 .1)
@@ -35,8 +35,8 @@ transact-one-output κ a x y s t p q = agree (p .1 .1) (q .1 .1)
 pub tick-one : OneResult yawlspar-tick.Learnt
 tick-one κ a x y s t p q = agree (p .0) (q .0)
 
-pub tick-one-image : OneExit yawlspar-tick.Learnt (λ κ s. now (s .0))
-tick-one-image κ a x y s t p q = agree (p .1 .0) (q .1 .0)
+pub tick-one-bytes : OneExit yawlspar-tick.Learnt (λ κ s. now (s .0))
+tick-one-bytes κ a x y s t p q = agree (p .1 .0) (q .1 .0)
 
 pub tick-one-array : OneExit yawlspar-tick.Learnt (λ κ s. now (s .1 .0))
 tick-one-array κ a x y s t p q = agree (p .1 .1 .0) (q .1 .1 .0)

@@ -1,13 +1,15 @@
 // The model for C, which include/yawlspar.h declares: the three calls on a record that is kept in bytes,
-// and the functions on numbers. A call reads the record, is made, and writes the next record back.
+// and the functions on numbers. A call reads part and phase, is made, and writes what it makes of the record over the
+// bytes; page data stays where it is.
 pub mod numbers;
 
 ghost use mathlib.Core.Path.{_≡_};
 ghost use Prim.Native.Nat.{_≤_};
 ghost use lib.ListN.{length};
 ghost use Rattle.types.specs.declared.Memory.the-variants.{Array, Rows};
-ghost use Rattle.image.specs.Read.{recordIn};
-ghost use Rattle.yawlspar.specs.Face.{packed, givenNumber, powerUpAnswer, powerUpImage, transactAnswer, transactImage, transactOutput, tickAnswer, tickImage, tickMemory};
+ghost use Rattle.record_bytes.specs.Read.{recordIn};
+ghost use Rattle.yawlspar.specs.Face.{packed, givenNumber, powerUpAnswer, powerUpBytes, transactAnswer, transactBytes, transactOutput, tickAnswer, tickBytes, tickMemory};
+use record_bytes::places;
 use types::Identity;
 
 // The number and the place in one.
@@ -32,7 +34,7 @@ fn given_number(
     ensures { λ r. ⌜ r ≡ givenNumber length blocks maker kind capacity device status function ⌝ }
 {
     let size = sizes::size_ok(blocks);
-    let whole = length == 294;
+    let whole = length == places::END;
     let m = maker <= 255;
     let t = kind <= 255;
     let c = capacity <= 255;
@@ -43,7 +45,8 @@ fn given_number(
         m,
         words::both(t, words::both(c, words::both(d, words::both(s, f)))),
     );
-    words::number_or(size, 1, words::number_or(words::both(whole, bytes), 5, 0))
+    let fits = words::both(whole, bytes);
+    words::number_or(size, 1, words::number_or(fits, 5, 0))
 }
 
 // Power-up into a buffer of a record's length. The number is 0, 1 or 5; refused, the buffer is as it was.
@@ -59,7 +62,7 @@ pub extern "C" fn yawlspar_power_up(
     function: u64,
 ) -> u64
     ensures answer { λ r. ⌜ r ≡ powerUpAnswer (length (now (bytes .entry))) blocks maker kind capacity device status function ⌝ }
-    ensures image { λ _. ⌜ now (bytes .exit) ≡ powerUpImage blocks maker kind capacity device status function (now (bytes .entry)) ⌝ }
+    ensures bytes { λ _. ⌜ now (bytes .exit) ≡ powerUpBytes blocks maker kind capacity device status function (now (bytes .entry)) ⌝ }
 {
     let number = given_number(
         bytes.len(),
@@ -80,12 +83,15 @@ pub extern "C" fn yawlspar_power_up(
         capacity: capacity as u8,
         device: device as u8,
     };
-    let up = record::power_up(blocks as u16, identity, status as u8, function as u8);
+    let mut stored = record::no_stored();
+    stored.status = status as u8;
+    stored.function = function as u8;
+    let up = record::power_up(blocks as u16, identity, stored);
     if up.number != 0 {
         return up.number as u64;
     }
     let next = up.next;
-    image::writing::write_record(next, bytes);
+    record_bytes::writing::write_record(next, bytes);
     0
 }
 
@@ -101,17 +107,22 @@ pub extern "C" fn yawlspar_transact(
     output: &mut [u8],
 ) -> u64
     ensures answer { λ r. ⌜ r ≡ transactAnswer (recordIn (now (bytes .entry))) (length (now (array .entry))) (length (now (rows .entry))) wp (now (input .entry)) (length (now (output .entry))) ⌝ }
-    ensures image { λ _. ⌜ now (bytes .exit) ≡ transactImage (recordIn (now (bytes .entry))) (length (now (array .entry))) (length (now (rows .entry))) wp (now (input .entry)) (length (now (output .entry))) (now (bytes .entry)) ⌝ }
+    ensures bytes { λ _. ⌜ now (bytes .exit) ≡ transactBytes (recordIn (now (bytes .entry))) (length (now (array .entry))) (length (now (rows .entry))) wp (now (input .entry)) (length (now (output .entry))) (now (bytes .entry)) ⌝ }
     ensures output { λ _. ⌜ now (output .exit) ≡ transactOutput (recordIn (now (bytes .entry))) (now (array .entry)) (now (rows .entry)) wp (now (input .entry)) (now (output .entry)) ⌝ }
 {
-    let found = image::reading::read_part(bytes);
+    let found = record_bytes::reading::read_part(bytes);
     if !found.ok {
         return 5;
     }
-    let head = found.head;
-    let outcome = transact::transact_head(head, found.sound, array, rows, wp, input, output);
+    let part = found.part;
+    let phase = found.phase;
+    let sound = record::is_sound_in(part, phase, &bytes[places::PAGE..places::END]);
+    let level = wp <= 1;
+    let high = wp == 1;
+    let fit = words::both(sound, level);
+    let outcome = transact::transact_part(part, phase, fit, array, rows, high, input, output);
     let change = outcome.change;
-    image::writing::write_change(change, input, bytes);
+    record_bytes::writing::write_change(change, input, bytes);
     pack(outcome.number, outcome.first)
 }
 
@@ -124,17 +135,20 @@ pub extern "C" fn yawlspar_tick(
     count: u64,
 ) -> u64
     ensures answer { λ r. ⌜ r ≡ tickAnswer (recordIn (now (bytes .entry))) (length (now (array .entry))) (length (now (rows .entry))) count ⌝ }
-    ensures image { λ _. ⌜ now (bytes .exit) ≡ tickImage (recordIn (now (bytes .entry))) (length (now (array .entry))) (length (now (rows .entry))) count (now (bytes .entry)) ⌝ }
+    ensures bytes { λ _. ⌜ now (bytes .exit) ≡ tickBytes (recordIn (now (bytes .entry))) (length (now (array .entry))) (length (now (rows .entry))) count (now (bytes .entry)) ⌝ }
     ensures array { λ _. ⌜ now (array .exit) ≡ tickMemory Array (recordIn (now (bytes .entry))) (length (now (array .entry))) (length (now (rows .entry))) count (now (array .entry)) ⌝ }
     ensures rows { λ _. ⌜ now (rows .exit) ≡ tickMemory Rows (recordIn (now (bytes .entry))) (length (now (array .entry))) (length (now (rows .entry))) count (now (rows .entry)) ⌝ }
 {
-    let held = image::reading::read_record(bytes);
-    if !held.ok {
+    let found = record_bytes::reading::read_part(bytes);
+    if !found.ok {
         return 5;
     }
-    let part = held.part;
-    let ticked = ticks::tick(part, array, rows, count as usize);
-    let next = ticked.next;
-    image::writing::write_record(next, bytes);
-    pack(ticked.number, ticked.done)
+    let part = found.part;
+    let phase = found.phase;
+    let page = &bytes[places::PAGE..places::END];
+    let waited = ticks::tick_part(part, phase, page, array, rows, count as usize);
+    let change = waited.change;
+    let nothing_sent = [0u8; 0];
+    record_bytes::writing::write_change(change, &nothing_sent, bytes);
+    pack(waited.number, waited.done)
 }

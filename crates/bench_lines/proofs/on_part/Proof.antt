@@ -1,6 +1,9 @@
 -- `bench_lines::on_part` meets its contract: the part is powered up on memory of FFh, and the lines are run.
+use Rattle.types.specs.declared.Stored.{Stored}
+use Rattle.paper.specs.Calls.{poweredUp}
+use Rattle.paper.specs.Bench.{benchIdentity}
 use Rattle.bench_lines.proofs.Course.{bench-board}
-use Rattle.paper.specs.Bench.{Board}
+use Rattle.paper.specs.Board.{Board}
 use lib.ListN.{length}
 use mathlib.Core.Path.{ap, _∙_}
 use denote.Ref.{now}
@@ -14,6 +17,9 @@ blank-requires c κs = search needs
 blank-requires-2 : tie.Need-blank-requires-2
 blank-requires-2 c κs = search needs
 
+no-stored-requires : tie.Need-no-stored-requires
+no-stored-requires c κs = search needs
+
 power-up-requires : tie.Need-power-up-requires
 power-up-requires c κs = search needs
 
@@ -21,18 +27,18 @@ run-requires : tie.Need-run-requires
 run-requires c κs = search needs
 
 same-length : tie.Need-same-length
-same-length c = c .before .before .before .before .before .array2 .given ∙ c .before .before .before .before .before .before .before .before .before .before .before .before .before .before .before .before .before .array .given
+same-length c = c .before .before .before .before .before .array2 .given ∙ c .before .before .before .before .before .before .before .before .before .before .before .before .before .before .before .before .before .before .array .given
 
 same-length-2 : tie.Need-same-length-2
-same-length-2 c = c .before .before .before .rows2 .given ∙ c .before .before .before .before .before .before .before .before .before .before .before .before .before .rows .given
+same-length-2 c = c .before .before .before .rows2 .given ∙ c .before .before .before .before .before .before .before .before .before .before .before .before .before .before .rows .given
 
 same-length-3 : tie.Need-same-length-3
 same-length-3 c = c .before .output .given
 
 returns : tie.Need-returns
 returns c =
-    let a = c .before .before .before .before .before .before .before .before .before .before .before .before .before .before .before .before .before .before .before .before .before .before .before .before .args in
-    let e = bench-board (a .blocks) (c .before .before .before .before .before .before .before .before .before .before .before .power-up .result) (c .before .before .before .before .before .before .before .before .before .before .before .before .before .before .before .before .before .before .blank .last .0) (c .before .before .before .before .before .before .before .before .before .before .before .before .before .before .blank2 .last .0) (length (now (a .array))) (length (now (a .rows))) (c .before .before .before .before .before .before .before .before .before .before .before .power-up .ensures) (c .before .before .before .before .before .before .before .before .before .before .before .before .before .before .before .before .before .before .blank .ensures) (c .before .before .before .before .before .before .before .before .before .before .before .before .before .before .blank2 .ensures) in
+    let a = c .before .before .before .before .before .before .before .before .before .before .before .before .before .before .before .before .before .before .before .before .before .before .before .before .before .args in
+    let e = bench-board (a .blocks) (c .before .before .before .before .before .before .before .before .before .before .before .power-up .result) (c .before .before .before .before .before .before .before .before .before .before .before .before .before .before .before .before .before .before .before .blank .last .0) (c .before .before .before .before .before .before .before .before .before .before .before .before .before .before .before .blank2 .last .0) (length (now (a .array))) (length (now (a .rows))) (c .before .before .before .before .before .before .before .before .before .before .before .power-up .ensures ∙ ap (λ (g : Stored). poweredUp (a .blocks) benchIdentity g) (c .before .before .before .before .before .before .before .before .before .before .before .before .no-stored .ensures)) (c .before .before .before .before .before .before .before .before .before .before .before .before .before .before .before .before .before .before .before .blank .ensures) (c .before .before .before .before .before .before .before .before .before .before .before .before .before .before .before .blank2 .ensures) in
     let g = rw e at (c .before .before .before .before .before .before .run .ensures) in
     (ap (λ (d : Board). d .array) (g .0), (ap (λ (d : Board). d .rows) (g .0), g .1))
 
@@ -42,6 +48,7 @@ on-part-spec =
     (tie.spec
     blank-requires
     blank-requires-2
+    no-stored-requires
     power-up-requires
     run-requires
     same-length

@@ -1,6 +1,6 @@
 -- `bench_lines::run` meets its contract. The loop's invariant: what the lines that are left leave and print is what all lines do (`Goes`).
 use Rattle.bench_lines.proofs.Course.{Goes, goes-start, goes-on, goes-end, line-end}
-use Rattle.paper.specs.Bench.{boardOf}
+use Rattle.paper.specs.Board.{boardOf}
 use lib.ListN.{length}
 use mathlib.Core.Path.{_≡_, refl, sym, _∙_}
 use Prim.Native.Nat.{_-_}

@@ -1,5 +1,5 @@
 -- `bench_lines::run_line` meets its contract, for each thing that a line can say.
-use Rattle.paper.specs.Bench.{boardOf}
+use Rattle.paper.specs.Board.{boardOf}
 use Rattle.bench_lines.proofs.Course.{line-room, sent-board}
 use mathlib.Core.Path.{refl, sym, _∙_}
 use denote.Ref.{now}
@@ -77,7 +77,7 @@ returns : tie.Need-returns
 returns c =
     let a = c .before .before .before .before .before .before .before .before .before .before .before .before .before .before .before .before .before .before .before .before .before .before .args in
     let e = sym (c .before .before .before .before .before .before .before .before .before .before .before .before .before .before .before .line-of .ensures) ∙ c .before .before .before .before .before .before .before .before .before .before .before .before .before .said .given .1 in
-    rw e (sent-board (boardOf (a .part) (now (a .array)) (now (a .rows))) _ _ _ (c .before .before .before .before .before .before .send .ensures .0), c .before .before .before .before .before .before .send .ensures .1)
+    rw e (sent-board (boardOf (a .state) (now (a .array)) (now (a .rows))) _ _ _ (c .before .before .before .before .before .before .send .ensures .0), c .before .before .before .before .before .before .send .ensures .1)
 
 same-length-6 : tie.Need-same-length-6
 same-length-6 c = c .before .before .before .before .before .array .given

@@ -44,7 +44,7 @@ returns : tie.Need-returns
 returns c =
     let s = c .before .before .before .before .before .before .before .before .before .before .before .before .before .before .before .before .before .before .before .before .before .before .before .before .before .before in
     let a = s .args in
-    let r = sent-as (a .part) (now (a .array)) (now (a .rows)) (a .wp) (pairs (drop 2 (now (a .line)))) (c .before .before .before .before .before .before .before .before .before .before .before .before .before .before .before .before .before .bytes-of .last .1 .0) (now (a .back)) (c .before .before .before .before .before .before .before .before .before .before .before .before .before .blank .last .0) (c .before .before .before .before .before .before .before .before .transact .last .1 .1 .1 .1 .1 .0) (c .before .before .before .before .before .before .before .before .transact .result) (sent-pairs (now (a .line)) (now (a .sent)) _ (s .pre .0) (c .before .before .before .before .before .before .before .before .before .before .before .before .before .before .before .before .before .bytes-of .ensures)) (omega (arith, s .pre, c .before .before .before .before .before .before .before .before .before .before .before .before .before .before .before .before .sent .given, c .before .before .before .before .before .before .before .before .before .before .before .before .back .given)) (c .before .before .before .before .before .before .before .before .before .before .before .before .before .blank .ensures) (c .before .before .before .before .before .before .before .before .transact .ensures .0) (c .before .before .before .before .before .before .before .before .transact .ensures .1) in
+    let r = sent-as (a .state) (now (a .array)) (now (a .rows)) (a .wp) (pairs (drop 2 (now (a .line)))) (c .before .before .before .before .before .before .before .before .before .before .before .before .before .before .before .before .before .bytes-of .last .1 .0) (now (a .back)) (c .before .before .before .before .before .before .before .before .before .before .before .before .before .blank .last .0) (c .before .before .before .before .before .before .before .before .transact .last .1 .1 .1 .1 .1 .0) (c .before .before .before .before .before .before .before .before .transact .result) (sent-pairs (now (a .line)) (now (a .sent)) _ (s .pre .0) (c .before .before .before .before .before .before .before .before .before .before .before .before .before .before .before .before .before .bytes-of .ensures)) (omega (arith, s .pre, c .before .before .before .before .before .before .before .before .before .before .before .before .before .before .before .before .sent .given, c .before .before .before .before .before .before .before .before .before .before .before .before .back .given)) (c .before .before .before .before .before .before .before .before .before .before .before .before .before .blank .ensures) (c .before .before .before .before .before .before .before .before .transact .ensures .0) (c .before .before .before .before .before .before .before .before .transact .ensures .1) in
     (ap (λ (x : Answer). x .next) (r .0), rw (← r .0, ← r .1) (c .before .before .put-answer .ensures))
 
 pub send-spec : {M : Type 1} → statement M

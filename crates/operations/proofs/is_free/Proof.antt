@@ -16,7 +16,7 @@ is-locked-requires : tie.Need-is-locked-requires
 is-locked-requires c κs = search needs
 
 returns : tie.Need-returns
-returns c = rw (c .before .enum-told .given .1, c .is-protected .ensures)
+returns c = rw (c .before .before .enum-told .given .1, c .is-protected .ensures)
 
 returns-2 : tie.Need-returns-2
 returns-2 c = rw (c .before .enum-told2 .given .1, c .is-locked .ensures)

@@ -15,7 +15,7 @@ both-requires c κs = search needs
 
 returns : tie.Need-returns
 unfolding bitsOk
-returns c = rw (c .both .ensures, c .before .function-low .ensures, c .before .before .status-low .ensures)
+returns c = rw (c .both .ensures, c .before .function-low .ensures, c .before .before .before .status-low .ensures)
 
 pub bits-ok-spec : {M : Type 1} → statement M
 bits-ok-spec = tie.close (tie.spec status-low-requires function-low-requires both-requires returns)

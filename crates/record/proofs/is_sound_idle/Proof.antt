@@ -1,8 +1,13 @@
--- `record::is_sound_idle` meets its contract: it joins the three tests as the definition does.
+-- `record::is_sound_idle` meets its contract: the tests that are left where the phase is idle.
+use Rattle.record.proofs.IdleSound.{idle-sound-as}
+use denote.Ref.{now}
+use mathlib.Core.Path.{sym}
 use borrow.Author.Needs.{needs}
-use Rattle.heads.specs.Heads.{idleSound}
 use Rattle.record.proofs.is_sound_idle.Statement.{statement}
 use Rattle.record.proofs.is_sound_idle.Tie as tie
+
+cast-size-ok : tie.Need-cast-size-ok
+cast-size-ok c = search needs
 
 size-ok-requires : tie.Need-size-ok-requires
 size-ok-requires c κs = search needs
@@ -10,8 +15,8 @@ size-ok-requires c κs = search needs
 bits-ok-requires : tie.Need-bits-ok-requires
 bits-ok-requires c κs = search needs
 
-page-ok-requires : tie.Need-page-ok-requires
-page-ok-requires c κs = search needs
+zero-from-requires : tie.Need-zero-from-requires
+zero-from-requires c κs = search needs
 
 both-requires : tie.Need-both-requires
 both-requires c κs = search needs
@@ -20,23 +25,16 @@ both-requires-2 : tie.Need-both-requires-2
 both-requires-2 c κs = search needs
 
 returns : tie.Need-returns
-unfolding idleSound
-returns c =
-    rw (
-      c .both2 .ensures,
-      c .before .both .ensures,
-      c .before .before .page-ok .ensures,
-      c .before .before .before .bits-ok .ensures,
-      c .before .before .before .before .size-ok .ensures,
-    )
+returns c = rw (c .both2 .ensures, c .before .both .ensures, c .before .before .zero-from .ensures, c .before .before .before .bits-ok .ensures, c .before .before .before .before .size-ok .ensures) (sym (idle-sound-as (c .before .before .before .before .before .before .before .before .args .part) (now (c .before .before .before .before .before .before .before .before .args .page))))
 
 pub is-sound-idle-spec : {M : Type 1} → statement M
 is-sound-idle-spec =
     tie.close
     (tie.spec
+    cast-size-ok
     size-ok-requires
     bits-ok-requires
-    page-ok-requires
+    zero-from-requires
     both-requires
     both-requires-2
     returns)

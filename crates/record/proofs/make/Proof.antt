@@ -1,16 +1,13 @@
--- `record::make` meets its contract: a head with page data.
+-- `record::make` meets its contract: the registers are made anew, the rest stays.
 use borrow.Author.Needs.{needs}
 use Rattle.record.proofs.make.Statement.{statement}
 use Rattle.record.proofs.make.Tie as tie
 
-make-head-requires : tie.Need-make-head-requires
-make-head-requires c κs = search needs
-
-join-requires : tie.Need-join-requires
-join-requires c κs = search needs
+registers-in-requires : tie.Need-registers-in-requires
+registers-in-requires c κs = search needs
 
 returns : tie.Need-returns
-returns c = rw (c .join .ensures, c .before .make-head .ensures)
+returns c = rw (c .registers-in .ensures)
 
 pub make-spec : {M : Type 1} → statement M
-make-spec = tie.close (tie.spec make-head-requires join-requires returns)
+make-spec = tie.close (tie.spec registers-in-requires returns)

@@ -1,82 +1,43 @@
--- `ticks::narrow_bytes` meets its contract. The loop's invariant: so many bytes are written.
-use Prim.Native.Nat.{_≤_, _-_}
-use mathlib.Core.Path.{_≡_, refl, ap, _∙_}
-use native.Mathlib.Numerals.{add-one}
-use native.Mathlib.Omega.{arith}
-use lib.ListN.{length}
+-- `ticks::narrow_bytes` meets its contract: the page is lent on, and goes back to its place.
+use Rattle.ticks.proofs.Laws.{narrowed-back}
 use denote.Ref.{now}
+use Prim.Native.Nat.{_+_, _-_}
 use borrow.Author.Needs.{needs}
-use Rattle.ticks.specs.Runs.{bytesNarrowed}
-use Rattle.ticks.proofs.Laws.{bytes-length}
+use native.Mathlib.Omega.{arith}
 use Rattle.ticks.proofs.narrow_bytes.Statement.{statement}
 use Rattle.ticks.proofs.narrow_bytes.Tie as tie
 
-abbrev Inv-loop : tie.InvT-loop
-Inv-loop memory₀ base start done kept count i₀ memory i =
-    (memory ≡ bytesNarrowed i base start done kept memory₀) × (i ≤ count)
+add-end : tie.Need-add-end
+add-end c = search needs
 
-abbrev μ-loop : tie.MeasureT-loop
-μ-loop memory₀ base start done kept count i₀ memory i = count - i
+sub-narrow-page : tie.Need-sub-narrow-page
+sub-narrow-page c = search needs
 
-loop-holds : tie.Need-loop-holds Inv-loop μ-loop
-loop-holds c = (refl, omega arith)
+part-narrow-page-start : tie.Need-part-narrow-page-start
+part-narrow-page-start c = search needs
 
-add-k : tie.Need-add-k Inv-loop μ-loop
-add-k c = omega (arith, c .before .before .before .pre)
+part-narrow-page-end : tie.Need-part-narrow-page-end
+part-narrow-page-end c = search needs
 
-page-place-requires : tie.Need-page-place-requires Inv-loop μ-loop
-page-place-requires c κs = tt
+narrow-page-requires : tie.Need-narrow-page-requires
+narrow-page-requires c κs = search needs
 
-cast-place : tie.Need-cast-place Inv-loop μ-loop
-cast-place c = search needs
+same-length : tie.Need-same-length
+same-length c = search needs
 
-add-place : tie.Need-add-place Inv-loop μ-loop
-add-place c = omega (arith, c .before .before .before .before .pre)
-
-element-copy-out-narrow : tie.Need-element-copy-out-narrow Inv-loop μ-loop
-element-copy-out-narrow c = omega (arith, c .before .before .before .before .before .pre)
-
-narrow-requires : tie.Need-narrow-requires Inv-loop μ-loop
-narrow-requires c κs = tt
-
-add-i : tie.Need-add-i Inv-loop μ-loop
-add-i c = omega (arith, c .before .before .before .before .before .before .before .before .before .pre)
-
-loop-less : tie.Need-loop-less Inv-loop μ-loop
-loop-less c = omega arith
-
-loop-again : tie.Need-loop-again Inv-loop μ-loop
-loop-again c =
-    let l = c .before .before .before .before .before .before .before .loop in
-    (c .before .before .narrow .ensures ∙ rw (l .inv .0, c .before .before .before .before .before .page-place .ensures, add-one), omega arith)
-
-same-length : tie.Need-same-length Inv-loop μ-loop
-same-length c =
-    let l = c .before .loop in
-    let a = c .before .before .before .args in
-    ap length (l .inv .0) ∙ bytes-length (l .i) (a .base) (a .start) (a .done) (now (a .kept)) (now (a .memory))
-
-returns : tie.Need-returns Inv-loop μ-loop
+returns : tie.Need-returns
 returns c =
-    let l = c .before .loop in
-    let e : l .i ≡ c .before .before .before .args .count = omega arith in
-    l .inv .0 ∙ rw e
+    let a = c .before .before .before .before .before .before .args in
+    narrowed-back (a .base) (a .start) (a .done) (now (a .kept)) (now (a .memory)) (c .before .before .before .before .before .before .pre .2) (a .count) (a .base + 256 - a .base) (omega arith) _ (c .before .before .narrow-page .ensures)
 
 pub narrow-bytes-spec : {M : Type 1} → statement M
 narrow-bytes-spec =
     tie.close
     (tie.spec
-    Inv-loop
-    μ-loop
-    loop-holds
-    add-k
-    page-place-requires
-    cast-place
-    add-place
-    element-copy-out-narrow
-    narrow-requires
-    add-i
-    loop-less
-    loop-again
+    add-end
+    sub-narrow-page
+    part-narrow-page-start
+    part-narrow-page-end
+    narrow-page-requires
     same-length
     returns)

@@ -1,26 +1,31 @@
--- `ticks::tick` meets its contract: the number decides, and a call that is not refused has a sound record and its own memory.
-use mathlib.Core.Path.{sym, _∙_}
-use borrow.Author.Tests.{eq-eqb, ne-eqb}
+-- `ticks::tick` meets its contract: what is told is made of the record.
+use Rattle.ticks.proofs.Waited.{ticked-told, memory-told}
+use Rattle.paper.specs.Sizes.{pageBytes}
+use Rattle.types.specs.declared.Memory.the-variants.{Array, Rows}
+use denote.Ref.{now}
+use lib.ListN.{length}
+use mathlib.Core.Path.{_≡_, _∙_}
 use borrow.Author.Needs.{needs}
-use Rattle.paper.proofs.Numbers.{ticks-taken}
-use Rattle.paper.specs.Calls.{ticked, tickedMemory}
 use Rattle.ticks.proofs.tick.Statement.{statement}
 use Rattle.ticks.proofs.tick.Tie as tie
 
-tick-number-requires : tie.Need-tick-number-requires
-tick-number-requires c κs = search needs
+slice-aggregate-tick-part : tie.Need-slice-aggregate-tick-part
+slice-aggregate-tick-part c = search needs
 
-returns : tie.Need-returns
-unfolding ticked tickedMemory
-returns c =
-    let n = c .before .tick-number .ensures in
-    let z = ne-eqb _ _ (c .if1 .taken) in
-    (rw (← n, z), (rw (← n, z), rw (← n, z)))
+tick-part-requires : tie.Need-tick-part-requires
+tick-part-requires c κs = search needs
 
-run-requires : tie.Need-run-requires
-run-requires c κs =
-    let t = ticks-taken _ _ _ _ (sym (c .before .before .before .tick-number .ensures) ∙ c .before .before .if1 .left) in
-    (t .is-sound, t .size, t .rows)
+sub-apply : tie.Need-sub-apply
+sub-apply c = search needs
+
+part-apply-start : tie.Need-part-apply-start
+part-apply-start c = search needs
+
+part-apply-end : tie.Need-part-apply-end
+part-apply-end c = search needs
+
+apply-requires : tie.Need-apply-requires
+apply-requires c κs = search needs
 
 same-length : tie.Need-same-length
 same-length c = search needs
@@ -28,15 +33,25 @@ same-length c = search needs
 same-length-2 : tie.Need-same-length-2
 same-length-2 c = search needs
 
-returns-2 : tie.Need-returns-2
-unfolding ticked tickedMemory
-returns-2 c =
-    let n = c .before .before .before .before .before .before .before .before .tick-number .ensures in
-    let z = eq-eqb _ _ (c .before .before .before .before .before .before .before .if1 .left) in
-    let r = c .before .before .before .before .run .ensures in
-    (rw (← n, z) (r .0), (rw (← n, z) (r .1), rw (← n, z) (r .2)))
+returns : tie.Need-returns
+returns c =
+    let s = c .before .before .before .before .before .before .before .before .before .before .before .before .before .before .before in
+    let a = s .args in
+    let g : length (a .state .page) ≡ pageBytes = search needs in
+    let w = c .before .before .before .before .before .before .before .tick-part .ensures in
+    let e = ticked-told (a .state) g (length (now (a .array))) (length (now (a .rows))) (a .ticks) in
+    (rw (c .apply .ensures, w .0) e, (w .1 .0 ∙ memory-told (a .state) g (length (now (a .array))) (length (now (a .rows))) (a .ticks) Array (now (a .array)), w .1 .1 ∙ memory-told (a .state) g (length (now (a .array))) (length (now (a .rows))) (a .ticks) Rows (now (a .rows))))
 
 pub tick-spec : {M : Type 1} → statement M
 tick-spec =
     tie.close
-    (tie.spec tick-number-requires returns run-requires same-length same-length-2 returns-2)
+    (tie.spec
+    slice-aggregate-tick-part
+    tick-part-requires
+    sub-apply
+    part-apply-start
+    part-apply-end
+    apply-requires
+    same-length
+    same-length-2
+    returns)

@@ -1,13 +1,17 @@
--- `ticks::tick_number` meets its contract: it joins the four numbers in the paper's order.
+-- `ticks::tick_number` meets its contract: it joins the four tests in the paper's order.
+use Rattle.ticks.specs.Waited.{soundIn}
+use Rattle.paper.specs.Numbers.{soundNumber, ticksNumber, tickNumber}
+use Rattle.words.proofs.Tests.{orElse-none}
 use mathlib.Core.Path.{_∙_}
 use borrow.Author.Needs.{needs}
-use Rattle.words.proofs.Tests.{orElse-none}
-use Rattle.paper.specs.Numbers.{soundNumber, ticksNumber, tickNumber}
 use Rattle.ticks.proofs.tick_number.Statement.{statement}
 use Rattle.ticks.proofs.tick_number.Tie as tie
 
-is-sound-requires : tie.Need-is-sound-requires
-is-sound-requires c κs = search needs
+is-sound-in-requires : tie.Need-is-sound-in-requires
+is-sound-in-requires c κs = search needs
+
+both-requires : tie.Need-both-requires
+both-requires c κs = search needs
 
 number-or-requires : tie.Need-number-or-requires
 number-or-requires c κs = search needs
@@ -19,20 +23,15 @@ memory-number-or-requires : tie.Need-memory-number-or-requires
 memory-number-or-requires c κs = search needs
 
 returns : tie.Need-returns
-unfolding tickNumber ticksNumber soundNumber
-returns c =
-    rw (
-      c .memory-number-or .ensures,
-      c .before .number-or2 .ensures,
-      c .before .before .number-or .ensures ∙ orElse-none _,
-      c .before .before .before .is-sound .ensures,
-    )
+unfolding tickNumber soundNumber ticksNumber soundIn
+returns c = rw (c .memory-number-or .ensures, c .before .number-or2 .ensures, c .before .before .number-or .ensures ∙ orElse-none _, c .before .before .before .both .ensures, c .before .before .before .before .is-sound-in .ensures)
 
 pub tick-number-spec : {M : Type 1} → statement M
 tick-number-spec =
     tie.close
     (tie.spec
-    is-sound-requires
+    is-sound-in-requires
+    both-requires
     number-or-requires
     number-or-requires-2
     memory-number-or-requires

@@ -19,7 +19,9 @@ enum-told c = search needs
 narrow-bytes-requires : tie.Need-narrow-bytes-requires
 narrow-bytes-requires c κs =
     let o = c .before .before .before .before .op .given in
-    rw (c .before .enum-told .given .1) at (rw (o .1) at (c .before .before .before .before .before .before .before .before .pre))
+    let q = c .before .before .before .before .before .before .before .before .before .pre in
+    let w = rw (c .before .enum-told .given .1) at (rw (o .1) at (q .1)) in
+    (w .0, q .0, w .1)
 
 enum-told-2 : tie.Need-enum-told-2
 enum-told-2 c = search needs
@@ -27,7 +29,9 @@ enum-told-2 c = search needs
 narrow-bytes-requires-2 : tie.Need-narrow-bytes-requires-2
 narrow-bytes-requires-2 c κs =
     let o = c .before .before .before .before .op .given in
-    rw (c .before .enum-told2 .given .1) at (rw (o .1) at (c .before .before .before .before .before .before .before .before .pre))
+    let q = c .before .before .before .before .before .before .before .before .before .pre in
+    let w = rw (c .before .enum-told2 .given .1) at (rw (o .1) at (q .1)) in
+    (w .0, q .0, w .1)
 
 enum-known-op-2 : tie.Need-enum-known-op-2
 enum-known-op-2 c = search needs
@@ -42,21 +46,21 @@ mul-erase-pages : tie.Need-mul-erase-pages
 mul-erase-pages c =
     let o = c .before .before .before .before .before .op2 .given in
     let m : memoryOf (o .0 .0) ≡ Array = sym (c .before .before .before .unit-memory .ensures) ∙ c .before .enum-told3 .given .1 in
-    let h = rw m at (rw (o .1) at (c .before .before .before .before .before .before .before .before .before .pre)) in
+    let h = rw m at (rw (o .1) at (c .before .before .before .before .before .before .before .before .before .before .pre .1)) in
     omega (arith, h)
 
 add-erase-pages : tie.Need-add-erase-pages
 add-erase-pages c =
     let o = c .before .before .before .before .before .op2 .given in
     let m : memoryOf (o .0 .0) ≡ Array = sym (c .before .before .before .unit-memory .ensures) ∙ c .before .enum-told3 .given .1 in
-    let h = rw m at (rw (o .1) at (c .before .before .before .before .before .before .before .before .before .pre)) in
+    let h = rw m at (rw (o .1) at (c .before .before .before .before .before .before .before .before .before .before .pre .1)) in
     omega (arith, h)
 
 erase-pages-requires : tie.Need-erase-pages-requires
 erase-pages-requires c κs =
     let o = c .before .before .before .before .before .op2 .given in
     let m : memoryOf (o .0 .0) ≡ Array = sym (c .before .before .before .unit-memory .ensures) ∙ c .before .enum-told3 .given .1 in
-    let h = rw m at (rw (o .1) at (c .before .before .before .before .before .before .before .before .before .pre)) in
+    let h = rw m at (rw (o .1) at (c .before .before .before .before .before .before .before .before .before .before .pre .1)) in
     omega (arith, h)
 
 enum-told-4 : tie.Need-enum-told-4
@@ -66,21 +70,21 @@ mul-erase-pages-2 : tie.Need-mul-erase-pages-2
 mul-erase-pages-2 c =
     let o = c .before .before .before .before .before .op2 .given in
     let m : memoryOf (o .0 .0) ≡ Rows = sym (c .before .before .before .unit-memory .ensures) ∙ c .before .enum-told4 .given .1 in
-    let h = rw m at (rw (o .1) at (c .before .before .before .before .before .before .before .before .before .pre)) in
+    let h = rw m at (rw (o .1) at (c .before .before .before .before .before .before .before .before .before .before .pre .1)) in
     omega (arith, h)
 
 add-erase-pages-2 : tie.Need-add-erase-pages-2
 add-erase-pages-2 c =
     let o = c .before .before .before .before .before .op2 .given in
     let m : memoryOf (o .0 .0) ≡ Rows = sym (c .before .before .before .unit-memory .ensures) ∙ c .before .enum-told4 .given .1 in
-    let h = rw m at (rw (o .1) at (c .before .before .before .before .before .before .before .before .before .pre)) in
+    let h = rw m at (rw (o .1) at (c .before .before .before .before .before .before .before .before .before .before .pre .1)) in
     omega (arith, h)
 
 erase-pages-requires-2 : tie.Need-erase-pages-requires-2
 erase-pages-requires-2 c κs =
     let o = c .before .before .before .before .before .op2 .given in
     let m : memoryOf (o .0 .0) ≡ Rows = sym (c .before .before .before .unit-memory .ensures) ∙ c .before .enum-told4 .given .1 in
-    let h = rw m at (rw (o .1) at (c .before .before .before .before .before .before .before .before .before .pre)) in
+    let h = rw m at (rw (o .1) at (c .before .before .before .before .before .before .before .before .before .before .pre .1)) in
     omega (arith, h)
 
 enum-told-5 : tie.Need-enum-told-5
@@ -91,7 +95,7 @@ same-length c = search needs
 
 returns : tie.Need-returns
 returns c =
-    let a = c .before .before .before .before .before .before .before .before .before .before .before .args in
+    let a = c .before .before .before .before .before .before .before .before .before .before .before .before .args in
     let o = c .before .before .before .before .before .before .before .op .given in
     let m : o .0 .0 ≡ Array = c .before .before .before .before .enum-told .given .1 in
     let v = o .0 in
@@ -104,7 +108,7 @@ same-length-2 c = search needs
 
 returns-2 : tie.Need-returns-2
 returns-2 c =
-    let a = c .before .before .before .before .before .before .before .before .before .before .before .args in
+    let a = c .before .before .before .before .before .before .before .before .before .before .before .before .args in
     let o = c .before .before .before .before .before .before .before .op .given in
     let m : o .0 .0 ≡ Rows = c .before .before .before .before .enum-told2 .given .1 in
     let v = o .0 in
@@ -117,7 +121,7 @@ same-length-3 c = search needs
 
 returns-3 : tie.Need-returns-3
 returns-3 c =
-    let a = c .before .before .before .before .before .before .before .before .before .before .before .before .args in
+    let a = c .before .before .before .before .before .before .before .before .before .before .before .before .before .args in
     let o = c .before .before .before .before .before .before .before .before .op2 .given in
     let m : memoryOf (o .0 .0) ≡ Array = sym (c .before .before .before .before .before .before .unit-memory .ensures) ∙ c .before .before .before .before .enum-told3 .given .1 in
     let v = o .0 in
@@ -130,7 +134,7 @@ same-length-4 c = search needs
 
 returns-4 : tie.Need-returns-4
 returns-4 c =
-    let a = c .before .before .before .before .before .before .before .before .before .before .before .before .args in
+    let a = c .before .before .before .before .before .before .before .before .before .before .before .before .before .args in
     let o = c .before .before .before .before .before .before .before .before .op2 .given in
     let m : memoryOf (o .0 .0) ≡ Rows = sym (c .before .before .before .before .before .before .unit-memory .ensures) ∙ c .before .before .before .before .enum-told4 .given .1 in
     let v = o .0 in
@@ -140,7 +144,7 @@ returns-4 c =
 
 returns-5 : tie.Need-returns-5
 returns-5 c =
-    let a = c .before .before .before .before .args in
+    let a = c .before .before .before .before .before .args in
     let o = c .enum-told5 .given in
     rw (o .1) (sym (ran-write Array (now (a .kept)) (now (a .array)) (o .0 .0) (o .0 .1 .0) (a .count)), sym (ran-write Rows (now (a .kept)) (now (a .rows)) (o .0 .0) (o .0 .1 .0) (a .count)))
 

@@ -1,14 +1,15 @@
 -- `ticks::work` meets its contract: the law of a run over any operation, with as many ticks as find something to do.
-use Prim.Native.Nat.{_-_, _≤_, _<_, min}
-use mathlib.Core.Path.{_≡_, sym, _∙_}
-use native.Mathlib.Omega.{arith}
-use denote.Ref.{now}
-use borrow.Author.Needs.{needs}
-use Rattle.types.specs.declared.Memory.the-variants.{Array, Rows}
+use Rattle.ticks.proofs.Laws.{left-within, all-le, same-waited}
+use Rattle.ticks.specs.Waited.{ticksLeft, changeAfter}
 use Rattle.paper.proofs.Runs.{ran-all}
-use Rattle.paper.proofs.Soundness.{busy-in-order}
+use Rattle.paper.proofs.Soundness.{recordOf, running-in-order}
 use Rattle.paper.specs.Operations.{ticksInAll, ticksDone}
-use Rattle.ticks.proofs.Laws.{left-within, all-le, same-ticked}
+use Rattle.types.specs.declared.Memory.the-variants.{Array, Rows}
+use denote.Ref.{now}
+use mathlib.Core.Path.{_≡_, sym, ap, _∙_}
+use Prim.Native.Nat.{ℕ, _-_, _≤_, _<_, min}
+use borrow.Author.Needs.{needs}
+use native.Mathlib.Omega.{arith}
 use Rattle.ticks.proofs.work.Statement.{statement}
 use Rattle.ticks.proofs.work.Tie as tie
 
@@ -21,25 +22,31 @@ ticks-done-requires c κs = search needs
 sub-left : tie.Need-sub-left
 sub-left c =
     let s = c .before .before .before .before .before in
-    omega (arith, c .ticks-done .ensures, c .before .ticks-in-all .ensures, busy-in-order (s .args .part) (s .args .op) (s .pre .0) (s .pre .1) .going)
+    let a = s .args in
+    let p = recordOf (a .part) (a .phase) (now (a .page)) in
+    let i = running-in-order p (a .op) (s .pre .0) (s .pre .1) in
+    omega (arith, c .ticks-done .ensures, c .before .ticks-in-all .ensures, i .going)
 
 lesser-requires : tie.Need-lesser-requires
 lesser-requires c κs = search needs
 
 touch-requires : tie.Need-touch-requires
 touch-requires c κs =
-    let s = c .before .before .before .before .before .before .before .before .before in
-    let i = busy-in-order (s .args .part) (s .args .op) (s .pre .0) (s .pre .1) in
-    let h : c .before .before .before .lesser .result ≤ ticksInAll (s .args .op) (s .args .part .blocks) - ticksDone (s .args .op) =
-    omega (arith, c .before .before .before .lesser .ensures, c .before .before .before .before .ticks-done .ensures, c .before .before .before .before .before .ticks-in-all .ensures) in
-    left-within (s .args .op) (s .args .part .blocks) _ _ _ _ _ i h (s .pre .2) (s .pre .3)
+    let s = c .before .before .before .before .before .before .before .before in
+    let a = s .args in
+    let p = recordOf (a .part) (a .phase) (now (a .page)) in
+    let i = running-in-order p (a .op) (s .pre .0) (s .pre .1) in
+    let h : c .before .before .lesser .result ≤ ticksInAll (a .op) (a .part .blocks) - ticksDone (a .op) = omega (arith, c .before .before .lesser .ensures, c .before .before .before .ticks-done .ensures, c .before .before .before .before .ticks-in-all .ensures) in
+    (s .pre .2, left-within (a .op) (a .part .blocks) (a .part .stored) _ _ _ i h (s .pre .3) (s .pre .4))
 
-next-record-requires : tie.Need-next-record-requires
-next-record-requires c κs =
-    let s = c .before .before .before .before .before .before .before .before .before .before .before .before .before .before in
-    let i = busy-in-order (s .args .part) (s .args .op) (s .pre .0) (s .pre .1) in
-    let n : s .args .part .blocks < 65536 = omega arith in
-    omega (arith, c .before .before .before .before .before .before .before .before .lesser .ensures, c .before .before .before .before .before .before .before .before .before .ticks-done .ensures, c .before .before .before .before .before .before .before .before .before .before .ticks-in-all .ensures, i .going, all-le (s .args .op) (s .args .part .blocks) _ _ i n)
+change-after-requires : tie.Need-change-after-requires
+change-after-requires c κs =
+    let s = c .before .before .before .before .before .before .before .before .before .before .before .before .before in
+    let a = s .args in
+    let p = recordOf (a .part) (a .phase) (now (a .page)) in
+    let i = running-in-order p (a .op) (s .pre .0) (s .pre .1) in
+    let n : a .part .blocks < 65536 = omega arith in
+    (omega (arith, c .before .before .before .before .before .before .before .lesser .ensures, c .before .before .before .before .before .before .before .before .ticks-done .ensures, c .before .before .before .before .before .before .before .before .before .ticks-in-all .ensures, i .going, all-le (a .op) (a .part .blocks) (a .part .stored) i n), rw (c .before .before .before .before .before .before .before .before .ticks-done .ensures, c .before .before .before .before .before .before .before .before .before .ticks-in-all .ensures))
 
 same-length : tie.Need-same-length
 same-length c = search needs
@@ -49,17 +56,14 @@ same-length-2 c = search needs
 
 returns : tie.Need-returns
 returns c =
-    let s = c .before .before .before .before .before .before .before .before .before .before .before .before .before .before .before in
-    let p = s .args .part in
-    let o = s .args .op in
-    let count = c .before .before .before .before .before .before .before .before .before .lesser .result in
-    let k : count ≡ min (s .args .ticks) (ticksInAll o (p .blocks) - ticksDone o) =
-    c .before .before .before .before .before .before .before .before .before .lesser .ensures ∙ rw (c .before .before .before .before .before .before .before .before .before .before .ticks-done .ensures, c .before .before .before .before .before .before .before .before .before .before .before .ticks-in-all .ensures) in
-    let r = ran-all p o (s .pre .0) (s .args .ticks) count (busy-in-order p o (s .pre .0) (s .pre .1) .going) k in (
-      same-ticked _ _ _ _ (c .next-record .ensures ∙ rw (c .before .before .before .before .before .before .before .before .before .before .ticks-done .ensures, c .before .before .before .before .before .before .before .before .before .before .before .ticks-in-all .ensures) (sym (r .next))) (sym (r .done)),
-      c .before .before .before .before .before .touch .ensures .0 ∙ sym (r .memory Array (now (s .args .array))),
-      c .before .before .before .before .before .touch .ensures .1 ∙ sym (r .memory Rows (now (s .args .rows))),
-    )
+    let s = c .before .before .before .before .before .before .before .before .before .before .before .before .before .before in
+    let a = s .args in
+    let p = recordOf (a .part) (a .phase) (now (a .page)) in
+    let i = running-in-order p (a .op) (s .pre .0) (s .pre .1) in
+    let count = c .before .before .before .before .before .before .before .before .lesser .result in
+    let k : count ≡ min (a .ticks) (ticksLeft (a .op) (a .part .blocks)) = c .before .before .before .before .before .before .before .before .lesser .ensures ∙ rw (c .before .before .before .before .before .before .before .before .before .ticks-done .ensures, c .before .before .before .before .before .before .before .before .before .before .ticks-in-all .ensures) in
+    let r = ran-all p (a .op) (s .pre .0) (a .ticks) count (i .going) k in
+    (same-waited _ _ _ _ (c .change-after .ensures ∙ ap (λ (j : ℕ). changeAfter j (a .op) (a .part) (a .phase)) k) (sym (r .done)), c .before .before .before .before .before .touch .ensures .0 ∙ sym (r .memory Array (now (a .array))), c .before .before .before .before .before .touch .ensures .1 ∙ sym (r .memory Rows (now (a .rows))))
 
 pub work-spec : {M : Type 1} → statement M
 work-spec =
@@ -70,7 +74,7 @@ work-spec =
     sub-left
     lesser-requires
     touch-requires
-    next-record-requires
+    change-after-requires
     same-length
     same-length-2
     returns)

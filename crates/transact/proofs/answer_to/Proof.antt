@@ -1,20 +1,24 @@
 -- `transact::answer_to` meets its contract: the number decides, and a command that is executed has something to drive.
-use mathlib.Core.Path.{_≡_, sym, ap, _∙_}
-use denote.Ref.{now}
-use borrow.Author.Tests.{eq-eqb, ne-eqb}
-use borrow.Author.Needs.{needs}
-use Rattle.types.specs.declared.Columns.{Columns}
-use Rattle.paper.proofs.Numbers.{command-taken}
-use Rattle.paper.specs.Numbers.{commandNumber}
-use Rattle.paper.specs.Reads.{outputOf}
-use Rattle.paper.specs.Table.{columns}
-use Rattle.heads.specs.Heads.{bare}
 use Rattle.transact.proofs.Driven.{has-bytes}
+use Rattle.paper.proofs.Numbers.{command-taken}
+use Rattle.paper.specs.Numbers.{commandNumber, ignoredNumber}
+use Rattle.paper.specs.Commands.{begins}
+use Rattle.paper.specs.Reads.{outputOf}
+use Rattle.types.specs.declared.Columns.{Columns}
+use Rattle.types.specs.declared.Decoded.the-variants.{Known}
+use Rattle.types.specs.declared.Work.{Work}
+use borrow.Author.Tests.{eq-eqb, ne-eqb}
+use denote.Ref.{now}
+use mathlib.Core.Path.{_≡_, sym, ap, _∙_}
+use borrow.Author.Needs.{needs}
 use Rattle.transact.proofs.answer_to.Statement.{statement}
 use Rattle.transact.proofs.answer_to.Tie as tie
 
 columns-of-requires : tie.Need-columns-of-requires
 columns-of-requires c κs = search needs
+
+begins-requires : tie.Need-begins-requires
+begins-requires c κs = search needs
 
 command-number-requires : tie.Need-command-number-requires
 command-number-requires c κs = search needs
@@ -27,19 +31,19 @@ same-length c = search needs
 
 returns : tie.Need-returns
 returns c =
-    let s = c .before .before .before .before .before .before .before .before .before .before .before in
+    let s = c .before .before .before .before .before .before .before .before .before .before .before .before in
     let a = s .args in
-    let n : c .before .before .before .before .before .command-number .result ≡ commandNumber (columns (a .command)) (bare (a .part)) (now (a .input)) (a .wp) =
-    c .before .before .before .before .before .command-number .ensures ∙ ap (λ (x : Columns). commandNumber x (bare (a .part)) (now (a .input)) (a .wp)) (c .before .before .before .before .before .before .columns-of .ensures) in
+    let n : c .before .before .before .before .before .command-number .result ≡ ignoredNumber (Known (a .command)) (a .part) (a .phase) (now (a .input)) (a .wp) = c .before .before .before .before .before .command-number .ensures ∙ ap (λ (w : Work). commandNumber (c .before .before .before .before .before .before .before .columns-of .result) w (a .part) (a .phase) (now (a .input)) (a .wp)) (c .before .before .before .before .before .before .begins .ensures) ∙ ap (λ (x : Columns). commandNumber x (begins (x .effect) (a .part .blocks) (now (a .input))) (a .part) (a .phase) (now (a .input)) (a .wp)) (c .before .before .before .before .before .before .before .columns-of .ensures) in
     let z = ne-eqb _ _ (c .before .before .before .before .if1 .taken) in
     (rw (← n, z) (c .before .before .ignore .ensures .0), rw (← n, z, ← s .pre .3) (c .before .before .ignore .ensures .1))
 
 show-requires : tie.Need-show-requires
 show-requires c κs =
-    let s = c .before .before .before .before .before .before .before .before in
+    let s = c .before .before .before .before .before .before .before .before .before in
     let a = s .args in
-    let t = command-taken _ (bare (a .part)) (now (a .input)) (a .wp) (sym (c .before .before .command-number .ensures) ∙ c .before .if1 .left) in
-    (has-bytes (bare (a .part)) (now (a .array)) (now (a .rows)) (now (a .input)) (s .pre .0) (s .pre .1) (s .pre .2) (c .before .before .before .columns-of .result) (t .row-address-ok), s .pre .3)
+    let n : c .before .before .command-number .result ≡ ignoredNumber (Known (a .command)) (a .part) (a .phase) (now (a .input)) (a .wp) = c .before .before .command-number .ensures ∙ ap (λ (w : Work). commandNumber (c .before .before .before .before .columns-of .result) w (a .part) (a .phase) (now (a .input)) (a .wp)) (c .before .before .before .begins .ensures) ∙ ap (λ (x : Columns). commandNumber x (begins (x .effect) (a .part .blocks) (now (a .input))) (a .part) (a .phase) (now (a .input)) (a .wp)) (c .before .before .before .before .columns-of .ensures) in
+    let t = command-taken _ _ (a .part) (a .phase) (now (a .input)) (a .wp) (sym n ∙ c .before .if1 .left) in
+    (rw (c .before .before .before .before .columns-of .ensures) (has-bytes (a .part) (now (a .array)) (now (a .rows)) (now (a .input)) (s .pre .0) (s .pre .1) (s .pre .2) (a .command) (t .address-ok)), s .pre .3)
 
 change-by-requires : tie.Need-change-by-requires
 change-by-requires c κs = search needs
@@ -52,19 +56,17 @@ same-length-2 c = search needs
 
 returns-2 : tie.Need-returns-2
 returns-2 c =
-    let a = c .before .before .before .before .before .before .before .before .before .before .before .before .before .args in
-    let n : c .before .before .before .before .before .before .before .command-number .result ≡ commandNumber (columns (a .command)) (bare (a .part)) (now (a .input)) (a .wp) =
-    c .before .before .before .before .before .before .before .command-number .ensures ∙ ap (λ (x : Columns). commandNumber x (bare (a .part)) (now (a .input)) (a .wp)) (c .before .before .before .before .before .before .before .before .columns-of .ensures) in
-    let z = eq-eqb _ _ (c .before .before .before .before .before .before .if1 .left) in (
-      rw (← n, z, c .before .change-by .ensures, c .first-driven .ensures, c .before .before .before .before .before .before .before .before .columns-of .ensures),
-      rw (← n, z) (c .before .before .before .before .show .ensures ∙ ap (λ (x : Columns). outputOf x (bare (a .part)) (now (a .array)) (now (a .rows)) (now (a .input))) (c .before .before .before .before .before .before .before .before .columns-of .ensures)),
-    )
+    let a = c .before .before .before .before .before .before .before .before .before .before .before .before .before .before .args in
+    let n : c .before .before .before .before .before .before .before .command-number .result ≡ ignoredNumber (Known (a .command)) (a .part) (a .phase) (now (a .input)) (a .wp) = c .before .before .before .before .before .before .before .command-number .ensures ∙ ap (λ (w : Work). commandNumber (c .before .before .before .before .before .before .before .before .before .columns-of .result) w (a .part) (a .phase) (now (a .input)) (a .wp)) (c .before .before .before .before .before .before .before .before .begins .ensures) ∙ ap (λ (x : Columns). commandNumber x (begins (x .effect) (a .part .blocks) (now (a .input))) (a .part) (a .phase) (now (a .input)) (a .wp)) (c .before .before .before .before .before .before .before .before .before .columns-of .ensures) in
+    let z = eq-eqb _ _ (c .before .before .before .before .before .before .if1 .left) in
+    (rw (← n, z, c .before .change-by .ensures, c .first-driven .ensures, c .before .before .before .before .before .before .before .before .begins .ensures, c .before .before .before .before .before .before .before .before .before .columns-of .ensures), rw (← n, z) (c .before .before .before .before .show .ensures ∙ ap (λ (x : Columns). outputOf x (a .part) (now (a .array)) (now (a .rows)) (now (a .input))) (c .before .before .before .before .before .before .before .before .before .columns-of .ensures)))
 
 pub answer-to-spec : {M : Type 1} → statement M
 answer-to-spec =
     tie.close
     (tie.spec
     columns-of-requires
+    begins-requires
     command-number-requires
     ignore-requires
     same-length

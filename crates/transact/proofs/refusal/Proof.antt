@@ -1,9 +1,8 @@
--- `transact::refusal` meets its contract: it joins the numbers in the paper's order.
+-- `transact::refusal` meets its contract: it joins the five tests in the paper's order.
+use Rattle.paper.specs.Numbers.{lengthNumber, outputNumber, soundNumber, transactionRefusal}
+use Rattle.words.proofs.Tests.{orElse-none}
 use mathlib.Core.Path.{_∙_}
 use borrow.Author.Needs.{needs}
-use Rattle.words.proofs.Tests.{orElse-none, orElse-assoc}
-use Rattle.paper.specs.Numbers.{lengthNumber, outputNumber}
-use Rattle.heads.specs.Outcomes.{refusalFor, levelRefusal}
 use Rattle.transact.proofs.refusal.Statement.{statement}
 use Rattle.transact.proofs.refusal.Tie as tie
 
@@ -19,27 +18,12 @@ number-or-requires-2 c κs = search needs
 number-or-requires-3 : tie.Need-number-or-requires-3
 number-or-requires-3 c κs = search needs
 
-number-or-requires-4 : tie.Need-number-or-requires-4
-number-or-requires-4 c κs = search needs
-
 memory-number-or-requires : tie.Need-memory-number-or-requires
 memory-number-or-requires c κs = search needs
 
 returns : tie.Need-returns
-unfolding levelRefusal refusalFor lengthNumber outputNumber
-returns c =
-    rw (
-      orElse-assoc _ _ _,
-      orElse-assoc _ _ _,
-      orElse-assoc _ _ _,
-      orElse-assoc _ _ _,
-      c .memory-number-or .ensures,
-      c .before .number-or4 .ensures,
-      c .before .before .number-or3 .ensures,
-      c .before .before .before .number-or2 .ensures,
-      c .before .before .before .before .number-or .ensures ∙ orElse-none _,
-      c .before .before .before .before .before .both .ensures,
-    )
+unfolding transactionRefusal lengthNumber outputNumber soundNumber
+returns c = rw (c .memory-number-or .ensures, c .before .number-or3 .ensures, c .before .before .number-or2 .ensures, c .before .before .before .number-or .ensures ∙ orElse-none _, c .before .before .before .before .both .ensures)
 
 pub refusal-spec : {M : Type 1} → statement M
 refusal-spec =
@@ -49,6 +33,5 @@ refusal-spec =
     number-or-requires
     number-or-requires-2
     number-or-requires-3
-    number-or-requires-4
     memory-number-or-requires
     returns)

@@ -1,5 +1,4 @@
 -- `yawlspar::given_number` meets its contract: it joins the tests in the definition's order.
-use mathlib.Core.Path.{_∙_}
 use borrow.Author.Needs.{needs}
 use Rattle.words.proofs.Tests.{orElse-none}
 use Rattle.yawlspar.specs.Face.{givenNumber}
@@ -35,18 +34,7 @@ number-or-requires-2 c κs = search needs
 
 returns : tie.Need-returns
 unfolding givenNumber
-returns c =
-    rw (
-      c .number-or2 .ensures,
-      c .before .number-or .ensures ∙ orElse-none _,
-      c .before .before .both6 .ensures,
-      c .before .before .before .both5 .ensures,
-      c .before .before .before .before .both4 .ensures,
-      c .before .before .before .before .before .both3 .ensures,
-      c .before .before .before .before .before .before .both2 .ensures,
-      c .before .before .before .before .before .before .before .both .ensures,
-      c .before .before .before .before .before .before .before .before .size-ok .ensures,
-    )
+returns c = rw (c .number-or2 .ensures, c .before .number-or .ensures, orElse-none, c .before .before .both6 .ensures, c .before .before .before .both5 .ensures, c .before .before .before .before .both4 .ensures, c .before .before .before .before .before .both3 .ensures, c .before .before .before .before .before .before .both2 .ensures, c .before .before .before .before .before .before .before .both .ensures, c .before .before .before .before .before .before .before .before .size-ok .ensures)
 
 pub given-number-spec : {M : Type 1} → statement M
 given-number-spec =

@@ -1,10 +1,10 @@
--- `yawlspar::yawlspar_power_up` meets its contract: what is given decides, then power-up's own number; numbers that are taken fit their bytes.
-use Rattle.yawlspar.proofs.Face.{given, given-number, own-number, own-image, no-image}
-use Rattle.image.proofs.Back.{written-in}
-use denote.Ref.{now}
+-- `yawlspar::yawlspar_power_up` meets its contract: refused, the buffer is left alone; else it has the record's length and takes its bytes.
 use mathlib.Core.Path.{sym, _∙_}
-use borrow.Author.Needs.{needs}
 use native.Mathlib.Omega.{arith}
+use denote.Ref.{now}
+use borrow.Author.Needs.{needs}
+use Rattle.record_bytes.proofs.Back.{written-in}
+use Rattle.yawlspar.proofs.Face.{given, given-number, own-number, own-bytes, no-bytes}
 use Rattle.yawlspar.proofs.yawlspar_power_up.Statement.{statement}
 use Rattle.yawlspar.proofs.yawlspar_power_up.Tie as tie
 
@@ -19,10 +19,7 @@ returns c =
     let a = c .before .before .before .args in
     let g = c .before .given-number in
     let e = given-number (a .blocks) (a .maker) (a .kind) (a .capacity) (a .device) (a .status) (a .function) (now (a .bytes)) (g .result) (g .ensures) (c .if1 .taken) in
-    (omega (arith, e), no-image (a .blocks) (a .maker) (a .kind) (a .capacity) (a .device) (a .status) (a .function) (now (a .bytes)) (g .result) (g .ensures) _ e (c .if1 .taken))
-
-cast-power-up : tie.Need-cast-power-up
-cast-power-up c = omega (arith, given _ _ _ _ _ _ _ _ (sym (c .before .given-number .ensures) ∙ c .if1 .left))
+    (omega (arith, e), no-bytes (a .blocks) (a .maker) (a .kind) (a .capacity) (a .device) (a .status) (a .function) (now (a .bytes)) (g .result) (g .ensures) _ e (c .if1 .taken))
 
 cast-t16 : tie.Need-cast-t16
 cast-t16 c = omega (arith, given _ _ _ _ _ _ _ _ (sym (c .before .given-number .ensures) ∙ c .if1 .left))
@@ -30,17 +27,23 @@ cast-t16 c = omega (arith, given _ _ _ _ _ _ _ _ (sym (c .before .given-number .
 cast-t17 : tie.Need-cast-t17
 cast-t17 c = omega (arith, given _ _ _ _ _ _ _ _ (sym (c .before .given-number .ensures) ∙ c .if1 .left))
 
-cast-power-up-2 : tie.Need-cast-power-up-2
-cast-power-up-2 c = omega (arith, given _ _ _ _ _ _ _ _ (sym (c .before .given-number .ensures) ∙ c .if1 .left))
+cast-t18 : tie.Need-cast-t18
+cast-t18 c = omega (arith, given _ _ _ _ _ _ _ _ (sym (c .before .given-number .ensures) ∙ c .if1 .left))
 
-cast-power-up-3 : tie.Need-cast-power-up-3
-cast-power-up-3 c = omega (arith, given _ _ _ _ _ _ _ _ (sym (c .before .given-number .ensures) ∙ c .if1 .left))
+cast-t19 : tie.Need-cast-t19
+cast-t19 c = omega (arith, given _ _ _ _ _ _ _ _ (sym (c .before .given-number .ensures) ∙ c .if1 .left))
 
-cast-power-up-4 : tie.Need-cast-power-up-4
-cast-power-up-4 c = omega (arith, given _ _ _ _ _ _ _ _ (sym (c .before .given-number .ensures) ∙ c .if1 .left))
+no-stored-requires : tie.Need-no-stored-requires
+no-stored-requires c κs = search needs
 
-cast-power-up-5 : tie.Need-cast-power-up-5
-cast-power-up-5 c = omega (arith, given _ _ _ _ _ _ _ _ (sym (c .before .given-number .ensures) ∙ c .if1 .left))
+cast-stored : tie.Need-cast-stored
+cast-stored c = omega (arith, given _ _ _ _ _ _ _ _ (sym (c .before .before .given-number .ensures) ∙ c .before .if1 .left))
+
+cast-stored-2 : tie.Need-cast-stored-2
+cast-stored-2 c = omega (arith, given _ _ _ _ _ _ _ _ (sym (c .before .before .given-number .ensures) ∙ c .before .if1 .left))
+
+cast-power-up : tie.Need-cast-power-up
+cast-power-up c = omega (arith, given _ _ _ _ _ _ _ _ (sym (c .before .before .given-number .ensures) ∙ c .before .if1 .left))
 
 power-up-requires : tie.Need-power-up-requires
 power-up-requires c κs = search needs
@@ -50,11 +53,11 @@ cast-result-2 c = search needs
 
 returns-2 : tie.Need-returns-2
 returns-2 c =
-    let a = c .before .before .before .before .before .before .before .args in
-    let g = c .before .before .before .before .before .given-number in
+    let a = c .before .before .before .before .before .before .before .before .args in
+    let g = c .before .before .before .before .before .before .given-number in
     let u = c .before .before .before .power-up in
-    let e = own-number (a .blocks) (a .maker) (a .kind) (a .capacity) (a .device) (a .status) (a .function) (now (a .bytes)) (g .result) (g .ensures) (u .result) (c .before .before .before .before .if1 .left) (u .ensures) in
-    (omega (arith, e), no-image (a .blocks) (a .maker) (a .kind) (a .capacity) (a .device) (a .status) (a .function) (now (a .bytes)) (g .result) (g .ensures) _ e (c .before .if2 .taken))
+    let e = own-number (a .blocks) (a .maker) (a .kind) (a .capacity) (a .device) (a .status) (a .function) (now (a .bytes)) (g .result) (g .ensures) (u .result) (c .before .before .before .before .before .if1 .left) (u .ensures) in
+    (omega (arith, e), no-bytes (a .blocks) (a .maker) (a .kind) (a .capacity) (a .device) (a .status) (a .function) (now (a .bytes)) (g .result) (g .ensures) _ e (c .before .if2 .taken))
 
 write-record-requires : tie.Need-write-record-requires
 write-record-requires c κs = search needs
@@ -64,13 +67,13 @@ same-length c = search needs
 
 returns-3 : tie.Need-returns-3
 returns-3 c =
-    let a = c .before .before .before .before .before .before .before .before .before .before .before .args in
-    let g = c .before .before .before .before .before .before .before .before .before .given-number in
+    let a = c .before .before .before .before .before .before .before .before .before .before .before .before .args in
+    let g = c .before .before .before .before .before .before .before .before .before .before .given-number in
     let u = c .before .before .before .before .before .before .before .power-up in
-    let z = c .before .before .before .before .before .before .before .before .if1 .left in
+    let z = c .before .before .before .before .before .before .before .before .before .if1 .left in
     let o = c .before .before .before .before .before .if2 .left in
     let e = own-number (a .blocks) (a .maker) (a .kind) (a .capacity) (a .device) (a .status) (a .function) (now (a .bytes)) (g .result) (g .ensures) (u .result) z (u .ensures) in
-    (omega (arith, e, o), c .before .before .write-record .ensures ∙ written-in _ _ (given _ _ _ _ _ _ _ _ (sym (g .ensures) ∙ z) .whole) ∙ own-image (a .blocks) (a .maker) (a .kind) (a .capacity) (a .device) (a .status) (a .function) (now (a .bytes)) (g .result) (g .ensures) (u .result) z (u .ensures) o)
+    (omega (arith, e, o), c .before .before .write-record .ensures ∙ written-in _ _ (given _ _ _ _ _ _ _ _ (sym (g .ensures) ∙ z) .whole) ∙ own-bytes (a .blocks) (a .maker) (a .kind) (a .capacity) (a .device) (a .status) (a .function) (now (a .bytes)) (g .result) (g .ensures) (u .result) z (u .ensures) o)
 
 pub yawlspar-power-up-spec : {M : Type 1} → statement M
 yawlspar-power-up-spec =
@@ -79,13 +82,14 @@ yawlspar-power-up-spec =
     given-number-requires
     cast-result
     returns
-    cast-power-up
     cast-t16
     cast-t17
-    cast-power-up-2
-    cast-power-up-3
-    cast-power-up-4
-    cast-power-up-5
+    cast-t18
+    cast-t19
+    no-stored-requires
+    cast-stored
+    cast-stored-2
+    cast-power-up
     power-up-requires
     cast-result-2
     returns-2

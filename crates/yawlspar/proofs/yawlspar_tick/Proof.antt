@@ -1,32 +1,53 @@
--- `yawlspar::yawlspar_tick` meets its contract: bytes that hold no record are left alone, others take the call's next record.
-use Rattle.yawlspar.proofs.Face.{next-written, unheld-tick-answer, unheld-tick-image, unheld-memory, tick-answer, tick-image, tick-memory}
-use Rattle.yawlspar.proofs.Laws.{done-few}
+-- `yawlspar::yawlspar_tick` meets its contract: bytes that hold no record are left alone, and else what the ticks make of the record is written.
+use mathlib.Core.Path.{sym, ap, _∙_}
+use native.Mathlib.Omega.{arith}
+use denote.Ref.{now}
 use borrow.Author.Tests.{not-true, not-false}
-use mathlib.Core.Path.{_∙_}
 use borrow.Author.Needs.{needs}
+use Rattle.record_bytes.specs.declared.Found.{Found}
+use Rattle.record_bytes.specs.Read.{recordIn}
+use Rattle.record_bytes.proofs.Back.{held-length}
+use Rattle.yawlspar.proofs.Face.{unheld-tick-answer, unheld-tick-bytes, unheld-memory, told-done, tick-answer, tick-bytes, tick-memory}
 use Rattle.yawlspar.proofs.yawlspar_tick.Statement.{statement}
 use Rattle.yawlspar.proofs.yawlspar_tick.Tie as tie
 
-read-record-requires : tie.Need-read-record-requires
-read-record-requires c κs = search needs
+read-part-requires : tie.Need-read-part-requires
+read-part-requires c κs = search needs
 
 same-length : tie.Need-same-length
 same-length c = search needs
 
 returns : tie.Need-returns
 returns c =
-    let h = c .before .before .read-record in
-    let n = not-true _ (c .if1 .taken) in
-    (rw (← h .ensures) (unheld-tick-answer (h .result) _ _ _ n), (rw (← h .ensures) (unheld-tick-image (h .result) _ _ _ _ n), (rw (← h .ensures) (unheld-memory (h .result) _ _ _ _ _ n), rw (← h .ensures) (unheld-memory (h .result) _ _ _ _ _ n))))
+    let h = recordIn (now (c .before .before .before .before .before .before .before .args .bytes)) in
+    let n = ap (λ (x : Found). x .ok) (sym (c .before .before .read-part .ensures)) ∙ not-true _ (c .if1 .taken) in
+    (unheld-tick-answer h n _ _ _, (unheld-tick-bytes h n _ _ _ _, (unheld-memory h n _ _ _ _ _, unheld-memory h n _ _ _ _ _)))
 
-tick-requires : tie.Need-tick-requires
-tick-requires c κs = search needs
+sub-page : tie.Need-sub-page
+sub-page c = search needs
 
-write-record-requires : tie.Need-write-record-requires
-write-record-requires c κs = search needs
+part-page-start : tie.Need-part-page-start
+part-page-start c = search needs
+
+part-page-end : tie.Need-part-page-end
+part-page-end c =
+    let e = ap (λ (x : Found). x .ok) (sym (c .before .before .before .before .read-part .ensures)) ∙ not-false _ (c .before .before .if1 .left) in
+    omega (arith, held-length (now (c .before .before .before .before .before .before .before .before .before .args .bytes)) e)
+
+tick-part-requires : tie.Need-tick-part-requires
+tick-part-requires c κs = search needs
+
+slice-aggregate-write-change : tie.Need-slice-aggregate-write-change
+slice-aggregate-write-change c = search needs
+
+write-change-requires : tie.Need-write-change-requires
+write-change-requires c κs = search needs
 
 pack-requires : tie.Need-pack-requires
-pack-requires c κs = rw (c .before .before .before .before .before .before .before .before .before .tick .ensures .0) (done-few _ _ _ _)
+pack-requires c κs =
+    let f = c .before .before .before .before .before .before .before .before .before .before .before .before .before .before .before .before .before .read-part in
+    let e = ap (λ (x : Found). x .ok) (sym (f .ensures)) ∙ not-false _ (c .before .before .before .before .before .before .before .before .before .before .before .before .before .before .before .if1 .left) in
+    told-done (now (c .before .before .before .before .before .before .before .before .before .before .before .before .before .before .before .before .before .before .before .before .before .before .args .bytes)) e (f .result) (f .ensures) _ _ _ _ (c .before .before .before .before .before .before .before .before .before .tick-part .ensures .0)
 
 same-length-2 : tie.Need-same-length-2
 same-length-2 c = search needs
@@ -39,20 +60,25 @@ same-length-4 c = search needs
 
 returns-2 : tie.Need-returns-2
 returns-2 c =
-    let h = c .before .before .before .before .before .before .before .before .before .before .before .before .before .before .before .before .read-record in
-    let n = not-false _ (c .before .before .before .before .before .before .before .before .before .before .before .before .before .before .if1 .left) in
-    let t = c .before .before .before .before .before .before .before .before .before .before .tick in
-    (rw (← h .ensures) (c .pack .ensures ∙ tick-answer (h .result) _ _ _ (t .result) n (t .ensures .0)), (rw (← h .ensures) (c .before .before .before .write-record .ensures ∙ next-written (h .result) _ _ (h .ensures) n ∙ tick-image (h .result) _ _ _ (t .result) n (t .ensures .0) _), (rw (← h .ensures) (t .ensures .1 .0 ∙ tick-memory (h .result) _ _ _ _ _ n), rw (← h .ensures) (t .ensures .1 .1 ∙ tick-memory (h .result) _ _ _ _ _ n))))
+    let bs = now (c .before .before .before .before .before .before .before .before .before .before .before .before .before .before .before .before .before .before .before .before .before .before .before .args .bytes) in
+    let f = c .before .before .before .before .before .before .before .before .before .before .before .before .before .before .before .before .before .before .read-part in
+    let e = ap (λ (x : Found). x .ok) (sym (f .ensures)) ∙ not-false _ (c .before .before .before .before .before .before .before .before .before .before .before .before .before .before .before .before .if1 .left) in
+    let u = c .before .before .before .before .before .before .before .before .before .before .tick-part .ensures in
+    (c .pack .ensures ∙ tick-answer bs e (f .result) (f .ensures) _ _ _ _ (u .0), (c .before .before .before .write-change .ensures ∙ tick-bytes bs e (f .result) (f .ensures) _ _ _ _ (u .0), (tick-memory bs e (f .result) (f .ensures) _ _ _ _ _ _ (u .1 .0), tick-memory bs e (f .result) (f .ensures) _ _ _ _ _ _ (u .1 .1))))
 
 pub yawlspar-tick-spec : {M : Type 1} → statement M
 yawlspar-tick-spec =
     tie.close
     (tie.spec
-    read-record-requires
+    read-part-requires
     same-length
     returns
-    tick-requires
-    write-record-requires
+    sub-page
+    part-page-start
+    part-page-end
+    tick-part-requires
+    slice-aggregate-write-change
+    write-change-requires
     pack-requires
     same-length-2
     same-length-3

@@ -1,11 +1,14 @@
 -- `yawlspar::yawlspar_transact` meets its contract: bytes that hold no record are left alone, and else what the call makes of the record is written.
-use mathlib.Core.Path.{refl, sym, ap, _∙_}
+use mathlib.Core.Path.{sym, ap, _∙_}
+use native.Mathlib.Omega.{arith}
 use denote.Ref.{now}
 use borrow.Author.Tests.{not-true, not-false}
 use borrow.Author.Needs.{needs}
-use Rattle.image.specs.declared.Found.{Found}
-use Rattle.image.specs.Read.{recordIn}
-use Rattle.yawlspar.proofs.Face.{unheld-answer, unheld-image, unheld-output, told-few, told-answer, told-image, told-output}
+use Rattle.record_bytes.specs.declared.Found.{Found}
+use Rattle.record_bytes.specs.Read.{recordIn}
+use Rattle.record_bytes.proofs.Back.{held-length}
+use Rattle.yawlspar.proofs.Face.{unheld-answer, unheld-bytes, unheld-output, told-answer, told-bytes, told-output}
+use Rattle.yawlspar.proofs.Laws.{first-few}
 use Rattle.yawlspar.proofs.yawlspar_transact.Statement.{statement}
 use Rattle.yawlspar.proofs.yawlspar_transact.Tie as tie
 
@@ -17,23 +20,35 @@ same-length c = search needs
 
 returns : tie.Need-returns
 returns c =
-    let f = c .before .before .read-part in
     let h = recordIn (now (c .before .before .before .before .before .before .before .before .before .args .bytes)) in
-    let n = ap (λ (x : Found). x .ok) (sym (f .ensures)) ∙ not-true _ (c .if1 .taken) in
-    (unheld-answer h _ _ _ _ _ n, (unheld-image h _ _ _ _ _ _ n, unheld-output h _ _ _ _ _ n))
+    let n = ap (λ (x : Found). x .ok) (sym (c .before .before .read-part .ensures)) ∙ not-true _ (c .if1 .taken) in
+    (unheld-answer h n _ _ _ _ _, (unheld-bytes h n _ _ _ _ _ _, unheld-output h n _ _ _ _ _))
 
-transact-head-requires : tie.Need-transact-head-requires
-transact-head-requires c κs = search needs
+sub-is-sound-in : tie.Need-sub-is-sound-in
+sub-is-sound-in c = search needs
+
+part-is-sound-in-start : tie.Need-part-is-sound-in-start
+part-is-sound-in-start c = search needs
+
+part-is-sound-in-end : tie.Need-part-is-sound-in-end
+part-is-sound-in-end c =
+    let e = ap (λ (x : Found). x .ok) (sym (c .before .before .before .before .read-part .ensures)) ∙ not-false _ (c .before .before .if1 .left) in
+    omega (arith, held-length (now (c .before .before .before .before .before .before .before .before .before .before .before .args .bytes)) e)
+
+is-sound-in-requires : tie.Need-is-sound-in-requires
+is-sound-in-requires c κs = search needs
+
+both-requires : tie.Need-both-requires
+both-requires c κs = search needs
+
+transact-part-requires : tie.Need-transact-part-requires
+transact-part-requires c κs = search needs
 
 write-change-requires : tie.Need-write-change-requires
 write-change-requires c κs = search needs
 
 pack-requires : tie.Need-pack-requires
-pack-requires c κs =
-    let f = c .before .before .before .before .before .before .before .before .before .before .before .read-part in
-    let h = recordIn (now (c .before .before .before .before .before .before .before .before .before .before .before .before .before .before .before .before .before .before .args .bytes)) in
-    let e = ap (λ (x : Found). x .ok) (sym (f .ensures)) ∙ not-false _ (c .before .before .before .before .before .before .before .before .before .if1 .left) in
-    told-few h _ _ _ _ _ _ e (rw (f .ensures) at (c .before .before .before .before .before .before .transact-head .ensures .0))
+pack-requires c κs = rw (c .before .before .before .before .before .before .transact-part .ensures .0) (first-few _ _ _ _ _ _ _ _)
 
 same-length-2 : tie.Need-same-length-2
 same-length-2 c = search needs
@@ -43,12 +58,13 @@ same-length-3 c = search needs
 
 returns-2 : tie.Need-returns-2
 returns-2 c =
-    let f = c .before .before .before .before .before .before .before .before .before .before .before .before .read-part in
-    let h = recordIn (now (c .before .before .before .before .before .before .before .before .before .before .before .before .before .before .before .before .before .before .before .args .bytes)) in
-    let e = ap (λ (x : Found). x .ok) (sym (f .ensures)) ∙ not-false _ (c .before .before .before .before .before .before .before .before .before .before .if1 .left) in
-    let t = c .before .before .before .before .before .before .before .transact-head .ensures in
-    let u = rw (f .ensures) at (t .0) in
-    (c .pack .ensures ∙ told-answer h _ _ _ _ _ _ e u, (c .before .before .before .write-change .ensures ∙ told-image h _ _ _ _ _ _ e u _ refl, rw (f .ensures) at (t .1) ∙ told-output h _ _ _ _ _ e))
+    let bs = now (c .before .before .before .before .before .before .before .before .before .before .before .before .before .before .before .before .before .before .before .before .before .before .before .args .bytes) in
+    let f = c .before .before .before .before .before .before .before .before .before .before .before .before .before .before .before .before .read-part in
+    let e = ap (λ (x : Found). x .ok) (sym (f .ensures)) ∙ not-false _ (c .before .before .before .before .before .before .before .before .before .before .before .before .before .before .if1 .left) in
+    let s = c .before .before .before .before .before .before .before .before .before .before .is-sound-in .ensures in
+    let t = c .before .before .before .before .before .before .before .before .before .both .ensures in
+    let u = c .before .before .before .before .before .before .before .transact-part .ensures in
+    (c .pack .ensures ∙ told-answer bs e (f .result) (f .ensures) _ _ _ s t _ _ _ _ _ (u .0), (c .before .before .before .write-change .ensures ∙ told-bytes bs e (f .result) (f .ensures) _ _ _ s t _ _ _ _ _ (u .0), told-output bs e (f .result) (f .ensures) _ _ _ s t _ _ _ _ _ (u .1)))
 
 pub yawlspar-transact-spec : {M : Type 1} → statement M
 yawlspar-transact-spec =
@@ -57,7 +73,12 @@ yawlspar-transact-spec =
     read-part-requires
     same-length
     returns
-    transact-head-requires
+    sub-is-sound-in
+    part-is-sound-in-start
+    part-is-sound-in-end
+    is-sound-in-requires
+    both-requires
+    transact-part-requires
     write-change-requires
     pack-requires
     same-length-2

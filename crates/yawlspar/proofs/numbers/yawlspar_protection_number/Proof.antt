@@ -1,5 +1,4 @@
 -- `yawlspar::numbers::yawlspar_protection_number` meets its contract: it joins the two tests in the paper's order.
-use mathlib.Core.Path.{_∙_}
 use borrow.Author.Needs.{needs}
 use Rattle.words.proofs.Tests.{orElse-none}
 use Rattle.paper.specs.CBench.{protectionNumber}
@@ -20,12 +19,7 @@ cast-result c = search needs
 
 returns : tie.Need-returns
 unfolding protectionNumber
-returns c =
-    rw (
-      c .number-or2 .ensures,
-      c .before .number-or .ensures ∙ orElse-none _,
-      c .before .before .size-ok .ensures,
-    )
+returns c = rw (c .number-or2 .ensures, c .before .number-or .ensures, orElse-none, c .before .before .size-ok .ensures)
 
 pub yawlspar-protection-number-spec : {M : Type 1} → statement M
 yawlspar-protection-number-spec =

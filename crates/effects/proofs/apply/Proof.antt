@@ -1,0 +1,41 @@
+-- `effects::apply` meets its contract: each arm is a clause of the definition.
+use borrow.Author.Needs.{needs}
+use Rattle.effects.proofs.apply.Statement.{statement}
+use Rattle.effects.proofs.apply.Tie as tie
+
+enum-told : tie.Need-enum-told
+enum-told c = search needs
+
+enum-known-change : tie.Need-enum-known-change
+enum-known-change c = search needs
+
+mark-requires : tie.Need-mark-requires
+mark-requires c κs = search needs
+
+enum-known-change-2 : tie.Need-enum-known-change-2
+enum-known-change-2 c = search needs
+
+page-after-requires : tie.Need-page-after-requires
+page-after-requires c κs = search needs
+
+returns : tie.Need-returns
+returns c = rw (c .enum-told .given .1)
+
+returns-2 : tie.Need-returns-2
+returns-2 c = rw (c .before .before .before .change .given .1, c .mark .ensures)
+
+returns-3 : tie.Need-returns-3
+returns-3 c = rw (c .before .before .change2 .given .1, c .page-after .ensures)
+
+pub apply-spec : {M : Type 1} → statement M
+apply-spec =
+    tie.close
+    (tie.spec
+    enum-told
+    enum-known-change
+    mark-requires
+    enum-known-change-2
+    page-after-requires
+    returns
+    returns-2
+    returns-3)

@@ -1,0 +1,27 @@
+-- `effects::start` meets its contract: each arm is a clause of the definition.
+use borrow.Author.Needs.{needs}
+use Rattle.effects.proofs.start.Statement.{statement}
+use Rattle.effects.proofs.start.Tie as tie
+
+enum-told : tie.Need-enum-told
+enum-told c = search needs
+
+enum-known-work : tie.Need-enum-known-work
+enum-known-work c = search needs
+
+started-in-requires : tie.Need-started-in-requires
+started-in-requires c κs = search needs
+
+settle-requires : tie.Need-settle-requires
+settle-requires c κs = search needs
+
+returns : tie.Need-returns
+returns c = search needs
+
+returns-2 : tie.Need-returns-2
+returns-2 c = rw (c .before .before .before .work .given .1, c .settle .ensures, c .before .started-in .ensures)
+
+pub start-spec : {M : Type 1} → statement M
+start-spec =
+    tie.close
+    (tie.spec enum-told enum-known-work started-in-requires settle-requires returns returns-2)

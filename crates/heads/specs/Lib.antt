@@ -1,2 +1,0 @@
-pub mod Heads
-pub mod Outcomes

@@ -1,0 +1,37 @@
+-- `ignoring::free_ok` meets its contract: each arm is a clause of the definition.
+use borrow.Author.Needs.{needs}
+use Rattle.ignoring.proofs.free_ok.Statement.{statement}
+use Rattle.ignoring.proofs.free_ok.Tie as tie
+
+enum-told : tie.Need-enum-told
+enum-told c = search needs
+
+enum-known-work : tie.Need-enum-known-work
+enum-known-work c = search needs
+
+target-free-requires : tie.Need-target-free-requires
+target-free-requires c κs = search needs
+
+write-ok-requires : tie.Need-write-ok-requires
+write-ok-requires c κs = search needs
+
+both-requires : tie.Need-both-requires
+both-requires c κs = search needs
+
+returns : tie.Need-returns
+returns c = search needs
+
+returns-2 : tie.Need-returns-2
+returns-2 c = rw (c .before .before .before .before .work .given .1, c .both .ensures, c .before .write-ok .ensures, c .before .before .target-free .ensures)
+
+pub free-ok-spec : {M : Type 1} → statement M
+free-ok-spec =
+    tie.close
+    (tie.spec
+    enum-told
+    enum-known-work
+    target-free-requires
+    write-ok-requires
+    both-requires
+    returns
+    returns-2)

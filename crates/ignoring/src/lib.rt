@@ -1,0 +1,110 @@
+// Why a command is ignored: the numbers 21 to 28, in the paper's order.
+ghost use mathlib.Core.Path.{_≡_};
+ghost use Rattle.paper.specs.Phases.{workIs};
+ghost use Rattle.paper.specs.Operations.{canSuspend};
+ghost use Rattle.paper.specs.Numbers.{stateOk, addressOk, pinOk, writeOk, freeOk, commandNumber};
+use types::Columns;
+use types::Named;
+use types::Operation;
+use types::Part;
+use types::Phase;
+use types::Register;
+use types::Stored;
+use types::Wanted;
+use types::Work;
+
+fn can_suspend(work: Work) -> bool
+    ensures { λ r. ⌜ r ≡ workIs canSuspend work ⌝ }
+{
+    match work {
+        Work::NoWork => false,
+        Work::At(op) => operations::can_suspend(op),
+    }
+}
+
+// 25: something runs that can be suspended, something can be resumed, the reset is armed.
+fn state_ok(wanted: Wanted, part: Part, phase: Phase) -> bool
+    ensures { λ r. ⌜ r ≡ stateOk wanted part phase ⌝ }
+{
+    match wanted {
+        Wanted::Any => true,
+        Wanted::Running => can_suspend(phases::running(phase)),
+        Wanted::Halted => phases::is_suspended(phase),
+        Wanted::Armed => part.armed,
+    }
+}
+
+// 27: a row address is valid.
+fn address_ok(named: Named, input: &[u8]) -> bool
+    ensures { λ r. ⌜ r ≡ addressOk named (now (input .entry)) ⌝ }
+{
+    match named {
+        Named::Bare => true,
+        Named::Place => true,
+        Named::InRow => sent::row_ok(input),
+    }
+}
+
+fn pin_ok(register: Register, stored: Stored, wp: bool) -> bool
+    ensures { λ r. ⌜ r ≡ pinOk register stored wp ⌝ }
+{
+    match register {
+        Register::Status => !protection::is_barred(stored.status, wp),
+        Register::Function => true,
+    }
+}
+
+// A status write is not barred by the pin.
+fn write_ok(op: Operation, stored: Stored, wp: bool) -> bool
+    ensures { λ r. ⌜ r ≡ writeOk op stored wp ⌝ }
+{
+    match op {
+        Operation::Program { .. } => true,
+        Operation::Erase { .. } => true,
+        Operation::Write { register, .. } => pin_ok(register, stored, wp),
+    }
+}
+
+// 28: what a command begins is not protected, locked or barred.
+fn free_ok(work: Work, part: Part, wp: bool) -> bool
+    ensures { λ r. ⌜ r ≡ freeOk work part wp ⌝ }
+{
+    let stored = part.stored;
+    match work {
+        Work::NoWork => true,
+        Work::At(op) => {
+            let free = operations::target_free(op, part.blocks, stored);
+            words::both(free, write_ok(op, stored, wp))
+        }
+    }
+}
+
+// The number 21 to 28 that a known command answers, which begins the work, 0 where it is executed. WP# is high where
+// wp is true.
+pub fn command_number(
+    k: Columns,
+    work: Work,
+    part: Part,
+    phase: Phase,
+    input: &[u8],
+    wp: bool,
+) -> u8
+    ensures { λ r. ⌜ r ≡ commandNumber k work part phase (now (input .entry)) wp ⌝ }
+{
+    let taken = k.taken;
+    let length = k.length;
+    let wanted = k.wanted;
+    let named = k.named;
+    let awake = words::either(table::taken_asleep(taken), !part.asleep);
+    let at_rest = words::either(table::taken_busy(taken), !phases::is_busy(phase));
+    let whole = words::either(table::taken_suspended(taken), !phases::is_suspended(phase));
+    let long = table::length_ok(length, input.len());
+    let state = state_ok(wanted, part, phase);
+    let latch = words::either(!k.wel, part.wel);
+    let address = address_ok(named, input);
+    let free = free_ok(work, part, wp);
+    let n27 = words::number_or(address, 27, words::number_or(free, 28, 0));
+    let n25 = words::number_or(state, 25, words::number_or(latch, 26, n27));
+    let n23 = words::number_or(whole, 23, words::number_or(long, 24, n25));
+    words::number_or(awake, 21, words::number_or(at_rest, 22, n23))
+}

@@ -1,0 +1,26 @@
+-- `phases::rest_of` meets its contract: each arm is a clause of the definition.
+use borrow.Author.Needs.{needs}
+use Rattle.phases.proofs.rest_of.Statement.{statement}
+use Rattle.phases.proofs.rest_of.Tie as tie
+
+enum-told : tie.Need-enum-told
+enum-told c = search needs
+
+enum-told-2 : tie.Need-enum-told-2
+enum-told-2 c = search needs
+
+enum-known-phase : tie.Need-enum-known-phase
+enum-known-phase c = search needs
+
+returns : tie.Need-returns
+returns c = search needs
+
+returns-2 : tie.Need-returns-2
+returns-2 c = search needs
+
+returns-3 : tie.Need-returns-3
+returns-3 c = rw (c .before .phase .given .1)
+
+pub rest-of-spec : {M : Type 1} → statement M
+rest-of-spec =
+    tie.close (tie.spec enum-told enum-told-2 enum-known-phase returns returns-2 returns-3)

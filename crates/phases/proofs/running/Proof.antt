@@ -1,0 +1,26 @@
+-- `phases::running` meets its contract: each arm is a clause of the definition.
+use borrow.Author.Needs.{needs}
+use Rattle.phases.proofs.running.Statement.{statement}
+use Rattle.phases.proofs.running.Tie as tie
+
+enum-told : tie.Need-enum-told
+enum-told c = search needs
+
+enum-known-phase : tie.Need-enum-known-phase
+enum-known-phase c = search needs
+
+enum-told-2 : tie.Need-enum-told-2
+enum-told-2 c = search needs
+
+returns : tie.Need-returns
+returns c = search needs
+
+returns-2 : tie.Need-returns-2
+returns-2 c = rw (c .before .phase .given .1)
+
+returns-3 : tie.Need-returns-3
+returns-3 c = search needs
+
+pub running-spec : {M : Type 1} → statement M
+running-spec =
+    tie.close (tie.spec enum-told enum-known-phase enum-told-2 returns returns-2 returns-3)

@@ -1,0 +1,48 @@
+-- `record::is_sound_in` meets its contract: an idle part has fewer tests, any other is asked all.
+use Rattle.paper.proofs.Soundness.{recordOf}
+use Rattle.paper.proofs.Phases.{idle-is}
+use Rattle.paper.specs.Soundness.{pageOk, sound}
+use Rattle.types.specs.declared.Phase.{Phase}
+use denote.Ref.{now}
+use mathlib.Core.Path.{sym, ap, _∙_}
+use borrow.Author.Needs.{needs}
+use Rattle.record.proofs.is_sound_in.Statement.{statement}
+use Rattle.record.proofs.is_sound_in.Tie as tie
+
+is-idle-requires : tie.Need-is-idle-requires
+is-idle-requires c κs = search needs
+
+is-sound-idle-requires : tie.Need-is-sound-idle-requires
+is-sound-idle-requires c κs = search needs
+
+returns : tie.Need-returns
+returns c = let a = c .before .before .before .before .args in c .is-sound-idle .ensures ∙ ap (λ (f : Phase). sound (recordOf (a .part) f (now (a .page)))) (sym (idle-is (a .phase) (sym (c .before .before .is-idle .ensures) ∙ c .before .if1 .taken)))
+
+is-sound-part-requires : tie.Need-is-sound-part-requires
+is-sound-part-requires c κs = search needs
+
+kept-in-requires : tie.Need-kept-in-requires
+kept-in-requires c κs = search needs
+
+zero-from-requires : tie.Need-zero-from-requires
+zero-from-requires c κs = search needs
+
+both-requires : tie.Need-both-requires
+both-requires c κs = search needs
+
+returns-2 : tie.Need-returns-2
+unfolding sound pageOk
+returns-2 c = rw (c .both .ensures, c .before .zero-from .ensures, c .before .before .kept-in .ensures, c .before .before .before .is-sound-part .ensures)
+
+pub is-sound-in-spec : {M : Type 1} → statement M
+is-sound-in-spec =
+    tie.close
+    (tie.spec
+    is-idle-requires
+    is-sound-idle-requires
+    returns
+    is-sound-part-requires
+    kept-in-requires
+    zero-from-requires
+    both-requires
+    returns-2)

@@ -1,0 +1,71 @@
+-- `record::is_sound_part` meets its contract: it joins the five tests as the definition does.
+use Rattle.paper.specs.Soundness.{partSound}
+use borrow.Author.Needs.{needs}
+use Rattle.record.proofs.is_sound_part.Statement.{statement}
+use Rattle.record.proofs.is_sound_part.Tie as tie
+
+cast-size-ok : tie.Need-cast-size-ok
+cast-size-ok c = search needs
+
+size-ok-requires : tie.Need-size-ok-requires
+size-ok-requires c κs = search needs
+
+is-idle-requires : tie.Need-is-idle-requires
+is-idle-requires c κs = search needs
+
+either-requires : tie.Need-either-requires
+either-requires c κs = search needs
+
+latch-ok-requires : tie.Need-latch-ok-requires
+latch-ok-requires c κs = search needs
+
+phase-ok-requires : tie.Need-phase-ok-requires
+phase-ok-requires c κs = search needs
+
+bits-ok-requires : tie.Need-bits-ok-requires
+bits-ok-requires c κs = search needs
+
+both-requires : tie.Need-both-requires
+both-requires c κs = search needs
+
+both-requires-2 : tie.Need-both-requires-2
+both-requires-2 c κs = search needs
+
+both-requires-3 : tie.Need-both-requires-3
+both-requires-3 c κs = search needs
+
+both-requires-4 : tie.Need-both-requires-4
+both-requires-4 c κs = search needs
+
+returns : tie.Need-returns
+unfolding partSound
+returns c =
+    rw (
+      c .both4 .ensures,
+      c .before .both3 .ensures,
+      c .before .before .both2 .ensures,
+      c .before .before .before .both .ensures,
+      c .before .before .before .before .bits-ok .ensures,
+      c .before .before .before .before .before .phase-ok .ensures,
+      c .before .before .before .before .before .before .latch-ok .ensures,
+      c .before .before .before .before .before .before .before .either .ensures,
+      c .before .before .before .before .before .before .before .before .before .is-idle .ensures,
+      c .before .before .before .before .before .before .before .before .before .before .size-ok .ensures,
+    )
+
+pub is-sound-part-spec : {M : Type 1} → statement M
+is-sound-part-spec =
+    tie.close
+    (tie.spec
+    cast-size-ok
+    size-ok-requires
+    is-idle-requires
+    either-requires
+    latch-ok-requires
+    phase-ok-requires
+    bits-ok-requires
+    both-requires
+    both-requires-2
+    both-requires-3
+    both-requires-4
+    returns)

@@ -1,0 +1,132 @@
+-- A record's bytes are read as that record, and bytes that are read as a record are its bytes.
+use Prim.Native.Nat.{ℕ}
+use mathlib.Core.Path.{_≡_, refl, sym, ap, _∙_}
+use mathlib.Core.Bool.{Bool, true, false, false≢true}
+use mathlib.Core.List.{List, _++_}
+use lib.Dec.{eqb}
+use native.Mathlib.Omega.{arith}
+use lib.ListN.{length, take, drop, length-append, length-drop, take-append-drop}
+use lib.Seq.{take-all, take-at}
+use borrow.Author.Tests.{eq-eqb, eqb-true}
+use Rattle.types.specs.declared.Identity.{Identity}
+use Rattle.types.specs.declared.Stored.{Stored}
+use Rattle.types.specs.declared.Part.{Part}
+use Rattle.types.specs.declared.Record.{Record}
+use Rattle.words.specs.Logic.{_and_, bit}
+use Rattle.words.proofs.Tests.{and-l, and-r, and-in}
+use Rattle.words.proofs.Allowed.{agree}
+use Rattle.paper.proofs.Soundness.{recordOf}
+use Rattle.address.proofs.Bytes.{number-back}
+use Rattle.cells.specs.Phases.{cellsOf, phaseOf}
+use Rattle.cells.proofs.Back.{phase-back, same-cells}
+use Rattle.record_bytes.specs.declared.Found.{Found}
+use Rattle.record_bytes.specs.Layout.{partBytes, phaseBytes, header, recordBytes, written}
+use Rattle.record_bytes.specs.Read.{cellsIn, partIn, phaseIn, fieldsIn, holds, Held, nothing, held, recordIn, found, Fits}
+use Rattle.record_bytes.proofs.Laws.{header-length}
+use Rattle.record_bytes.proofs.Same.{same-bytes, one-list}
+
+-- a mark comes back from its byte
+mark-back : (m : Bool) → eqb (bit m) 1 ≡ m
+mark-back true = refl
+mark-back false = refl
+
+same-fields : (b b′ : ℕ) (i : Identity) (s : Stored) (w w′ a a′ z z′ : Bool) → b ≡ b′ → w ≡ w′ → a ≡ a′ → z ≡ z′
+    → _≡_ {A = Part} record { blocks = b; identity = i; stored = s; wel = w; armed = a; asleep = z } record { blocks = b′; identity = i; stored = s; wel = w′; armed = a′; asleep = z′ }
+same-fields b b′ i s w w′ a a′ z z′ eb ew ea ez = rw (eb, ew, ea, ez)
+
+page-back : (p : Record) → drop 38 (recordBytes p) ≡ p .page
+unfolding recordBytes partBytes phaseBytes
+page-back p = refl
+
+module _ (p : Record) (h : Fits p) where
+  cells-back : cellsIn (recordBytes p) ≡ cellsOf (p .phase)
+  unfolding cellsIn recordBytes partBytes phaseBytes
+  cells-back = same-cells _ _ _ _ _ _ _ _ _ (number-back 8 (cellsOf (p .phase) .base) (h .base)) (number-back 8 (cellsOf (p .phase) .count) (h .count)) (number-back 8 (cellsOf (p .phase) .done) (h .done))
+
+  part-back : partIn (recordBytes p) ≡ p .part
+  unfolding partIn recordBytes partBytes phaseBytes
+  part-back =
+      same-fields _ _ (p .part .identity) (p .part .stored) _ _ _ _ _ _ (number-back 2 (p .part .blocks) (h .blocks)) (mark-back (p .part .wel)) (mark-back (p .part .armed)) (mark-back (p .part .asleep))
+
+  phase-in-back : phaseIn (recordBytes p) ≡ p .phase
+  phase-in-back = ap phaseOf cells-back ∙ phase-back (p .phase)
+
+  fields-back : fieldsIn (recordBytes p) ≡ p
+  unfolding fieldsIn
+  fields-back = rw (part-back, phase-in-back, page-back p)
+
+front : (p : Record) → take 38 (recordBytes p) ≡ header (p .part) (cellsOf (p .phase))
+unfolding recordBytes
+front p = take-at (header (p .part) (cellsOf (p .phase))) (p .page) 38 (header-length (p .part) (cellsOf (p .phase)))
+
+pub record-length : (p : Record) → length (p .page) ≡ 256 → length (recordBytes p) ≡ 294
+unfolding recordBytes
+record-length p h = length-append (header (p .part) (cellsOf (p .phase))) (p .page) ∙ simp (header-length (p .part) (cellsOf (p .phase)), h)
+
+holds-back : (p : Record) → Fits p → holds (recordBytes p) ≡ true
+unfolding holds
+holds-back p h =
+    and-in (eq-eqb _ _ (record-length p (h .page))) (rw (part-back p h, phase-in-back p h, front p) (same-bytes (header (p .part) (cellsOf (p .phase)))))
+
+-- a buffer of a record's length is written
+pub written-in : (p : Record) (bs : List ℕ) → length bs ≡ 294 → written p bs ≡ recordBytes p
+unfolding written
+written-in p bs l = rw (eq-eqb _ _ l)
+
+-- a record's bytes are read as that record
+pub read-back : (p : Record) → Fits p → recordIn (recordBytes p) ≡ held p
+unfolding recordIn
+read-back p h = rw (holds-back p h, fields-back p h)
+
+-- part and phase as they are found in a record's bytes, with the page data behind the header, are the record
+pub found-back : (p : Record) (bs g : List ℕ) (x : Found) → Fits p → bs ≡ recordBytes p → x ≡ found (recordIn bs) → g ≡ drop 38 bs → recordOf (x .part) (x .phase) g ≡ p
+found-back p bs g x h eb ex eg =
+    let k : x ≡ found (held p) = ex ∙ rw (eb, read-back p h) in
+    rw (k, eg, eb, page-back p)
+
+pub taken : (bs : List ℕ) → holds bs ≡ true → recordIn bs ≡ held (fieldsIn bs)
+unfolding recordIn
+taken bs e = rw e
+
+pub ok-as : (bs : List ℕ) (t : Bool) → holds bs ≡ t → recordIn bs .ok ≡ t
+unfolding recordIn nothing
+ok-as bs true e = rw e
+ok-as bs false e = rw e
+
+-- bytes that hold a record are those of their fields
+pub own-bytes : (bs : List ℕ) → holds bs ≡ true → recordBytes (fieldsIn bs) ≡ bs
+unfolding holds recordBytes fieldsIn
+own-bytes bs e =
+    ap (λ (x : List ℕ). x ++ drop 38 bs) (one-list (header (partIn bs) (cellsOf (phaseIn bs))) (take 38 bs) (and-r _ _ e))
+    ∙ take-append-drop 38 bs
+
+exact-as : (bs : List ℕ) (p : Record) (t : Bool) → holds bs ≡ t → recordIn bs ≡ held p → bs ≡ recordBytes p
+exact-as bs p true e h = sym (own-bytes bs e) ∙ ap (λ (x : Held). recordBytes (x .state)) (sym (taken bs e) ∙ h)
+exact-as bs p false e h = absurd (false≢true (sym (ok-as bs false e) ∙ ap (λ (x : Held). x .ok) h))
+
+-- bytes that are read as a record are its bytes
+pub exact : (bs : List ℕ) (p : Record) → recordIn bs ≡ held p → bs ≡ recordBytes p
+exact bs p h = exact-as bs p (holds bs) refl h
+
+-- no two strings of bytes hold one record
+pub one-image : (xs ys : List ℕ) (p : Record) → recordIn xs ≡ held p → recordIn ys ≡ held p → xs ≡ ys
+one-image xs ys p h k = agree (exact xs p h) (exact ys p k)
+
+-- bytes that hold a record are as many as it has, and its own
+module _ (bs : List ℕ) (h : recordIn bs .ok ≡ true) where
+  pub holding : holds bs ≡ true
+  holding = sym (ok-as bs (holds bs) refl) ∙ h
+
+  pub held-length : length bs ≡ 294
+  unfolding holds
+  held-length = eqb-true _ _ (and-l _ _ holding)
+
+  pub held-bytes : recordBytes (recordIn bs .state) ≡ bs
+  held-bytes = ap (λ (x : Held). recordBytes (x .state)) (taken bs holding) ∙ own-bytes bs holding
+
+  -- part and phase with the page data behind the header
+  pub held-state : recordOf (recordIn bs .state .part) (recordIn bs .state .phase) (take 256 (drop 38 bs)) ≡ recordIn bs .state
+  unfolding fieldsIn
+  held-state =
+      let d : take 256 (drop 38 bs) ≡ drop 38 bs = take-all 256 (drop 38 bs) (simp length-drop (omega (arith, held-length))) in
+      rw (taken bs holding, d)

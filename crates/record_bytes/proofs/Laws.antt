@@ -1,0 +1,121 @@
+-- Bytes that are copied to their places, and read from them.
+use Prim.Native.Nat.{ℕ, _+_, _*_, _/_, _%_, _≤_}
+use mathlib.Core.Path.{_≡_, refl, sym, ap, _∙_}
+use mathlib.Core.Bool.{true, false≢true}
+use mathlib.Core.List.{List, [], _∷_, _++_, append-nil, append-assoc}
+use native.Mathlib.Omega.{arith}
+use lib.ListN.{length, take, drop, getD, replicate, length-take, length-drop, drop-of-length-le}
+use lib.Seq.{take-all, take-length, take-at, drop-at, drop-drop}
+use Rattle.types.specs.declared.Phase.{Phase}
+use Rattle.types.specs.declared.Phase.the-variants.{Idle, Busy, Suspended}
+use Rattle.types.specs.declared.Part.{Part}
+use Rattle.words.specs.Logic.{bit}
+use Rattle.paper.specs.Address.{highFirst}
+use Rattle.paper.specs.Phases.{isIdle}
+use Rattle.paper.proofs.Addresses.{high-first-none, high-first-more}
+use Rattle.address.specs.Bytes.{highFirstBytes}
+use Rattle.cells.specs.declared.Cells.{Cells}
+use Rattle.cells.specs.Phases.{cellsOf}
+use Rattle.record_bytes.specs.Layout.{partLength, phaseLength, partBytes, phaseBytes, header}
+
+-- of at most eight bytes the first eight are all
+pub take-few : (k : ℕ) (l : List ℕ) → k ≤ 8 → take 8 (take k l) ≡ take k l
+take-few k l h = take-all 8 (take k l) (simp length-take (omega arith))
+
+-- the number that two bytes are
+pub two-bytes : (bs : List ℕ) → 2 ≤ length bs → getD bs 0 0 * 256 + getD bs 1 0 ≡ highFirst (take 2 bs)
+two-bytes bs h = omega (arith, high-first-more bs 1 (omega arith), high-first-more bs 0 (omega arith), high-first-none bs)
+
+-- bytes that were copied over as many others are those bytes
+pub copied-whole : (s d : List ℕ) → length d ≤ length s → take (length s) s ++ drop (length s) d ≡ s
+copied-whole s d h = rw (take-length, drop-of-length-le d h) (append-nil s)
+
+-- bytes that were copied over the first n of others
+pub copied-over : (bs s : List ℕ) (n : ℕ) → length s ≡ n → take (length s) s ++ drop (length s) bs ≡ s ++ drop n bs
+copied-over bs s n l = rw (take-length, l)
+
+-- x is bs with a written over its first n bytes
+module _ (bs a : List ℕ) (n m : ℕ) (x : List ℕ) (la : length a ≡ n) (e : x ≡ a ++ drop n bs) (l : n + m ≤ length bs) where
+  behind : drop n x ≡ drop n bs
+  behind = ap (drop n) e ∙ drop-at a (drop n bs) n la
+
+  -- the m bytes behind are there as they were
+  pub there : take m (drop n x) ≡ take m (drop n bs)
+  there = ap (take m) behind
+
+  pub room : length (take m (drop n x)) ≡ m
+  room = ap length there ∙ simp (length-take, length-drop) (omega arith)
+
+  -- and z in their place
+  pub laid : (y z : List ℕ) → y ≡ z → take n x ++ (y ++ drop m (drop n x)) ≡ (a ++ z) ++ drop (n + m) bs
+  laid y z h =
+      rw (h, behind, drop-drop) (ap (λ (t : List ℕ). t ++ (z ++ drop (n + m) bs)) (ap (take n) e ∙ take-at a (drop n bs) n la) ∙ sym (append-assoc a z (drop (n + m) bs)))
+
+-- page data copied out of a record's bytes
+pub page-copied : (bs d : List ℕ) → length bs ≡ 294 → length d ≡ 256 → take (length (take 256 (drop 38 bs))) (take 256 (drop 38 bs)) ++ drop (length (take 256 (drop 38 bs))) d ≡ drop 38 bs
+page-copied bs d l ld =
+    let t : take 256 (drop 38 bs) ≡ drop 38 bs = take-all 256 (drop 38 bs) (simp length-drop (omega arith)) in
+    let n : length d ≤ length (drop 38 bs) = simp length-drop (omega arith) in
+    rw t (copied-whole (drop 38 bs) d n)
+
+pub part-length : (p : Part) → length (partBytes p) ≡ partLength
+unfolding partBytes
+part-length p = refl
+
+pub phase-length : (s : Cells) → length (phaseBytes s) ≡ phaseLength
+unfolding phaseBytes
+phase-length s = refl
+
+pub header-length : (p : Part) (s : Cells) → length (header p s) ≡ 38
+unfolding partBytes phaseBytes
+header-length p s = refl
+
+-- x is a record's bytes with a header written over them
+module _ (bs : List ℕ) (p : Part) (s : Cells) (x : List ℕ) (l : length bs ≡ 294) (e : x ≡ header p s ++ drop 38 bs) where
+  pub page-room : length (take 256 (drop 38 x)) ≡ 256
+  page-room = room bs (header p s) 38 256 x (header-length p s) e (omega arith)
+
+  -- page data is there as it was
+  pub page-there : take 256 (drop 38 x) ≡ drop 38 bs
+  page-there =
+      there bs (header p s) 38 256 x (header-length p s) e (omega arith) ∙ take-all 256 (drop 38 bs) (simp length-drop (omega arith))
+
+  -- and other page data in its place
+  pub page-laid : (y z : List ℕ) → y ≡ z → take 38 x ++ (y ++ drop 256 (drop 38 x)) ≡ header p s ++ z
+  page-laid y z h =
+      let m : length bs ≤ 294 = omega arith in
+      let n : drop 294 bs ≡ [] = drop-of-length-le bs m in
+      laid bs (header p s) 38 256 x (header-length p s) e (omega arith) y z h ∙ ap (λ (t : List ℕ). (header p s ++ z) ++ t) n ∙ append-nil (header p s ++ z)
+
+-- the bytes of an idle phase
+pub idle-bytes : (f : Phase) → isIdle f ≡ true → replicate phaseLength 0 ≡ phaseBytes (cellsOf f)
+unfolding phaseBytes
+idle-bytes Idle e = refl
+idle-bytes (Busy o) e = absurd (false≢true e)
+idle-bytes (Suspended o) e = absurd (false≢true e)
+
+-- a part, byte by byte
+pub part-as : (p : Part) (w a z : ℕ) → w ≡ bit (p .wel) → a ≡ bit (p .armed) → z ≡ bit (p .asleep)
+    → p .blocks / 256 % 256 ∷ p .blocks % 256
+    ∷ p .identity .maker ∷ p .identity .kind ∷ p .identity .capacity ∷ p .identity .device
+    ∷ p .stored .status ∷ p .stored .function ∷ w ∷ a ∷ z ∷ []
+    ≡ partBytes p
+unfolding partBytes
+part-as p w a z ew ea ez = rw (ew, ea, ez)
+
+-- eight bytes of a list, one by one
+abbrev eight : List ℕ → List ℕ → List ℕ
+eight b rest =
+    getD b 0 0 ∷ getD b 1 0 ∷ getD b 2 0 ∷ getD b 3 0 ∷ getD b 4 0 ∷ getD b 5 0 ∷ getD b 6 0 ∷ getD b 7 0 ∷ rest
+
+eight-of : (n : ℕ) (b rest : List ℕ) → b ≡ highFirstBytes 8 n → eight b rest ≡ highFirstBytes 8 n ++ rest
+eight-of n b rest e = ap (λ (l : List ℕ). eight l rest) e
+
+-- cells, byte by byte
+pub cells-as : (s : Cells) (b k d : List ℕ) → b ≡ highFirstBytes 8 (s .base) → k ≡ highFirstBytes 8 (s .count) → d ≡ highFirstBytes 8 (s .done)
+    → s .phase ∷ s .kind ∷ s .value ∷ eight b (eight k (eight d [])) ≡ phaseBytes s
+unfolding phaseBytes
+cells-as s b k d eb ek ed =
+    ap (λ (t : List ℕ). s .phase ∷ s .kind ∷ s .value ∷ t) (eight-of (s .base) b (eight k (eight d [])) eb
+    ∙ ap (λ (t : List ℕ). highFirstBytes 8 (s .base) ++ t) (eight-of (s .count) k (eight d []) ek
+    ∙ ap (λ (t : List ℕ). highFirstBytes 8 (s .count) ++ t) (eight-of (s .done) d [] ed)))

@@ -1,0 +1,6 @@
+pub mod Laws
+pub mod Same
+pub mod Back
+pub mod Parts
+pub mod Changed
+pub mod Tight

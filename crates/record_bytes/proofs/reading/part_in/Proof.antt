@@ -1,0 +1,82 @@
+-- `record_bytes::reading::part_in` meets its contract: every field is read at its place; two bytes are below 65,536.
+use native.Mathlib.Omega.{arith}
+use denote.Ref.{now}
+use borrow.Author.Needs.{needs}
+use Rattle.record_bytes.specs.Read.{partIn}
+use Rattle.record_bytes.proofs.Laws.{two-bytes}
+use Rattle.record_bytes.proofs.reading.part_in.Statement.{statement}
+use Rattle.record_bytes.proofs.reading.part_in.Tie as tie
+
+shared-slice-read-high : tie.Need-shared-slice-read-high
+shared-slice-read-high c = search needs
+
+cast-high : tie.Need-cast-high
+cast-high c = omega (arith, c .shared-slice-known .given 0)
+
+add-low : tie.Need-add-low
+add-low c = search needs
+
+shared-slice-read-low : tie.Need-shared-slice-read-low
+shared-slice-read-low c = search needs
+
+cast-low : tie.Need-cast-low
+cast-low c = omega (arith, c .shared-slice-known2 .given 1)
+
+shared-slice-read-t7 : tie.Need-shared-slice-read-t7
+shared-slice-read-t7 c = search needs
+
+shared-slice-read-t12 : tie.Need-shared-slice-read-t12
+shared-slice-read-t12 c = search needs
+
+shared-slice-read-t14 : tie.Need-shared-slice-read-t14
+shared-slice-read-t14 c = search needs
+
+shared-slice-read-t16 : tie.Need-shared-slice-read-t16
+shared-slice-read-t16 c = search needs
+
+shared-slice-read-t7-2 : tie.Need-shared-slice-read-t7-2
+shared-slice-read-t7-2 c = search needs
+
+shared-slice-read-t16-2 : tie.Need-shared-slice-read-t16-2
+shared-slice-read-t16-2 c = search needs
+
+mul-t19 : tie.Need-mul-t19
+mul-t19 c = omega (arith, c .before .before .before .before .before .before .before .shared-slice-known .given 0)
+
+add-t20 : tie.Need-add-t20
+add-t20 c = omega (arith, c .before .before .before .before .before .before .before .shared-slice-known .given 0, c .before .before .before .before .before .before .shared-slice-known2 .given 1)
+
+shared-slice-read-t14-2 : tie.Need-shared-slice-read-t14-2
+shared-slice-read-t14-2 c = search needs
+
+shared-slice-read-t16-3 : tie.Need-shared-slice-read-t16-3
+shared-slice-read-t16-3 c = search needs
+
+shared-slice-read-t7-3 : tie.Need-shared-slice-read-t7-3
+shared-slice-read-t7-3 c = search needs
+
+returns : tie.Need-returns
+unfolding partIn
+returns c = rw (two-bytes (now (c .before .before .before .before .before .before .before .before .before .before .before .args .bytes)) (omega (arith, c .before .before .before .before .before .before .before .before .before .before .before .pre)))
+
+pub part-in-spec : {M : Type 1} → statement M
+part-in-spec =
+    tie.close
+    (tie.spec
+    shared-slice-read-high
+    cast-high
+    add-low
+    shared-slice-read-low
+    cast-low
+    shared-slice-read-t7
+    shared-slice-read-t12
+    shared-slice-read-t14
+    shared-slice-read-t16
+    shared-slice-read-t7-2
+    shared-slice-read-t16-2
+    mul-t19
+    add-t20
+    shared-slice-read-t14-2
+    shared-slice-read-t16-3
+    shared-slice-read-t7-3
+    returns)

@@ -1,0 +1,94 @@
+-- The record that bytes hold.
+use Prim.Native.Nat.{ℕ, _^_, _<_}
+use mathlib.Core.Path.{_≡_}
+use mathlib.Core.Bool.{Bool, true, false, cond}
+use mathlib.Core.List.{List, [], _∷_}
+use lib.Dec.{eqb, leb}
+use lib.ListN.{length, getD, take, drop}
+use Rattle.types.specs.declared.Phase.{Phase}
+use Rattle.types.specs.declared.Part.{Part}
+use Rattle.types.specs.declared.Record.{Record}
+use Rattle.words.specs.Logic.{_and_}
+use Rattle.paper.specs.Address.{highFirst}
+use Rattle.paper.specs.Calls.{zeroRecord}
+use Rattle.cells.specs.declared.Cells.{Cells}
+use Rattle.cells.specs.Phases.{cells, cellsOf, phaseOf}
+use Rattle.record_bytes.specs.declared.Found.{Found}
+use Rattle.record_bytes.specs.Layout.{headerLength, recordLength, header}
+
+-- the number that k bytes from a place on are
+abbrev pub numberAt : List ℕ → ℕ → ℕ → ℕ
+numberAt bs at k = highFirst (take k (drop at bs))
+
+-- the cells in a header
+unfoldable pub cellsIn : List ℕ → Cells
+cellsIn bs = cells (getD bs 11 0) (getD bs 12 0) (getD bs 13 0) (numberAt bs 14 8) (numberAt bs 22 8) (numberAt bs 30 8)
+
+-- the fields of a part at their places, whatever stands there
+unfoldable pub partIn : List ℕ → Part
+partIn bs =
+    record { blocks = numberAt bs 0 2; identity = record { maker = getD bs 2 0; kind = getD bs 3 0; capacity = getD bs 4 0; device = getD bs 5 0 }; stored = record { status = getD bs 6 0; function = getD bs 7 0 }; wel = eqb (getD bs 8 0) 1; armed = eqb (getD bs 9 0) 1; asleep = eqb (getD bs 10 0) 1 }
+
+-- the phase so
+abbrev pub phaseIn : List ℕ → Phase
+phaseIn bs = phaseOf (cellsIn bs)
+
+-- and the whole record
+unfoldable pub fieldsIn : List ℕ → Record
+fieldsIn bs = record { part = partIn bs; phase = phaseIn bs; page = drop headerLength bs }
+
+-- WEL and the marks are 0 or 1
+unfoldable pub marksIn : List ℕ → Bool
+marksIn bs = leb (getD bs 8 0) 1 and leb (getD bs 9 0) 1 and leb (getD bs 10 0) 1
+
+-- two phases have the same cells
+unfoldable pub sameCells : Cells → Cells → Bool
+sameCells s t =
+    eqb (s .phase) (t .phase)
+    and eqb (s .kind) (t .kind)
+    and eqb (s .value) (t .value)
+    and eqb (s .base) (t .base)
+    and eqb (s .count) (t .count)
+    and eqb (s .done) (t .done)
+
+-- two lists are one
+abbrev pub sameBytes : List ℕ → List ℕ → Bool
+sameBytes [] [] = true
+sameBytes [] (y ∷ ys) = false
+sameBytes (x ∷ xs) [] = false
+sameBytes (x ∷ xs) (y ∷ ys) = eqb x y and sameBytes xs ys
+
+-- bytes hold a record where there are as many as it has, and the header is the one that its fields have
+unfoldable pub holds : List ℕ → Bool
+holds bs =
+    eqb (length bs) recordLength
+    and sameBytes (header (partIn bs) (cellsOf (phaseIn bs))) (take headerLength bs)
+
+-- what bytes hold: a record, or none where ok is false
+pub record Held : Type 0 where
+  pub ok : Bool
+  pub state : Record
+
+-- no record: the state is that of a refused power-up
+unfoldable pub nothing : Held
+nothing = record { ok = false; state = zeroRecord }
+
+-- a record that is held
+abbrev pub held : Record → Held
+held p = record { ok = true; state = p }
+
+-- the record that bytes hold, or none
+unfoldable pub recordIn : List ℕ → Held
+recordIn bs = cond (holds bs) (held (fieldsIn bs)) nothing
+
+-- what is held, but for page data
+abbrev pub found : Held → Found
+found h = record { ok = h .ok; part = h .state .part; phase = h .state .phase }
+
+-- the numbers of a record fit their fields, as they do in code
+pub record Fits (p : Record) : Type 0 where
+  pub blocks : p .part .blocks < 2 ^ 16
+  pub base : cellsOf (p .phase) .base < 2 ^ 64
+  pub count : cellsOf (p .phase) .count < 2 ^ 64
+  pub done : cellsOf (p .phase) .done < 2 ^ 64
+  pub page : length (p .page) ≡ 256

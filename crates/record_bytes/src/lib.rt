@@ -1,0 +1,17 @@
+// A record in bytes: a header of 38 bytes, every field at its place, and the 256 bytes of page data.
+// The bytes are a record's own: no two strings of bytes hold one record.
+// `writing` and `reading` are the two ways; `places` says where each field stands.
+pub mod places;
+pub mod reading;
+pub mod writing;
+
+use types::Part;
+use types::Phase;
+
+// What bytes hold, but for page data, which stays where it is: the part and the phase of a record, or none where ok is
+// false.
+pub struct Found {
+    pub ok: bool,
+    pub part: Part,
+    pub phase: Phase,
+}

@@ -1,0 +1,170 @@
+// What a transaction names, and the operation that it begins.
+ghost use mathlib.Core.Path.{_≡_};
+ghost use Prim.Native.Nat.{_-_, _%_};
+ghost use lib.ListN.{getD};
+ghost use Rattle.paper.specs.Address.{addressSent, addressIn, rowOk, rowBase, rowByte, placeIn};
+ghost use Rattle.paper.specs.Program.{dataSent, keptCount, passedCount, pageData, programOf};
+ghost use Rattle.paper.specs.Erase.{eraseOf};
+ghost use Rattle.paper.specs.Registers.{writeOf};
+ghost use Rattle.paper.specs.Commands.{begins};
+use types::Effect;
+use types::EraseUnit;
+use types::Memory;
+use types::Operation;
+use types::Register;
+use types::Work;
+
+// The byte at a place of the input, 0 where none was sent.
+pub fn byte_at(input: &[u8], place: usize) -> u8
+    ensures { λ r. ⌜ r ≡ getD (now (input .entry)) place 0 ⌝ }
+{
+    if place < input.len() { input[place] } else { 0 }
+}
+
+// The address as it was sent.
+fn address_as_sent(input: &[u8]) -> usize
+    ensures { λ r. ⌜ r ≡ addressSent (now (input .entry)) ⌝ }
+{
+    address::address_sent(input, 3)
+}
+
+// A: the address taken modulo the array size. (A part of no blocks does not exist; there it is the address as sent.)
+pub fn address_in(blocks: u16, input: &[u8]) -> usize
+    ensures { λ r. ⌜ r ≡ addressIn blocks (now (input .entry)) ⌝ }
+{
+    let a = address_as_sent(input);
+    let size = (blocks as usize) * types::BLOCK_BYTES;
+    if size == 0 {
+        return a;
+    }
+    a % size
+}
+
+// Whether the address that was sent is a row address.
+pub fn row_ok(input: &[u8]) -> bool
+    ensures { λ r. ⌜ r ≡ rowOk (now (input .entry)) ⌝ }
+{
+    let a = address_as_sent(input);
+    let row = a / 4096 < 4;
+    let low = a / 256 % 16 == 0;
+    words::both(row, low)
+}
+
+// Where the row that was named begins.
+pub fn row_base(input: &[u8]) -> usize
+    ensures { λ r. ⌜ r ≡ rowBase (now (input .entry)) ⌝ }
+{
+    address_as_sent(input) / 4096 * types::PAGE_BYTES
+}
+
+// The byte address in the row that was named.
+pub fn row_byte(input: &[u8]) -> usize
+    ensures { λ r. ⌜ r ≡ rowByte (now (input .entry)) ⌝ }
+{
+    address_as_sent(input) % 256
+}
+
+// The place in a memory that a transaction names.
+fn place_in(memory: Memory, blocks: u16, input: &[u8]) -> usize
+    ensures { λ r. ⌜ r ≡ placeIn memory blocks (now (input .entry)) ⌝ }
+{
+    match memory {
+        Memory::Array => address_in(blocks, input),
+        Memory::Rows => row_base(input) + row_byte(input),
+    }
+}
+
+// How many data bytes of a program are kept.
+fn kept_count(input: &[u8]) -> usize
+    ensures { λ r. ⌜ r ≡ keptCount (dataSent (now (input .entry))) ⌝ }
+{
+    let n = input.len();
+    if n < 4 {
+        return 0;
+    }
+    words::lesser(n - 4, types::PAGE_BYTES)
+}
+
+// How many came before those that are kept.
+fn passed_count(input: &[u8]) -> usize
+    ensures { λ r. ⌜ r ≡ passedCount (dataSent (now (input .entry))) ⌝ }
+{
+    let n = input.len();
+    if n < 4 {
+        return 0;
+    }
+    n - 4 - kept_count(input)
+}
+
+// The page data of a program: the kept bytes in order of arrival, zeros after them.
+pub fn page_data(input: &[u8]) -> [u8; 256]
+    ensures { λ r. ⌜ r ≡ pageData (dataSent (now (input .entry))) ⌝ }
+{
+    let mut page = [0u8; 256];
+    let first = words::lesser(4, input.len());
+    let passed = passed_count(input);
+    let from = first + passed;
+    let end = from + kept_count(input);
+    bytes::copy(&input[from..end], &mut page);
+    page
+}
+
+// The program that a transaction begins.
+fn program_of(memory: Memory, blocks: u16, input: &[u8]) -> Operation
+    ensures { λ r. ⌜ r ≡ programOf memory blocks (now (input .entry)) ⌝ }
+{
+    let place = place_in(memory, blocks, input);
+    let start = pages::page_place((place % 256) as u8, passed_count(input));
+    let count = kept_count(input);
+    Operation::Program {
+        memory: memory,
+        base: place / types::PAGE_BYTES * types::PAGE_BYTES,
+        start: start,
+        count: count,
+        done: 0,
+    }
+}
+
+// The erase that a transaction begins.
+fn erase_of(unit: EraseUnit, blocks: u16, input: &[u8]) -> Operation
+    ensures { λ r. ⌜ r ≡ eraseOf unit blocks (now (input .entry)) ⌝ }
+{
+    let place = place_in(pages::unit_memory(unit), blocks, input);
+    let base = pages::unit_base(unit, blocks, place);
+    Operation::Erase {
+        unit: unit,
+        base: base,
+        done: 0,
+    }
+}
+
+// The register write that a transaction begins.
+fn write_of(register: Register, input: &[u8]) -> Operation
+    ensures { λ r. ⌜ r ≡ writeOf register (now (input .entry)) ⌝ }
+{
+    let value = operations::held_byte(register, byte_at(input, 1));
+    Operation::Write {
+        register: register,
+        value: value,
+    }
+}
+
+// What a command begins on a part of so many blocks: an operation with no tick done, or nothing.
+pub fn begins(effect: Effect, blocks: u16, input: &[u8]) -> Work
+    ensures { λ r. ⌜ r ≡ begins effect blocks (now (input .entry)) ⌝ }
+{
+    match effect {
+        Effect::Looks => Work::NoWork,
+        Effect::Enables => Work::NoWork,
+        Effect::Disables => Work::NoWork,
+        Effect::Programs(memory) => Work::At(program_of(memory, blocks, input)),
+        Effect::Erases(unit) => Work::At(erase_of(unit, blocks, input)),
+        Effect::Writes(register) => Work::At(write_of(register, input)),
+        Effect::Suspends => Work::NoWork,
+        Effect::Resumes => Work::NoWork,
+        Effect::Sleeps => Work::NoWork,
+        Effect::Wakes => Work::NoWork,
+        Effect::Arms => Work::NoWork,
+        Effect::Resets => Work::NoWork,
+    }
+}
