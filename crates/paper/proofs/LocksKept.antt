@@ -49,19 +49,19 @@ module _ (fn k : ℕ) (h : locked fn k ≡ true) where
       let s : bitOr (fn / 16) (v / 16) * 16 / 16 ≡ bitOr (fn / 16) (v / 16) = omega arith in
       eq-eqb _ _ (ap (λ (t : ℕ). t % 2) (high-half (bitOr (fn / 16) (v / 16) * 16) k ∙ ap (λ (t : ℕ). t / 2 ^ k) s) ∙ or-keeps (fn / 16) (v / 16) k b)
 
-  written-locked : (r : Register) (v status : ℕ) → locked (registerWritten r v (record { status = status; function = fn }) .function) k ≡ true
-  written-locked Status v status = h
-  written-locked Function v status = or-locked v
-
 -- row k is locked under some registers
 abbrev pub LockedIn : ℕ → Stored → Type 0
 LockedIn k g = locked (g .function) k ≡ true
 
 module _ (k : ℕ) (g : Stored) (h : LockedIn k g) where
+  written-locked : (r : Register) (v : ℕ) → LockedIn k (registerWritten r v g)
+  written-locked Status v = h
+  written-locked Function v = or-locked (g .function) k h v
+
   after-locked : (o : Operation) → LockedIn k (storedAfter o g)
   after-locked (Program m b s c d) = h
   after-locked (Erase u b d) = h
-  after-locked (Write r v) = written-locked (g .function) k h r v (g .status)
+  after-locked (Write r v) = written-locked r v
 
   -- the registers of a part that is made in a phase
   made-locked : (f : Phase) (wel : Bool) → LockedIn k (registersIn f wel g)

@@ -1,20 +1,29 @@
 -- What a call that is not refused may rest on.
-use Prim.Native.Nat.{ℕ, _≤_}
-use mathlib.Core.Path.{_≡_}
-use mathlib.Core.Bool.{Bool, true, not}
+use Prim.Native.Nat.{ℕ, _%_, _≤_}
+use mathlib.Core.Path.{_≡_, refl}
+use mathlib.Core.Bool.{Bool, true, false, not}
 use mathlib.Core.List.{List}
 use lib.ListN.{length}
+use lib.Dec.{eqb}
 use borrow.Author.Tests.{eqb-true, leb-true}
 use Rattle.types.specs.declared.Phase.{Phase}
+use Rattle.types.specs.declared.Phase.the-variants.{Idle}
+use Rattle.types.specs.declared.Stored.{Stored}
 use Rattle.types.specs.declared.Work.{Work}
 use Rattle.types.specs.declared.Part.{Part}
 use Rattle.types.specs.declared.Columns.{Columns}
-use Rattle.words.specs.Logic.{_or_}
+use Rattle.words.specs.Logic.{_and_, _or_}
 use Rattle.words.proofs.Tests.{and-l, and-r, unless-zero, orElse-zero}
 use Rattle.paper.specs.Sizes.{sizeOk, arrayBytes, rowsBytes, transactionLimit, tickLimit}
 use Rattle.paper.specs.Phases.{isBusy, isSuspended}
 use Rattle.paper.specs.Table.{lengthOk, takenAsleep, takenBusy, takenSuspended}
+use Rattle.paper.specs.Soundness.{bitsOk}
 use Rattle.paper.specs.Numbers.{sizeNumber, rowsNumber, lengthNumber, outputNumber, soundNumber, ticksNumber, transactionRefusal, tickNumber, stateOk, addressOk, freeOk, commandNumber}
+
+-- power-up's 5: status bits 1..0 or function bits 3..0 not zero
+pub power-up-bits : (s : Stored) → bitsOk Idle false s ≡ (eqb (s .status % 4) 0 and eqb (s .function % 16) 0)
+unfolding bitsOk
+power-up-bits s = refl
 
 -- a tick call that is not refused, of a record of b blocks that is sound or is not
 pub record TicksTaken (b : ℕ) (sound : Bool) (a r n : ℕ) : Type 0 where

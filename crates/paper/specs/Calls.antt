@@ -102,7 +102,9 @@ ticked p a r ticks =
     (record { next = recordAfter ticks p; number = 0; done = workingTicks ticks p })
     (record { next = p; number = tickNumber (p .part .blocks) (sound p) a r ticks; done = 0 })
 
--- a memory's bytes after a tick call: refusals write nothing
+-- a memory's bytes after a tick call that answers a number: refusals write nothing
+abbrev pub memoryBy : ℕ → Memory → ℕ → Record → List ℕ → List ℕ
+memoryBy number m ticks p xs = whenZero number (memoryAfter m ticks p xs) xs
+
 unfoldable pub tickedMemory : Memory → Record → ℕ → ℕ → ℕ → List ℕ → List ℕ
-tickedMemory m p a r ticks xs =
-    whenZero (tickNumber (p .part .blocks) (sound p) a r ticks) (memoryAfter m ticks p xs) xs
+tickedMemory m p a r ticks xs = memoryBy (tickNumber (p .part .blocks) (sound p) a r ticks) m ticks p xs

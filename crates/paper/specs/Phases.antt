@@ -1,4 +1,4 @@
--- What a part does: it is idle, busy with one operation, or suspended from one. What runs, what is suspended, and the phases that follow. Nothing else goes by the cases of the phase, but soundness.
+-- What a part does: it is idle, busy with one operation, or suspended from one. What runs, what is suspended, and the phases that follow. In the paper soundness goes by the cases of the phase too, and nothing else does.
 use mathlib.Core.Bool.{Bool, true, false}
 use Rattle.types.specs.declared.Operation.{Operation}
 use Rattle.types.specs.declared.Operation.the-variants.{Program, Erase, Write}

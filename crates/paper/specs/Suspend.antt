@@ -1,7 +1,7 @@
 -- Suspend and resume.
 use mathlib.Core.Bool.{Bool}
 use Rattle.types.specs.declared.Phase.{Phase}
-use Rattle.paper.specs.Phases.{running, halted, workIs, anyOperation}
+use Rattle.paper.specs.Phases.{running, workIs, isSuspended}
 use Rattle.paper.specs.Operations.{canSuspend}
 
 -- something runs that can be suspended
@@ -10,4 +10,4 @@ suspendable f = workIs canSuspend (running f)
 
 -- there is something to resume
 abbrev pub resumable : Phase → Bool
-resumable f = workIs anyOperation (halted f)
+resumable f = isSuspended f

@@ -65,8 +65,9 @@ WEL = true
 abbrev pub no : Bool
 no = false
 
--- the table's other columns: the length; whether WEL is needed; when the command is taken, which 21, 22 and 23 ask; what its address names, which 27 asks;
+-- the table's other columns: the length; whether WEL is needed, which 26 asks; when the command is taken, which 21, 22 and 23 ask; what its address names, which 27 asks;
 -- what it wants of the state, which 25 asks; what it drives and from which place; what it does with the record
+-- command = line length WEL taken address wants drives from does
 abbrev pub columns : Command → Columns
 columns Read = line (AtLeast 4) no OrHalted Place Any ArrayBytes 4 Looks
 columns FastRead = line (AtLeast 5) no OrHalted Place Any ArrayBytes 5 Looks

@@ -55,6 +55,7 @@ fn line(
 pub fn columns_of(command: Command) -> Columns
     ensures { λ r. ⌜ r ≡ columns command ⌝ }
 {
+    // command => line(length, WEL, taken, address, wants, drives, from, does)
     match command {
         Command::Read => line(AtLeast(4), NO, OrHalted, Place, Any, ArrayBytes, 4, Looks),
         Command::FastRead => line(AtLeast(5), NO, OrHalted, Place, Any, ArrayBytes, 5, Looks),

@@ -23,7 +23,8 @@ use Rattle.paper.specs.Operations.{ticksInAll, ticksDone, advancedBy}
 use Rattle.paper.specs.Soundness.{sound}
 use Rattle.paper.specs.Commands.{changed}
 use Rattle.paper.specs.Numbers.{tickNumber}
-use Rattle.paper.specs.Ticks.{finishedPart, memoryAfter, workingTicks}
+use Rattle.paper.specs.Ticks.{finishedPart, workingTicks}
+use Rattle.paper.specs.Calls.{memoryBy}
 use Rattle.paper.proofs.Soundness.{recordOf}
 
 -- the ticks that an operation has left on a part of so many blocks
@@ -59,7 +60,7 @@ waitedOf p f g a r n =
 
 -- and what it leaves in a memory
 unfoldable pub waitedMemory : Memory → Part → Phase → List ℕ → ℕ → ℕ → ℕ → List ℕ → List ℕ
-waitedMemory m p f g a r n xs = whenZero (numberIn p f g a r n) (memoryAfter m n (recordOf p f g) xs) xs
+waitedMemory m p f g a r n xs = memoryBy (numberIn p f g a r n) m n (recordOf p f g) xs
 
 -- the answer, made of the record
 abbrev pub tickedBy : Waited → Record → Ticked
