@@ -5,7 +5,8 @@ use libc::STDOUT_FILENO;
 
 // Runs what was read, and writes what it prints.
 fn answer(input: &[u8], array: &mut [u8], rows: &mut [u8], output: &mut [u8]) {
-    let printed = bench_lines::bench(array, rows, input, output);
+    let benched = bench_lines::bench(array, rows, input, output);
+    let printed = benched.printed;
     io::write_all(STDOUT_FILENO, &output[..printed]);
 }
 

@@ -12,11 +12,12 @@ use Rattle.types.specs.declared.Answer.{Answer}
 use Rattle.types.specs.declared.PoweredUp.{PoweredUp}
 use Rattle.types.specs.declared.Line.the-variants.{Transaction}
 use Rattle.bytes.specs.Bytes.{indexOf, indexAfter, slice}
+use Rattle.paper.specs.Sizes.{arrayBytes, rowsBytes}
 use Rattle.paper.specs.Erase.{erasedByte}
 use Rattle.paper.specs.Reads.{undriven, undrivenByte}
 use Rattle.paper.specs.Calls.{noStored, poweredUp, transacted, transactedOutput}
 use Rattle.paper.specs.Board.{Board, boardOf, sentTo, drivenBy, afterSent}
-use Rattle.paper.specs.Bench.{LF, before, linesOf, pairs, lineOf, benchIdentity, benchBoard, lineText, lineAfter, textOf, boardAfter}
+use Rattle.paper.specs.Bench.{LF, space, letterK, before, linesOf, pairs, lineOf, benchIdentity, benchBoard, lineText, lineAfter, textOf, boardAfter}
 use Rattle.words.proofs.Lists.{take-min, drop-min}
 use Rattle.lines.proofs.Numerals.{pairs-whole}
 use Rattle.lines.proofs.Lines.{pairs-count, Says, line-says}
@@ -54,6 +55,10 @@ sent-as p xs rs wp i sent back back₁ back₂ a e n f g h =
 -- the part after it
 pub sent-board : (b : Board) (wp : Bool) (i : List ℕ) (p : Record) → p ≡ sentTo b wp i .next → boardOf p (b .array) (b .rows) ≡ afterSent b wp i
 sent-board b wp i p e = ap (λ (q : Record). boardOf q (b .array) (b .rows)) e
+
+-- `K 1`, LF, LF, `K 2`
+pub three-lines : linesOf (letterK ∷ space ∷ 49 ∷ LF ∷ LF ∷ letterK ∷ space ∷ 50 ∷ []) ≡ (letterK ∷ space ∷ 49 ∷ []) ∷ [] ∷ (letterK ∷ space ∷ 50 ∷ []) ∷ []
+three-lines = refl
 
 -- the first line, and the lines after it
 next-as : (xs : List ℕ) (x : ℕ) (b : Bool) → eqb x LF ≡ b
@@ -122,14 +127,14 @@ module _ (most : ℕ) (input : List ℕ) (b₀ : Board) (o₀ : List ℕ) (from 
       (rw d at (g .board), g .text o at (rw d (prints-empty o at (g .fits))))
 
 -- a part that was powered up, with memory that was set to FFh, is the bench's
-pub bench-board : (n : ℕ) (up : PoweredUp) (xs rs : List ℕ) (a r : ℕ) → up ≡ poweredUp n benchIdentity noStored → xs ≡ replicate a erasedByte → rs ≡ replicate r erasedByte → boardOf (up .next) xs rs ≡ benchBoard n a r
-bench-board n up xs rs a r e f g = rw (e, f, g)
+pub bench-board : (n : ℕ) (up : PoweredUp) (xs rs : List ℕ) → up ≡ poweredUp n benchIdentity noStored → xs ≡ replicate (arrayBytes n) erasedByte → rs ≡ replicate rowsBytes erasedByte → boardOf (up .next) xs rs ≡ benchBoard n
+bench-board n up xs rs e f g = rw (e, f, g)
 
 -- what bench leaves and prints goes by the bytes that it reads
-abbrev Left : ℕ → ℕ → List ℕ → List ℕ → List ℕ → List ℕ → List ℕ → ℕ → Type 0
-Left a r read xs rs o o′ at =
-    (xs ≡ boardAfter 64 (linesOf read) (benchBoard 1 a r) .array) × ((rs ≡ boardAfter 64 (linesOf read) (benchBoard 1 a r) .rows) × Prints o 0 (textOf 64 (linesOf read) (benchBoard 1 a r)) o′ at)
+abbrev Left : List ℕ → List ℕ → List ℕ → List ℕ → List ℕ → ℕ → Type 0
+Left read xs rs o o′ at =
+    (xs ≡ boardAfter 64 (linesOf read) (benchBoard 1) .array) × ((rs ≡ boardAfter 64 (linesOf read) (benchBoard 1) .rows) × Prints o 0 (textOf 64 (linesOf read) (benchBoard 1)) o′ at)
 
-pub bench-read : (a r : ℕ) (read input xs rs o o′ : List ℕ) (at k : ℕ) → k ≡ min 65536 (length input) → read ≡ take k input → Left a r read xs rs o o′ at → Left a r (take 65536 input) xs rs o o′ at
-bench-read a r read input xs rs o o′ at k e f h =
-    subst (λ (l : List ℕ). Left a r l xs rs o o′ at) (f ∙ ap (λ (n : ℕ). take n input) e ∙ take-min 65536 input) h
+pub bench-read : (read input xs rs o o′ : List ℕ) (at k : ℕ) → k ≡ min 65536 (length input) → read ≡ take k input → Left read xs rs o o′ at → Left (take 65536 input) xs rs o o′ at
+bench-read read input xs rs o o′ at k e f h =
+    subst (λ (l : List ℕ). Left l xs rs o o′ at) (f ∙ ap (λ (n : ℕ). take n input) e ∙ take-min 65536 input) h

@@ -1,3 +1,4 @@
 pub mod Course
 pub mod Fits
+pub mod Lent
 pub mod Tight

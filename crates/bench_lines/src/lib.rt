@@ -1,18 +1,27 @@
 // The lines of the program bench, run on a part: what each does with it, and what is printed for it.
 ghost use mathlib.Core.Path.{_≡_};
+ghost use mathlib.Core.List.{[]};
 ghost use Prim.Native.Nat.{_+_, _*_, _≤_, min};
 ghost use lib.ListN.{length, drop};
-ghost use Rattle.paper.specs.Sizes.{transactionLimit};
+ghost use Rattle.words.specs.Logic.{whenZero};
+ghost use Rattle.paper.specs.Sizes.{arrayBytes, rowsBytes, transactionLimit};
 ghost use Rattle.paper.specs.Board.{boardOf, sentTo, afterTicks};
 ghost use Rattle.paper.specs.Bench.{pairs, lineOf, sentText, waitedText, lineText, lineAfter, linesOf, textOf, boardAfter, benchBoard, benchText, benchAfter};
 ghost use Rattle.printing.specs.Printed.{Prints};
+ghost use Rattle.bench_lines.specs.Lent.{lentNumber};
 use types::Identity;
 use types::Line;
 use types::Record;
 
 // What lines leave: the record, and the place after what was printed.
-pub struct Ran {
-    pub next: Record,
+struct Ran {
+    next: Record,
+    printed: usize,
+}
+
+// What bench answers: the number of a refusal, or 0, and how many bytes it printed.
+pub struct Benched {
+    pub number: u8,
     pub printed: usize,
 }
 
@@ -123,7 +132,7 @@ fn room() -> [u8; 4096]
 
 // All lines of an input, of at most so many pairs, on a part and its memory. What is printed goes into the output
 // from its start on, as far as the output goes.
-pub fn run(
+fn run(
     state: Record,
     array: &mut [u8],
     rows: &mut [u8],
@@ -131,10 +140,10 @@ pub fn run(
     input: &[u8],
     output: &mut [u8],
 ) -> Ran
-    ensures after { λ r. ⌜ boardOf (r .next) (now (array .exit)) (now (rows .exit)) ≡ boardAfter (min most transactionLimit) (linesOf (now (input .entry))) (boardOf state (now (array .entry)) (now (rows .entry))) ⌝ }
-    ensures output { λ r. ⌜ Prints (now (output .entry)) 0 (textOf (min most transactionLimit) (linesOf (now (input .entry))) (boardOf state (now (array .entry)) (now (rows .entry)))) (now (output .exit)) (r .printed) ⌝ }
+    requires { ⌜ most ≤ transactionLimit ⌝ }
+    ensures after { λ r. ⌜ boardOf (r .next) (now (array .exit)) (now (rows .exit)) ≡ boardAfter most (linesOf (now (input .entry))) (boardOf state (now (array .entry)) (now (rows .entry))) ⌝ }
+    ensures output { λ r. ⌜ Prints (now (output .entry)) 0 (textOf most (linesOf (now (input .entry))) (boardOf state (now (array .entry)) (now (rows .entry)))) (now (output .exit)) (r .printed) ⌝ }
 {
-    let few = words::lesser(most, 4096);
     let mut sent = room();
     let mut back = room();
     let mut ran = Ran {
@@ -151,7 +160,7 @@ pub fn run(
             next,
             array,
             rows,
-            few,
+            most,
             &input[from..end],
             &mut sent,
             &mut back,
@@ -165,7 +174,7 @@ pub fn run(
 
 // A part of so many blocks on the bench, with its array and rows set to FFh, and all lines of an input on it. It
 // answers how many bytes were printed.
-pub fn on_part(
+fn on_part(
     blocks: u16,
     array: &mut [u8],
     rows: &mut [u8],
@@ -173,9 +182,10 @@ pub fn on_part(
     input: &[u8],
     output: &mut [u8],
 ) -> usize
-    ensures array { λ _. ⌜ now (array .exit) ≡ boardAfter (min most transactionLimit) (linesOf (now (input .entry))) (benchBoard blocks (length (now (array .entry))) (length (now (rows .entry)))) .array ⌝ }
-    ensures rows { λ _. ⌜ now (rows .exit) ≡ boardAfter (min most transactionLimit) (linesOf (now (input .entry))) (benchBoard blocks (length (now (array .entry))) (length (now (rows .entry)))) .rows ⌝ }
-    ensures output { λ r. ⌜ Prints (now (output .entry)) 0 (textOf (min most transactionLimit) (linesOf (now (input .entry))) (benchBoard blocks (length (now (array .entry))) (length (now (rows .entry))))) (now (output .exit)) r ⌝ }
+    requires { ⌜ (length (now array) ≡ arrayBytes blocks) × (length (now rows) ≡ rowsBytes) × (most ≤ transactionLimit) ⌝ }
+    ensures array { λ _. ⌜ now (array .exit) ≡ boardAfter most (linesOf (now (input .entry))) (benchBoard blocks) .array ⌝ }
+    ensures rows { λ _. ⌜ now (rows .exit) ≡ boardAfter most (linesOf (now (input .entry))) (benchBoard blocks) .rows ⌝ }
+    ensures output { λ r. ⌜ Prints (now (output .entry)) 0 (textOf most (linesOf (now (input .entry))) (benchBoard blocks)) (now (output .exit)) r ⌝ }
 {
     runs::blank(array);
     runs::blank(rows);
@@ -192,12 +202,33 @@ pub fn on_part(
     ran.printed
 }
 
-// The program bench on what it read.
-pub fn bench(array: &mut [u8], rows: &mut [u8], input: &[u8], output: &mut [u8]) -> usize
-    ensures array { λ _. ⌜ now (array .exit) ≡ benchAfter (length (now (array .entry))) (length (now (rows .entry))) (now (input .entry)) .array ⌝ }
-    ensures rows { λ _. ⌜ now (rows .exit) ≡ benchAfter (length (now (array .entry))) (length (now (rows .entry))) (now (input .entry)) .rows ⌝ }
-    ensures output { λ r. ⌜ Prints (now (output .entry)) 0 (benchText (length (now (array .entry))) (length (now (rows .entry))) (now (input .entry))) (now (output .exit)) r ⌝ }
+// 1 for an array that is not a block, 2 for rows that are not 1,024 bytes.
+fn lent_number(array: usize, rows: usize) -> u8
+    ensures { λ r. ⌜ r ≡ lentNumber array rows ⌝ }
 {
+    refusals::memory_number_or(1, array, rows, 0)
+}
+
+// The program bench on what it read, with the memory of a 1-block part, which it sets to FFh first. It prints as much
+// as the output has room for. Refused, with 1 for an array that is not a block and 2 for rows that are not 1,024
+// bytes, it writes and prints nothing.
+pub fn bench(array: &mut [u8], rows: &mut [u8], input: &[u8], output: &mut [u8]) -> Benched
+    ensures answer { λ r. ⌜ r .number ≡ lentNumber (length (now (array .entry))) (length (now (rows .entry))) ⌝ }
+    ensures array { λ _. ⌜ now (array .exit) ≡ whenZero (lentNumber (length (now (array .entry))) (length (now (rows .entry)))) (benchAfter (now (input .entry)) .array) (now (array .entry)) ⌝ }
+    ensures rows { λ _. ⌜ now (rows .exit) ≡ whenZero (lentNumber (length (now (array .entry))) (length (now (rows .entry)))) (benchAfter (now (input .entry)) .rows) (now (rows .entry)) ⌝ }
+    ensures output { λ r. ⌜ Prints (now (output .entry)) 0 (whenZero (lentNumber (length (now (array .entry))) (length (now (rows .entry)))) (benchText (now (input .entry))) []) (now (output .exit)) (r .printed) ⌝ }
+{
+    let number = lent_number(array.len(), rows.len());
+    if number != 0 {
+        return Benched {
+            number: number,
+            printed: 0,
+        };
+    }
     let end = words::lesser(65536, input.len());
-    on_part(1, array, rows, 64, &input[0..end], output)
+    let printed = on_part(1, array, rows, 64, &input[0..end], output);
+    Benched {
+        number: 0,
+        printed: printed,
+    }
 }

@@ -9,6 +9,7 @@ use Rattle.types.specs.declared.Line.{Line}
 use Rattle.types.specs.declared.Line.the-variants.{Transaction, Ticks, Neither}
 use Rattle.words.specs.Logic.{_and_, _or_}
 use Rattle.words.specs.Lists.{every}
+use Rattle.paper.specs.Sizes.{arrayBytes, rowsBytes}
 use Rattle.paper.specs.Erase.{erasedByte}
 use Rattle.paper.specs.Calls.{noStored, poweredUp}
 use Rattle.paper.specs.Board.{Board, sentTo, drivenBy, waited, afterSent, afterTicks}
@@ -40,6 +41,7 @@ abbrev pub before : ℕ → List (List ℕ) → List (List ℕ)
 before x [] = (x ∷ []) ∷ []
 before x (l ∷ ls) = (x ∷ l) ∷ ls
 
+-- the lines of an input: `K 1`, LF, LF, `K 2` are three, the second empty (Course.antt of bench_lines: three-lines)
 abbrev pub linesOf : List ℕ → List (List ℕ)
 linesOf [] = []
 linesOf (x ∷ xs) = cond (eqb x LF) ([] ∷ linesOf xs) (before x (linesOf xs))
@@ -161,14 +163,14 @@ boardAfter most (l ∷ ls) b = boardAfter most ls (lineAfter (lineOf most l) l b
 abbrev pub benchIdentity : Identity
 benchIdentity = record { maker = 17; kind = 34; capacity = 51; device = 68 }
 
--- the part of n blocks: registers 0, an array of a and rows of r bytes of FFh
-abbrev pub benchBoard : ℕ → ℕ → ℕ → Board
-benchBoard n a r =
-    record { state = poweredUp n benchIdentity noStored .next; array = replicate a erasedByte; rows = replicate r erasedByte }
+-- the part of n blocks: array and rows FFh, registers 0
+abbrev pub benchBoard : ℕ → Board
+benchBoard n =
+    record { state = poweredUp n benchIdentity noStored .next; array = replicate (arrayBytes n) erasedByte; rows = replicate rowsBytes erasedByte }
 
--- bench reads up to 65,536 bytes on the 1-block part, in lines of 1 to 64 pairs. With an array of a and rows of r bytes, which are 65,536 and 1,024, it prints so much, and leaves the part so
-abbrev pub benchText : ℕ → ℕ → List ℕ → List ℕ
-benchText a r input = textOf 64 (linesOf (take 65536 input)) (benchBoard 1 a r)
+-- bench reads up to 65,536 bytes on the 1-block part, in lines of 1 to 64 pairs: what it prints, and the part after it
+abbrev pub benchText : List ℕ → List ℕ
+benchText input = textOf 64 (linesOf (take 65536 input)) (benchBoard 1)
 
-abbrev pub benchAfter : ℕ → ℕ → List ℕ → Board
-benchAfter a r input = boardAfter 64 (linesOf (take 65536 input)) (benchBoard 1 a r)
+abbrev pub benchAfter : List ℕ → Board
+benchAfter input = boardAfter 64 (linesOf (take 65536 input)) (benchBoard 1)

@@ -14,7 +14,7 @@ slice-reshare-prefix-write-all c = search needs
 
 slice-aggregate-write-all : tie.Need-slice-aggregate-write-all
 slice-aggregate-write-all c =
-    sym (length-take-le (c .before .before .before .before .before .before .before .bench .result) _ (prints-within (c .before .before .before .before .before .before .before .bench .ensures .1 .1)))
+    sym (length-take-le (c .before .before .before .before .before .before .before .bench .result .printed) _ (prints-within (c .before .before .before .before .before .before .before .bench .ensures .1 .1 .1)))
 
 write-all-requires : tie.Need-write-all-requires
 write-all-requires c κs = search needs

@@ -4,9 +4,8 @@ use Rattle.paper.specs.Calls.{poweredUp}
 use Rattle.paper.specs.Bench.{benchIdentity}
 use Rattle.bench_lines.proofs.Course.{bench-board}
 use Rattle.paper.specs.Board.{Board}
-use lib.ListN.{length}
+use Rattle.paper.specs.Reads.{undriven}
 use mathlib.Core.Path.{ap, _∙_}
-use denote.Ref.{now}
 use borrow.Author.Needs.{needs}
 use Rattle.bench_lines.proofs.on_part.Statement.{statement}
 use Rattle.bench_lines.proofs.on_part.Tie as tie
@@ -24,7 +23,7 @@ power-up-requires : tie.Need-power-up-requires
 power-up-requires c κs = search needs
 
 run-requires : tie.Need-run-requires
-run-requires c κs = search needs
+run-requires c κs = c .before .before .before .before .before .before .before .before .before .before .before .before .before .before .before .before .before .before .pre .2
 
 same-length : tie.Need-same-length
 same-length c = c .before .before .before .before .before .array2 .given ∙ c .before .before .before .before .before .before .before .before .before .before .before .before .before .before .before .before .before .before .array .given
@@ -37,8 +36,12 @@ same-length-3 c = c .before .output .given
 
 returns : tie.Need-returns
 returns c =
-    let a = c .before .before .before .before .before .before .before .before .before .before .before .before .before .before .before .before .before .before .before .before .before .before .before .before .before .args in
-    let e = bench-board (a .blocks) (c .before .before .before .before .before .before .before .before .before .before .before .power-up .result) (c .before .before .before .before .before .before .before .before .before .before .before .before .before .before .before .before .before .before .before .blank .last .0) (c .before .before .before .before .before .before .before .before .before .before .before .before .before .before .before .blank2 .last .0) (length (now (a .array))) (length (now (a .rows))) (c .before .before .before .before .before .before .before .before .before .before .before .power-up .ensures ∙ ap (λ (g : Stored). poweredUp (a .blocks) benchIdentity g) (c .before .before .before .before .before .before .before .before .before .before .before .before .no-stored .ensures)) (c .before .before .before .before .before .before .before .before .before .before .before .before .before .before .before .before .before .before .before .blank .ensures) (c .before .before .before .before .before .before .before .before .before .before .before .before .before .before .before .blank2 .ensures) in
+    let s = c .before .before .before .before .before .before .before .before .before .before .before .before .before .before .before .before .before .before .before .before .before .before .before .before .before in
+    let up = c .before .before .before .before .before .before .before .before .before .before .before .power-up in
+    let n = ap (λ (g : Stored). poweredUp (s .args .blocks) benchIdentity g) (c .before .before .before .before .before .before .before .before .before .before .before .before .no-stored .ensures) in
+    let xs = c .before .before .before .before .before .before .before .before .before .before .before .before .before .before .before .before .before .before .before .blank .ensures ∙ ap undriven (s .pre .0) in
+    let rs = c .before .before .before .before .before .before .before .before .before .before .before .before .before .before .before .blank2 .ensures ∙ ap undriven (s .pre .1) in
+    let e = bench-board (s .args .blocks) (up .result) _ _ (up .ensures ∙ n) xs rs in
     let g = rw e at (c .before .before .before .before .before .before .run .ensures) in
     (ap (λ (d : Board). d .array) (g .0), (ap (λ (d : Board). d .rows) (g .0), g .1))
 

@@ -11,15 +11,12 @@ use Rattle.bench_lines.proofs.run.Statement.{statement}
 use Rattle.bench_lines.proofs.run.Tie as tie
 
 abbrev Inv-loop : tie.InvT-loop
-Inv-loop array₀ rows₀ most input output₀ few sent₀ back₀ ran₀ n from₀ array rows output sent back ran from =
-    Goes few input (boardOf (ran₀ .next) array₀ rows₀) output₀ from (boardOf (ran .next) array rows) output (ran .printed) × (length array ≡ length array₀) × (length rows ≡ length rows₀) × (length sent ≡ 4096) × (length back ≡ 4096)
+Inv-loop array₀ rows₀ most input output₀ sent₀ back₀ ran₀ n from₀ array rows output sent back ran from =
+    Goes most input (boardOf (ran₀ .next) array₀ rows₀) output₀ from (boardOf (ran .next) array rows) output (ran .printed) × (length array ≡ length array₀) × (length rows ≡ length rows₀) × (length sent ≡ 4096) × (length back ≡ 4096)
 
 abbrev μ-loop : tie.MeasureT-loop
-μ-loop array₀ rows₀ most input output₀ few sent₀ back₀ ran₀ n from₀ array rows output sent back ran from =
+μ-loop array₀ rows₀ most input output₀ sent₀ back₀ ran₀ n from₀ array rows output sent back ran from =
     length input - from
-
-lesser-requires : tie.Need-lesser-requires Inv-loop μ-loop
-lesser-requires c κs = search needs
 
 room-requires : tie.Need-room-requires Inv-loop μ-loop
 room-requires c κs = search needs
@@ -50,7 +47,7 @@ slice-aggregate-run-line-2 c = search needs
 
 run-line-requires : tie.Need-run-line-requires Inv-loop μ-loop
 run-line-requires c κs =
-    let e = c .before .before .before .before .before .before .before .before .before .before .before .before .lesser .ensures in
+    let e = c .before .before .before .before .before .before .before .before .before .before .before .before .before .before .before .before .pre in
     let l = c .before .before .before .before .before .before .before .before .before .loop in
     (omega (arith, e, l .inv .3), omega (arith, e, l .inv .4))
 
@@ -66,7 +63,7 @@ loop-again c =
     let l = c .before .before .before .before .before .before .before .before .before .before .before .before .before .before .before .before .before .before .before .loop in
     let find = c .before .before .before .before .before .before .before .before .before .before .before .before .before .before .before .before .before .find in
     let run-line = c .before .before .before .before .before .before .before .before .before .run-line in
-    let e = line-end (now (c .before .before .before .before .before .before .before .before .before .before .before .before .before .before .before .before .before .before .before .before .before .before .before .before .before .before .before .args .input)) (l .from) (find .result) (find .ensures .0) in
+    let e = line-end (now (c .before .before .before .before .before .before .before .before .before .before .before .before .before .before .before .before .before .before .before .before .before .before .before .before .before .before .args .input)) (l .from) (find .result) (find .ensures .0) in
     (rw (c .after .ensures) (goes-on _ _ _ _ _ _ _ _ (l .inv .0) (find .result) _ _ _ (c .before .before .before .before .before .before .before .before .before .before .before .before .before .before .before .before .before .before .loop-test .taken) e (run-line .ensures .0) (run-line .ensures .1)), c .before .before .before .before .before .before .before .before .array .given ∙ l .inv .1, c .before .before .before .before .before .before .rows .given ∙ l .inv .2, c .before .before .before .before .sent2 .given, c .before .before .before .back2 .given)
 
 same-length : tie.Need-same-length Inv-loop μ-loop
@@ -81,8 +78,7 @@ same-length-3 c = c .before .loop .inv .0 .same
 returns : tie.Need-returns Inv-loop μ-loop
 returns c =
     let l = c .before .loop in
-    let g = goes-end _ _ _ _ _ _ _ _ (l .inv .0) (omega arith) in
-    rw (← c .before .before .before .before .lesser .ensures) g
+    goes-end _ _ _ _ _ _ _ _ (l .inv .0) (omega arith)
 
 pub run-spec : {M : Type 1} → statement M
 run-spec =
@@ -90,7 +86,6 @@ run-spec =
     (tie.spec
     Inv-loop
     μ-loop
-    lesser-requires
     room-requires
     room-requires-2
     loop-holds
