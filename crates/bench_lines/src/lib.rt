@@ -206,7 +206,7 @@ fn on_part(
 fn lent_number(array: usize, rows: usize) -> u8
     ensures { λ r. ⌜ r ≡ lentNumber array rows ⌝ }
 {
-    refusals::memory_number_or(1, array, rows, 0)
+    refusals::size_number_or(1, array, refusals::rows_number_or(rows, 0))
 }
 
 // The program bench on what it read, with the memory of a 1-block part, which it sets to FFh first. It prints as much

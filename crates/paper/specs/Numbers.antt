@@ -60,15 +60,21 @@ ticksNumber n = unless (leb n tickLimit) 6
 unfoldable pub powerUpNumber : ℕ → Stored → ℕ
 powerUpNumber n s = unless (sizeOk n) 1 orElse unless (bitsOk Idle false s) 5
 
--- a transaction's 1 to 5, for a record of n blocks that is sound or is not, an array of a and rows of r bytes; l and o are the lengths of input and output
-unfoldable pub transactionRefusal : ℕ → Bool → ℕ → ℕ → ℕ → ℕ → ℕ
-transactionRefusal n sound a r l o =
-    sizeNumber n a orElse rowsNumber r orElse lengthNumber l orElse outputNumber l o orElse soundNumber sound
+-- a transaction's 2 to 5, which go by no size: the record is sound or is not, the rows have r bytes; l and o are the lengths of input and output
+abbrev pub laterRefusal : Bool → ℕ → ℕ → ℕ → ℕ
+laterRefusal sound r l o =
+    rowsNumber r orElse lengthNumber l orElse outputNumber l o orElse soundNumber sound
 
--- ticks can give only 1, 2, 5 and 6
+-- and its 1 to 5, for a record of n blocks and an array of a bytes
+unfoldable pub transactionRefusal : ℕ → Bool → ℕ → ℕ → ℕ → ℕ → ℕ
+transactionRefusal n sound a r l o = sizeNumber n a orElse laterRefusal sound r l o
+
+-- ticks can give only 1, 2, 5 and 6: those that go by no size, and all
+abbrev pub laterTickNumber : Bool → ℕ → ℕ → ℕ
+laterTickNumber sound r ticks = rowsNumber r orElse soundNumber sound orElse ticksNumber ticks
+
 unfoldable pub tickNumber : ℕ → Bool → ℕ → ℕ → ℕ → ℕ
-tickNumber n sound a r ticks =
-    sizeNumber n a orElse rowsNumber r orElse soundNumber sound orElse ticksNumber ticks
+tickNumber n sound a r ticks = sizeNumber n a orElse laterTickNumber sound r ticks
 
 -- 25: nothing running that can be suspended, nothing to resume, or 99h not armed
 abbrev pub stateOk : Wanted → Part → Phase → Bool

@@ -227,9 +227,7 @@ fn tick_number(part: Part, phase: Phase, page: &[u8], array: usize, rows: usize,
 {
     let whole = page.len() == types::PAGE_BYTES;
     let sound = words::both(whole, record::is_sound_in(part, phase, page));
-    let few = ticks <= types::TICKS_MOST;
-    let later = words::number_or(sound, 5, words::number_or(few, 6, 0));
-    refusals::memory_number_or(part.blocks, array, rows, later)
+    refusals::tick_number(part.blocks, sound, array, rows, ticks)
 }
 
 // So many ticks of a part in a phase with page data, which stays where it is. It answers what becomes of the record,

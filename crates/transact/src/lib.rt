@@ -8,7 +8,6 @@ ghost use Rattle.types.specs.declared.Decoded.the-variants.{Known};
 ghost use Rattle.paper.specs.Sizes.{sizeOk, arrayBytes, rowsBytes};
 ghost use Rattle.paper.specs.Address.{rowBase, rowByte};
 ghost use Rattle.paper.specs.Reads.{undriven, outputOf};
-ghost use Rattle.paper.specs.Numbers.{transactionRefusal};
 ghost use Rattle.paper.specs.Calls.{ignored, outcomeTo, outcomeOf, transacted, outputTo, outputAfter, transactedOutput};
 ghost use Rattle.transact.specs.Shown.{shown, HasBytes};
 use types::Answer;
@@ -135,18 +134,6 @@ fn answer_to(
     }
 }
 
-// The refusals 1 to 5, in the paper's order; 0 where a transaction is not refused.
-fn refusal(blocks: u16, sound: bool, array: usize, rows: usize, n: usize, o: usize) -> u8
-    ensures { λ r. ⌜ r ≡ transactionRefusal blocks sound array rows n o ⌝ }
-{
-    let some = 1 <= n;
-    let few = n <= types::TRANSACTION_MOST;
-    let long = words::both(some, few);
-    let same = o == n;
-    let n4 = words::number_or(same, 4, words::number_or(sound, 5, 0));
-    refusals::memory_number_or(blocks, array, rows, words::number_or(long, 3, n4))
-}
-
 // A transaction on a part in a phase, of a record that is sound or is not, as the caller says. WP# is high where wp is
 // true. It answers what becomes of the record, the number and the first driven place, and fills the output; refused,
 // with 1 to 5, it writes nothing and the record stays the same.
@@ -164,7 +151,14 @@ pub fn transact_part(
     ensures output { λ _. ⌜ now (output .exit) ≡ outputAfter part phase sound (now (array .entry)) (now (rows .entry)) wp (now (input .entry)) (now (output .entry)) ⌝ }
 {
     let n = input.len();
-    let number = refusal(part.blocks, sound, array.len(), rows.len(), n, output.len());
+    let number = refusals::transaction_refusal(
+        part.blocks,
+        sound,
+        array.len(),
+        rows.len(),
+        n,
+        output.len(),
+    );
     if number != 0 {
         return Outcome {
             change: Change::Same,

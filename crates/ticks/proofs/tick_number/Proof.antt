@@ -1,8 +1,5 @@
--- `ticks::tick_number` meets its contract: it joins the four tests in the paper's order.
+-- `ticks::tick_number` meets its contract: page data of another length than a page counts as not sound.
 use Rattle.ticks.specs.Waited.{soundIn}
-use Rattle.paper.specs.Numbers.{soundNumber, ticksNumber, tickNumber}
-use Rattle.words.proofs.Tests.{orElse-none}
-use mathlib.Core.Path.{_∙_}
 use borrow.Author.Needs.{needs}
 use Rattle.ticks.proofs.tick_number.Statement.{statement}
 use Rattle.ticks.proofs.tick_number.Tie as tie
@@ -13,26 +10,12 @@ is-sound-in-requires c κs = search needs
 both-requires : tie.Need-both-requires
 both-requires c κs = search needs
 
-number-or-requires : tie.Need-number-or-requires
-number-or-requires c κs = search needs
-
-number-or-requires-2 : tie.Need-number-or-requires-2
-number-or-requires-2 c κs = search needs
-
-memory-number-or-requires : tie.Need-memory-number-or-requires
-memory-number-or-requires c κs = search needs
+tick-number-requires : tie.Need-tick-number-requires
+tick-number-requires c κs = search needs
 
 returns : tie.Need-returns
-unfolding tickNumber soundNumber ticksNumber soundIn
-returns c = rw (c .memory-number-or .ensures, c .before .number-or2 .ensures, c .before .before .number-or .ensures ∙ orElse-none _, c .before .before .before .both .ensures, c .before .before .before .before .is-sound-in .ensures)
+unfolding soundIn
+returns c = rw (c .tick-number .ensures, c .before .both .ensures, c .before .before .is-sound-in .ensures)
 
 pub tick-number-spec : {M : Type 1} → statement M
-tick-number-spec =
-    tie.close
-    (tie.spec
-    is-sound-in-requires
-    both-requires
-    number-or-requires
-    number-or-requires-2
-    memory-number-or-requires
-    returns)
+tick-number-spec = tie.close (tie.spec is-sound-in-requires both-requires tick-number-requires returns)

@@ -11,13 +11,13 @@ use borrow.Author.Needs.{needs}
 use Rattle.transact.proofs.transact_part.Statement.{statement}
 use Rattle.transact.proofs.transact_part.Tie as tie
 
-refusal-requires : tie.Need-refusal-requires
-refusal-requires c κs = search needs
+transaction-refusal-requires : tie.Need-transaction-refusal-requires
+transaction-refusal-requires c κs = search needs
 
 returns : tie.Need-returns
 unfolding outcomeOf outputAfter
 returns c =
-    let n = c .before .refusal .ensures in
+    let n = c .before .transaction-refusal .ensures in
     let z = ne-eqb _ _ (c .if1 .taken) in
     (rw (← n, z), rw (← n, z))
 
@@ -43,7 +43,7 @@ returns-2 : tie.Need-returns-2
 unfolding outcomeOf outputAfter
 returns-2 c =
     let i = now (c .before .before .before .before .before .before .before .before .before .before .before .before .before .before .args .input) in
-    let n = c .before .before .before .before .before .before .before .before .before .refusal .ensures in
+    let n = c .before .before .before .before .before .before .before .before .before .transaction-refusal .ensures in
     let e = c .before .before .before .before .before .before .before .before .if1 .left in
     let t = transaction-taken _ _ _ _ _ _ (sym n ∙ e) in
     let d : decoded (getD i 0 0) ≡ Unknown = ap decoded (sym (c .before .before .before .before .before .before .before .byte-at .ensures)) ∙ sym (c .before .before .before .before .before .before .decode .ensures) ∙ c .before .before .before .before .enum-told .given .1 in
@@ -52,7 +52,7 @@ returns-2 c =
 
 answer-to-requires : tie.Need-answer-to-requires
 answer-to-requires c κs =
-    let t = transaction-taken _ _ _ _ _ _ (sym (c .before .before .before .before .before .before .before .refusal .ensures) ∙ c .before .before .before .before .before .before .if1 .left) in
+    let t = transaction-taken _ _ _ _ _ _ (sym (c .before .before .before .before .before .before .before .transaction-refusal .ensures) ∙ c .before .before .before .before .before .before .if1 .left) in
     (t .known, t .size, t .rows, t .same)
 
 same-length-2 : tie.Need-same-length-2
@@ -62,7 +62,7 @@ returns-3 : tie.Need-returns-3
 unfolding outcomeOf outputAfter
 returns-3 c =
     let i = now (c .before .before .before .before .before .before .before .before .before .before .before .before .before .before .before .args .input) in
-    let n = c .before .before .before .before .before .before .before .before .before .before .refusal .ensures in
+    let n = c .before .before .before .before .before .before .before .before .before .before .transaction-refusal .ensures in
     let d : decoded (getD i 0 0) ≡ Known (c .before .before .before .before .before .decoded .given .0 .0) = ap decoded (sym (c .before .before .before .before .before .before .before .before .byte-at .ensures)) ∙ sym (c .before .before .before .before .before .before .before .decode .ensures) ∙ c .before .before .before .before .before .decoded .given .1 in
     let z = eq-eqb _ _ (c .before .before .before .before .before .before .before .before .before .if1 .left) in
     (rw (← n, z, d) (c .before .before .answer-to .ensures .0), rw (← n, z, d) (c .before .before .answer-to .ensures .1))
@@ -71,7 +71,7 @@ pub transact-part-spec : {M : Type 1} → statement M
 transact-part-spec =
     tie.close
     (tie.spec
-    refusal-requires
+    transaction-refusal-requires
     returns
     byte-at-requires
     decode-requires
