@@ -5,3 +5,4 @@ pub mod FromPowerUp
 pub mod Contracts
 pub mod Locked
 pub mod Course
+pub mod Joined
