@@ -1,53 +1,35 @@
--- The proof of each case, and of the list of them.
-use Prim.Native.Nat.{ℕ, _+_, _*_, _/_, _%_, _<_, _≤_, min}
-use mathlib.Core.Path.{_≡_, refl, ap, _∙_}
-use mathlib.Core.Bool.{Bool, true, false}
+-- The proof of the list of the cases: parts of 16 blocks are among those that the cases speak of, and so are arrays that hold one byte throughout.
+use Prim.Native.Nat.{ℕ, _*_, _/_, _%_, _<_}
+use mathlib.Core.Path.{_≡_, refl, sym, ap, subst⁻¹, _∙_}
+use mathlib.Core.Bool.{true, false}
 use mathlib.Core.List.{List, [], _∷_}
 use native.Mathlib.Omega.{arith}
-use native.Mathlib.Nat.{mod-eq-of-lt}
-use lib.ListN.{length, getD, set}
-use lib.Seq.{getD-set-other}
-use lib.Bits.{bitAnd}
-use borrow.Author.Tests.{lt-ltb, le-ltb, le-leb}
-use Rattle.types.specs.declared.Memory.the-variants.{Array}
-use Rattle.types.specs.declared.Operation.the-variants.{Program}
-use Rattle.types.specs.declared.Command.the-variants.{ReadStatus, WriteEnable, ChipErase, ArmReset, Reset, RowProgram}
-use Rattle.types.specs.declared.Decoded.the-variants.{Known}
+use lib.ListN.{length, replicate}
+use borrow.Author.Tests.{lt-ltb, le-leb}
 use Rattle.types.specs.declared.Identity.{Identity}
 use Rattle.types.specs.declared.Stored.{Stored}
-use Rattle.types.specs.declared.Part.{Part}
-use Rattle.types.specs.declared.Record.{Record}
+use Rattle.types.specs.declared.Phase.the-variants.{Idle}
+use Rattle.types.specs.declared.PoweredUp.{PoweredUp}
 use Rattle.types.specs.declared.Answer.{Answer}
-use Rattle.types.specs.declared.Ticked.{Ticked}
+use Rattle.types.specs.declared.Record.{Record}
 use Rattle.words.specs.Logic.{_and_, _or_, unless, _orElse_}
-use Rattle.paper.specs.Sizes.{sizeOk, blockBytes}
-use Rattle.paper.specs.Soundness.{sound, bitsOk}
-use Rattle.paper.specs.Numbers.{commandNumber, powerUpNumber, ignoredNumber}
-use Rattle.paper.specs.Table.{decoded}
+use Rattle.paper.specs.Sizes.{sizeOk, blockBytes, arrayBytes}
+use Rattle.paper.specs.Soundness.{bitsOk}
+use Rattle.paper.specs.Numbers.{powerUpNumber}
 use Rattle.paper.specs.Calls.{poweredUp}
-use Rattle.paper.specs.Address.{highFirst, addressIn, rowOk, rowPlace}
-use Rattle.paper.specs.Program.{pageBase, pagePlace, passedCount, pageData, programOf, narrowed}
-use Rattle.paper.specs.Erase.{eraseOf}
-use Rattle.paper.specs.Ticks.{worked, recordAfter, memoryAfter, workingTicks}
-use Rattle.paper.specs.Records.{marked, fresh}
-use Rattle.paper.specs.Protection.{codeOf, blocksAsked, protectedBlocks, protected, locked}
-use Rattle.paper.proofs.Sizes.{size-range}
-use Rattle.paper.proofs.Addresses.{in-page}
-use Rattle.paper.proofs.Soundness.{recordOf, sound-parts, marked-sound}
+use Rattle.paper.specs.Address.{addressIn}
+use Rattle.paper.specs.Records.{fresh}
+use Rattle.paper.specs.Protection.{codeOf, blocksAsked, protectedBlocks, protected, protectedAt, locked}
 use Rattle.paper.proofs.Kept.{fresh-sound}
-use Rattle.cases.proofs.Paper.{send, Ready, coded, Free, Case1, Case2, Case3, Case4, Case5, Case6, Case7, Case8, Case9, Case10, Case11, Parts, Cases}
-use Rattle.paper.proofs.Answers.{executes, ignores, arm-number, read-status-number, reset-number}
-use Rattle.cases.proofs.EraseCut.{begins, runs, runs-on, halts, halted-arms, halted-resets}
-use Rattle.cases.proofs.Parts.{did, enabled, enabled-ready}
-use Rattle.cases.proofs.ProgramRun.{programming}
-use Rattle.cases.proofs.ProgramSent.{program-run, program-ticks, program-array, program-tick}
+use Rattle.history.proofs.Shielded.{none-protected, none-asked}
+use Rattle.cases.proofs.Paper.{send, Ready, coded, powered, enabledPart, filled, Free, Part16, Case1, Case2, Case3, Case6, Case7, Case11, Cases}
+use Rattle.cases.proofs.Parts.{turned, enabled, enabled-ready, filled-length, filled-at}
+use Rattle.cases.proofs.Everywhere.{everywhere}
 
-abbrev number : Answer → ℕ
-number t = t .number
-
-powered : (id : Identity) (c k : ℕ) → poweredUp 16 id (coded c k) ≡ record { next = fresh 16 id (coded c k); number = 0 }
+-- a power-up of 16 blocks with a BP code and IRL bits is not refused
+powered-up : (id : Identity) (c k : ℕ) → poweredUp 16 id (coded c k) ≡ record { next = fresh 16 id (coded c k); number = 0 }
 unfolding poweredUp powerUpNumber sizeOk bitsOk _and_ _or_ unless _orElse_
-powered id c k =
+powered-up id c k =
     let s : c * 4 % 4 ≡ 0 = omega arith in
     let f : k * 16 % 16 ≡ 0 = omega arith in
     rw (s, f)
@@ -56,11 +38,43 @@ fresh-ready : (id : Identity) (g : Stored) → Ready (fresh 16 id g)
 unfolding sizeOk _or_
 fresh-ready id g = record { is-sound = fresh-sound 16 id g refl; idle = refl; awake = refl }
 
-parts : Parts
-parts id c k h =
-    let p = fresh 16 id (coded c k) in
-    let r : Ready p = fresh-ready id (coded c k) in
-    rw (powered id c k, enabled p r) (refl, r, enabled-ready p r, refl, refl, omega arith, omega arith)
+module _ (id : Identity) (c k : ℕ) where
+  abbrev first : Record
+  first = fresh 16 id (coded c k)
+
+  first-ready : Ready first
+  first-ready = fresh-ready id (coded c k)
+
+  powered-as : powered id c k ≡ first
+  powered-as = ap (λ (u : PoweredUp). u .next) (powered-up id c k)
+
+  enabled-as : enabledPart id c k ≡ turned first Idle true false
+  enabled-as =
+      ap (λ (p : Record). send p (0x06 ∷ []) .next) powered-as ∙ ap (λ (t : Answer). t .next) (enabled first first-ready)
+
+  part-16 : c < 16 → Part16 id c k
+  part-16 h =
+      let s : codeOf (turned first Idle true false .part .stored .status) ≡ c = omega arith in
+      let f : turned first Idle true false .part .stored .function ≡ k * 16 = omega arith in
+      record {
+        up = ap (λ (u : PoweredUp). u .number) (powered-up id c k);
+        ready = subst⁻¹ Ready powered-as first-ready;
+        enables = ap (λ (p : Record). send p (0x06 ∷ []) .number) powered-as ∙ ap (λ (t : Answer). t .number) (enabled first first-ready);
+        enabled-ready = subst⁻¹ Ready enabled-as (enabled-ready first first-ready);
+        size = ap (λ (p : Record). p .part .blocks) enabled-as;
+        wel = ap (λ (p : Record). p .part .wel) enabled-as;
+        code = ap (λ (p : Record). codeOf (p .part .stored .status)) enabled-as ∙ s;
+        locks = ap (λ (p : Record). p .part .stored .function) enabled-as ∙ f;
+      }
+
+-- code 0 protects no address
+free-under : (c n a : ℕ) → c ≡ 0 → Free c n a
+free-under c n a e = ap (λ (x : ℕ). protectedAt x n a) e ∙ none-protected 0 n (a / blockBytes) (none-asked .0)
+
+-- addresses on 16 blocks
+inside-16 : (i : List ℕ) → addressIn 16 i < arrayBytes 16
+unfolding addressIn
+inside-16 i = omega arith
 
 case-1 : Case1
 unfolding protected protectedBlocks blocksAsked _and_ _or_
@@ -74,137 +88,54 @@ case-3 : Case3
 unfolding protected protectedBlocks blocksAsked _and_ _or_
 case-3 a h = rw (le-leb 0 (a / blockBytes) (omega arith), lt-ltb (a / blockBytes) 4 (omega arith))
 
-none-protected : (n k : ℕ) → protected 15 n k ≡ false
-unfolding protected protectedBlocks blocksAsked _and_ _or_
-none-protected n k =
-    let z : min n 0 ≡ 0 = omega arith in
-    rw (z, le-leb 0 k (omega arith), le-ltb k 0 (omega arith))
+-- the part after 06h with code 0 and no lock, and its arrays
+module _ (id : Identity) where
+  abbrev open-part : Record
+  open-part = enabledPart id 0 0
 
-chip-barred : (p : Record) → Ready p → codeOf (p .part .stored .status) ≡ 15 → p .part .wel ≡ true → ignoredNumber (Known ChipErase) (p .part) (p .phase) (0xC7 ∷ []) true ≡ 28
-unfolding commandNumber _and_ _or_ unless _orElse_ eraseOf
-chip-barred p r c w = rw (r .awake, r .idle, w, c)
+  facts : Part16 id 0 0
+  facts = part-16 id 0 0 (omega arith)
 
-case-4 : Case4
-unfolding decoded
-case-4 p r c w h m l d (n, most) = (
-  ap number (program-run p r w h m l d n most (rw c (none-protected (p .part .blocks) _))),
-  ap number (ignores p (r .is-sound) true ChipErase (0xC7 ∷ []) (omega arith) (omega arith) refl 27 (chip-barred p r c w)),
-)
+  all-free : (a : ℕ) → Free (codeOf (open-part .part .stored .status)) (open-part .part .blocks) a
+  all-free a = free-under (codeOf (open-part .part .stored .status)) (open-part .part .blocks) a (facts .code)
 
-over-FF : (xs : List ℕ) (a d : ℕ) → getD xs a 0 ≡ 0xFF → narrowed xs a d ≡ set xs a (bitAnd 0xFF d)
-unfolding narrowed
-over-FF xs a d e = rw e
+  fits : (b : ℕ) → length (filled (arrayBytes 16) b) ≡ arrayBytes (open-part .part .blocks)
+  fits b = filled-length (arrayBytes 16) b ∙ ap arrayBytes (sym (facts .size))
 
--- PP at 0000FEh of 01 02 03
-abbrev three : List ℕ
-three = 0x01 ∷ 0x02 ∷ 0x03 ∷ []
+locked-1 : (f : ℕ) → f ≡ 0x20 → locked f 1 ≡ true
+unfolding locked
+locked-1 f e = rw e refl
 
-at-FE : (n : ℕ) → 1 ≤ n → addressIn n (0x02 ∷ 0x00 ∷ 0x00 ∷ 0xFE ∷ three) ≡ 0xFE
-unfolding addressIn highFirst
-at-FE n h = mod-eq-of-lt (omega arith)
+case-6 : (id : Identity) (h m first second third rest b : ℕ) → Case6 (enabledPart id 0 0) h m (first ∷ second ∷ third ∷ replicate 255 rest) (filled (arrayBytes 16) b)
+case-6 id h m first second third rest b =
+    let d : List ℕ = first ∷ second ∷ third ∷ replicate 255 rest in
+    everywhere .case-6 (enabledPart id 0 0) (facts id .enabled-ready) (facts id .wel) h m d refl (all-free id (addressIn (enabledPart id 0 0 .part .blocks) (0x02 ∷ h ∷ m ∷ 0x00 ∷ d))) (filled (arrayBytes 16) b) (fits id b)
 
-abbrev started : Part → Record
-started p = programming p (Program Array 0x000000 0xFE 3 0) three
+case-7 : (id : Identity) (h m l : ℕ) → Case7 (enabledPart id 0 0) h m l (filled (arrayBytes 16) 0x5A)
+case-7 id h m l =
+    let i : List ℕ = 0x02 ∷ h ∷ m ∷ l ∷ 0xA5 ∷ [] in
+    let a = addressIn (enabledPart id 0 0 .part .blocks) i in
+    let b : a < arrayBytes 16 = rw (facts id .size) (inside-16 i) in
+    everywhere .case-7 (enabledPart id 0 0) (facts id .enabled-ready) (facts id .wel) h m l (all-free id a) (filled (arrayBytes 16) 0x5A) (fits id 0x5A) (filled-at (arrayBytes 16) 0x5A a b)
 
-starts : (p : Part) → 1 ≤ p .blocks → programming p (programOf Array (p .blocks) (0x02 ∷ 0x00 ∷ 0x00 ∷ 0xFE ∷ three)) three ≡ started p
-unfolding programOf pagePlace
-starts p n = rw (at-FE (p .blocks) n)
-
-module _ (xs : List ℕ) (a : getD xs 0x0000FE 0 ≡ 0xFF) (b : getD xs 0x0000FF 0 ≡ 0xFF) (c : getD xs 0x000000 0 ≡ 0xFF) where
-  three-written : narrowed (narrowed (narrowed xs 0x0000FE 0x01) 0x0000FF 0x02) 0x000000 0x03 ≡ set (set (set xs 0x0000FE 0x01) 0x0000FF 0x02) 0x000000 0x03
-  three-written =
-      let ys = set xs 0x0000FE 0x01 in
-      let zs = set ys 0x0000FF 0x02 in
-      let y : getD ys 0x0000FF 0 ≡ 0xFF = getD-set-other xs 0x0000FE 0x0000FF 0x01 0 (omega arith) ∙ b in
-      let z : getD zs 0x000000 0 ≡ 0xFF = getD-set-other ys 0x0000FF 0x000000 0x02 0 (omega arith) ∙ getD-set-other xs 0x0000FE 0x000000 0x01 0 (omega arith) ∙ c in
-      rw (over-FF xs 0x0000FE 0x01 a, over-FF ys 0x0000FF 0x02 y, over-FF zs 0x000000 0x03 z)
-
-  three-run : (p : Part) → memoryAfter Array 3 (started p) xs ≡ set (set (set xs 0x0000FE 0x01) 0x0000FF 0x02) 0x000000 0x03
-  unfolding worked pagePlace pageData
-  three-run p = three-written
-
-case-5 : Case5
-unfolding worked
-case-5 p r w f xs l a b c =
-    let n : 1 ≤ p .part .blocks = size-range (p .part .blocks) (sound-parts p (r .is-sound) .size) .0 in
-    let g : Free (codeOf (p .part .stored .status)) (p .part .blocks) (addressIn (p .part .blocks) (0x02 ∷ 0x00 ∷ 0x00 ∷ 0xFE ∷ three)) = rw (at-FE (p .part .blocks) n) f in (
-      ap number (program-run p r w 0x00 0x00 0xFE three (omega arith) (omega arith) g),
-      program-array p r w 0x00 0x00 0xFE three (omega arith) (omega arith) g xs l 3 (omega arith) ∙ ap (λ (q : Record). memoryAfter Array 3 q xs) (starts (p .part) n) ∙ three-run xs a b c (p .part),
-      ap (λ (t : Ticked). t .next .phase) (program-ticks p r w 0x00 0x00 0xFE three (omega arith) (omega arith) g 3 (omega arith)) ∙ ap (λ (q : Record). recordAfter 3 q .phase) (starts (p .part) n),
-      ap (λ (t : Ticked). t .done) (program-ticks p r w 0x00 0x00 0xFE three (omega arith) (omega arith) g 4 (omega arith)) ∙ ap (workingTicks 4) (starts (p .part) n),
-    )
-
-offset-2 : (n h m : ℕ) (d : List ℕ)
-    → let a = addressIn n (0x02 ∷ h ∷ m ∷ 0x00 ∷ d) in
-    pageBase a + pagePlace a 2 ≡ a + 2
-unfolding highFirst pagePlace
-offset-2 n h m d = omega (arith, in-page n (0x02 ∷ h ∷ m ∷ 0x00 ∷ d))
-
-case-6 : Case6
-unfolding narrowed
-case-6 p r w h m d n f xs e =
-    let two : passedCount d ≡ 2 = omega arith in (
-      ap number (program-run p r w h m 0x00 d (omega arith) (omega arith) f),
-      program-tick p r w h m 0x00 d (omega arith) (omega arith) f xs e ∙ rw (two, offset-2 (p .part .blocks) h m d),
-    )
-
-over-5A : (xs : List ℕ) (a : ℕ) → getD xs a 0 ≡ 0x5A → narrowed xs (pageBase a + pagePlace a 0) 0xA5 ≡ set xs a 0x00
-unfolding narrowed pagePlace
-over-5A xs a b =
-    let e : pageBase a + pagePlace a 0 ≡ a = omega arith in
-    rw (e, b)
-
-case-7 : Case7
-case-7 p r w h m l f xs e b = (
-  ap number (program-run p r w h m l (0xA5 ∷ []) (omega arith) (omega arith) f),
-  program-tick p r w h m l (0xA5 ∷ []) (omega arith) (omega arith) f xs e ∙ over-5A xs (addressIn (p .part .blocks) (0x02 ∷ h ∷ m ∷ l ∷ 0xA5 ∷ [])) b,
-)
-
-two-bytes : (p : Record) (b : ℕ) → Ready p → ignoredNumber (Known WriteEnable) (p .part) (p .phase) (0x06 ∷ b ∷ []) true ≡ 24
-unfolding commandNumber _or_ unless _orElse_
-two-bytes p b r = rw (r .awake, r .idle)
-
-case-8 : Case8
-unfolding decoded
-case-8 p r b = ap number (ignores p (r .is-sound) true WriteEnable (0x06 ∷ b ∷ []) (omega arith) (omega arith) refl 23 (two-bytes p b r))
-
--- the record the same but for the armed mark
-abbrev armedAs : Record → Bool → Record
-armedAs p armed = recordOf (marked (p .part) armed) (p .phase) (p .page)
-
-armed-sound : (p : Record) (armed : Bool) → sound p ≡ true → sound (armedAs p armed) ≡ true
-armed-sound p armed s = marked-sound (p .part) (p .phase) (p .page) armed s
-
-case-9 : Case9
-unfolding decoded unless
-case-9 p s e =
-    let a : send p (0x66 ∷ []) ≡ did (armedAs p true) 1 = executes p s true ArmReset (0x66 ∷ []) (omega arith) (omega arith) refl (arm-number (p .part) (p .phase) e true) in
-    let b : send (armedAs p true) (0x05 ∷ []) ≡ did (armedAs p false) 1 = executes (armedAs p true) (armed-sound p true s) true ReadStatus (0x05 ∷ []) (omega arith) (omega arith) refl (read-status-number (marked (p .part) true) (p .phase) e true) in
-    let c : send (armedAs p false) (0x99 ∷ []) .number ≡ 25 = ap number (ignores (armedAs p false) (armed-sound p false s) true Reset (0x99 ∷ []) (omega arith) (omega arith) refl 24 (reset-number (marked (p .part) false) (p .phase) e true false refl)) in
-    rw (a, b, c) (refl, refl, refl)
-
-locked-row : (p : Record) → Ready p → p .part .wel ≡ true → locked (p .part .stored .function) 1 ≡ true → (d : List ℕ) → 1 ≤ length d
-    → ignoredNumber (Known RowProgram) (p .part) (p .phase) (0x62 ∷ 0x00 ∷ 0x10 ∷ 0x00 ∷ d) true ≡ 28
-unfolding commandNumber _and_ _or_ unless _orElse_ rowOk rowPlace highFirst programOf
-locked-row p r w k d n = rw (r .awake, r .idle, le-leb 5 (length (0x62 ∷ 0x00 ∷ 0x10 ∷ 0x00 ∷ d)) (omega arith), w, k)
-
-no-row : (p : Record) → Ready p → p .part .wel ≡ true → (d : List ℕ) → 1 ≤ length d
-    → ignoredNumber (Known RowProgram) (p .part) (p .phase) (0x62 ∷ 0x00 ∷ 0x01 ∷ 0x00 ∷ d) true ≡ 27
-unfolding commandNumber _and_ _or_ unless _orElse_ rowOk highFirst
-no-row p r w d n = rw (r .awake, r .idle, le-leb 5 (length (0x62 ∷ 0x00 ∷ 0x01 ∷ 0x00 ∷ d)) (omega arith), w)
-
-case-10 : Case10
-unfolding decoded
-case-10 p r w k d (n, most) = (
-  ap number (ignores p (r .is-sound) true RowProgram (0x62 ∷ 0x00 ∷ 0x10 ∷ 0x00 ∷ d) (omega arith) (omega arith) refl 27 (locked-row p r w k d n)),
-  ap number (ignores p (r .is-sound) true RowProgram (0x62 ∷ 0x00 ∷ 0x01 ∷ 0x00 ∷ d) (omega arith) (omega arith) refl 26 (no-row p r w d n)),
-)
-
-case-11 : Case11
-case-11 p r has free m l hm hl xs e =
-    let k : 100 < 256 = omega arith in
-    rw (enabled p r, begins p r has free m l hm hl, runs p r has free 100 k, halts p r has free 100 k, halted-arms p r has free 100 k, halted-resets p r has free 100 k)
-    (refl, refl, refl, refl, refl, refl, refl, refl, refl, runs-on p r has free 100 xs k e)
+case-11 : (id : Identity) (b : ℕ) → Case11 (powered id 0 0) 0x00 0x00 (filled (arrayBytes 16) b)
+case-11 id b =
+    subst⁻¹ (λ (p : Record). Case11 p 0x00 0x00 (filled (arrayBytes 16) b)) (powered-as id 0 0)
+    (everywhere .case-11 (fresh 16 id (coded 0 0)) (fresh-ready id (coded 0 0)) (omega arith) (free-under 0 16 0x030000 refl) 0x00 0x00 (omega arith) (omega arith) (filled (arrayBytes 16) b) (filled-length (arrayBytes 16) b))
 
 pub cases : Cases
-cases = (parts, case-1, case-2, case-3, case-4, case-5, case-6, case-7, case-8, case-9, case-10, case-11)
+cases =
+    record {
+      part-16 = part-16;
+      case-1 = case-1;
+      case-2 = case-2;
+      case-3 = case-3;
+      case-4 = λ id b. let f = part-16 id 15 0 (omega arith) in everywhere .case-4 (enabledPart id 15 0) (f .enabled-ready) (f .code) (f .wel) (b ∷ []) (omega arith, omega arith);
+      case-5 = λ id. everywhere .case-5 (enabledPart id 0 0) (facts id .enabled-ready) (facts id .wel) (all-free id 0x0000FE) (filled (arrayBytes 16) 0xFF) (fits id 0xFF) (filled-at (arrayBytes 16) 0xFF 0x0000FE (omega arith)) (filled-at (arrayBytes 16) 0xFF 0x0000FF (omega arith)) (filled-at (arrayBytes 16) 0xFF 0x000000 (omega arith));
+      case-6 = case-6;
+      case-7 = case-7;
+      case-8 = λ id b. everywhere .case-8 (powered id 0 0) (facts id .ready) b;
+      case-9 = λ id. everywhere .case-9 (powered id 0 0) (facts id .ready .is-sound) (facts id .ready .awake);
+      case-10 = λ id b. let f = part-16 id 0 2 (omega arith) in everywhere .case-10 (enabledPart id 0 2) (f .enabled-ready) (f .wel) (locked-1 (enabledPart id 0 2 .part .stored .function) (f .locks)) (b ∷ []) (omega arith, omega arith);
+      case-11 = case-11;
+    }

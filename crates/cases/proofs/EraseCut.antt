@@ -41,8 +41,8 @@ module _ (p : Record) (r : Ready p) (has : 3 < p .part .blocks) (free : Free (co
   abbrev busy : ℕ → Record
   busy k = turned p (Busy (erasing k)) true false
 
-  abbrev halted : ℕ → Bool → Record
-  halted k armed = turned p (Suspended (erasing k)) false armed
+  abbrev cut : ℕ → Bool → Record
+  cut k armed = turned p (Suspended (erasing k)) false armed
 
   operation-ok : (k : ℕ) → k < 256 → operationOk (erasing k) (p .part .blocks) (p .part .stored) ≡ true
   unfolding operationOk _and_
@@ -51,9 +51,9 @@ module _ (p : Record) (r : Ready p) (has : 3 < p .part .blocks) (free : Free (co
   busy-sound : (k : ℕ) → k < 256 → sound (busy k) ≡ true
   busy-sound k h = turned-sound p r (Busy (erasing k)) true false refl (operation-ok k h) refl
 
-  halted-sound : (k : ℕ) (armed : Bool) → k < 256 → sound (halted k armed) ≡ true
+  cut-sound : (k : ℕ) (armed : Bool) → k < 256 → sound (cut k armed) ≡ true
   unfolding _and_
-  halted-sound k armed h = turned-sound p r (Suspended (erasing k)) false armed refl (operation-ok k h) refl
+  cut-sound k armed h = turned-sound p r (Suspended (erasing k)) false armed refl (operation-ok k h) refl
 
   module _ (m l : ℕ) (hm : m < 256) (hl : l < 256) where
     at-block-3 : eraseOf Block64 (p .part .blocks) (0xD8 ∷ 0x03 ∷ m ∷ l ∷ []) ≡ erasing 0
@@ -68,22 +68,22 @@ module _ (p : Record) (r : Ready p) (has : 3 < p .part .blocks) (free : Free (co
     unfolding commandNumber _and_ _or_ unless _orElse_
     erases = rw (at-block-3, r .awake, code-stored (p .part .stored .status) 2 (omega arith), free)
 
-    pub begins : send (turned p Idle true false) (0xD8 ∷ 0x03 ∷ m ∷ l ∷ []) ≡ did (busy 0) 4
+    pub erase-begins : send (turned p Idle true false) (0xD8 ∷ 0x03 ∷ m ∷ l ∷ []) ≡ did (busy 0) 4
     unfolding decoded
-    begins =
+    erase-begins =
         executes (turned p Idle true false) (enabled-ready p r .is-sound) true BlockErase64 (0xD8 ∷ 0x03 ∷ m ∷ l ∷ []) (omega arith) (omega arith) refl erases
         ∙ ap (λ (o : Operation). did (turned (turned p Idle true false) (Busy o) true false) 4) at-block-3
         ∙ ap (λ (q : Record). did q 4) (turned-again p Idle true false (Busy (erasing 0)) true false)
 
-  pub runs : (k : ℕ) → k < 256 → tick (busy 0) k ≡ record { next = busy k; number = 0; done = k }
-  runs k h =
+  pub erase-runs : (k : ℕ) → k < 256 → tick (busy 0) k ≡ record { next = busy k; number = 0; done = k }
+  erase-runs k h =
       let z : 0 + k ≡ k = omega arith in
       let a : recordAfter k (busy 0) ≡ busy k = run-record (busy 0) (erasing 0) refl k (omega arith) ∙ ap busy z in
       let b : workingTicks k (busy 0) ≡ k = run-works (busy 0) (erasing 0) refl k (omega arith) in
       ticks-run (busy 0) (busy-sound 0 (omega arith)) k (omega arith) ∙ rw (a, b)
 
-  pub runs-on : (k : ℕ) (xs : List ℕ) → k < 256 → length xs ≡ arrayBytes (p .part .blocks) → arrayTicked (busy 0) k xs ≡ stretch xs 0x030000 (k * pageBytes)
-  runs-on k xs h e =
+  pub erase-runs-on : (k : ℕ) (xs : List ℕ) → k < 256 → length xs ≡ arrayBytes (p .part .blocks) → arrayTicked (busy 0) k xs ≡ stretch xs 0x030000 (k * pageBytes)
+  erase-runs-on k xs h e =
       ticks-memory (busy 0) (busy-sound 0 (omega arith)) Array (length xs) k xs e (omega arith)
       ∙ run-memory (busy 0) (erasing 0) refl Array xs k (omega arith)
       ∙ erase-ran k Block64 0x030000 0 (p .page) xs (omega arith)
@@ -93,18 +93,18 @@ module _ (p : Record) (r : Ready p) (has : 3 < p .part .blocks) (free : Free (co
     unfolding commandNumber _or_ unless _orElse_
     suspends = rw (r .awake)
 
-    pub halts : send (busy k) (0x75 ∷ []) ≡ did (halted k false) 1
+    pub erase-suspends : send (busy k) (0x75 ∷ []) ≡ did (cut k false) 1
     unfolding decoded
-    halts =
+    erase-suspends =
         executes (busy k) (busy-sound k h) true Suspend (0x75 ∷ []) (omega arith) (omega arith) refl suspends
         ∙ ap (λ (q : Record). did q 1) (turned-again p (Busy (erasing k)) true false (Suspended (erasing k)) false false)
 
-    pub halted-arms : send (halted k false) (0x66 ∷ []) ≡ did (halted k true) 1
+    pub cut-arms : send (cut k false) (0x66 ∷ []) ≡ did (cut k true) 1
     unfolding decoded
-    halted-arms = executes (halted k false) (halted-sound k false h) true ArmReset (0x66 ∷ []) (omega arith) (omega arith) refl (arm-number (halted k false .part) (halted k false .phase) (r .awake) true)
+    cut-arms = executes (cut k false) (cut-sound k false h) true ArmReset (0x66 ∷ []) (omega arith) (omega arith) refl (arm-number (cut k false .part) (cut k false .phase) (r .awake) true)
 
-    pub halted-resets : send (halted k true) (0x99 ∷ []) ≡ did (fresh (p .part .blocks) (p .part .identity) (p .part .stored)) 1
+    pub cut-resets : send (cut k true) (0x99 ∷ []) ≡ did (fresh (p .part .blocks) (p .part .identity) (p .part .stored)) 1
     unfolding decoded unless
-    halted-resets =
-        executes (halted k true) (halted-sound k true h) true Reset (0x99 ∷ []) (omega arith) (omega arith) refl (reset-number (halted k true .part) (halted k true .phase) (r .awake) true true refl)
+    cut-resets =
+        executes (cut k true) (cut-sound k true h) true Reset (0x99 ∷ []) (omega arith) (omega arith) refl (reset-number (cut k true .part) (cut k true .phase) (r .awake) true true refl)
         ∙ rw (registers-again (Suspended (erasing k)) false (p .part .stored) Idle false)

@@ -3,5 +3,7 @@ pub mod Parts
 pub mod ProgramRun
 pub mod ProgramSent
 pub mod EraseCut
+pub mod Everywhere
 pub mod Cases
 pub mod States
+pub mod Worked

@@ -1,9 +1,10 @@
--- A ready part in another phase that keeps no page data: it is sound where the phase is, and 06h makes one of it.
-use Prim.Native.Nat.{ℕ}
+-- A ready part in another phase that keeps no page data: it is sound where the phase is, and 06h makes one of it. Memory that holds one byte throughout.
+use Prim.Native.Nat.{ℕ, _<_}
 use mathlib.Core.Path.{_≡_, refl, ap, _∙_}
 use mathlib.Core.Bool.{Bool, true, false}
 use mathlib.Core.List.{[], _∷_}
 use native.Mathlib.Omega.{arith}
+use lib.ListN.{length, getD, length-replicate, getD-replicate}
 use Rattle.types.specs.declared.Phase.{Phase}
 use Rattle.types.specs.declared.Phase.the-variants.{Idle}
 use Rattle.types.specs.declared.Command.the-variants.{WriteEnable}
@@ -18,7 +19,7 @@ use Rattle.paper.specs.Table.{decoded}
 use Rattle.paper.proofs.MadeSound.{registers-again}
 use Rattle.paper.proofs.Soundness.{recordOf, sound-parts, marked-sound}
 use Rattle.paper.proofs.Begun.{settled-empty, idle-empty}
-use Rattle.cases.proofs.Paper.{send, Ready}
+use Rattle.cases.proofs.Paper.{send, Ready, filled}
 use Rattle.paper.proofs.Answers.{executes}
 
 -- the part in another phase, with this latch and this armed mark
@@ -52,3 +53,12 @@ module _ (p : Record) (r : Ready p) where
 
   pub enabled-ready : Ready (turned p Idle true false)
   enabled-ready = record { is-sound = turned-sound Idle true false refl refl refl; idle = refl; awake = r .awake }
+
+-- so many bytes, each of them b
+pub filled-length : (n b : ℕ) → length (filled n b) ≡ n
+unfolding filled
+filled-length n b = length-replicate n b
+
+pub filled-at : (n b a : ℕ) → a < n → getD (filled n b) a 0 ≡ b
+unfolding filled
+filled-at n b a h = getD-replicate n a b 0 h

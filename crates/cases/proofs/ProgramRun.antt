@@ -37,10 +37,10 @@ module _ (p : Part) (i : List ℕ) (size : sizeOk (p .blocks) ≡ true) (least :
   abbrev address : ℕ
   address = addressIn (p .blocks) i
 
-  abbrev sent : List ℕ
-  sent = dataSent i
+  abbrev given : List ℕ
+  given = dataSent i
 
-  some : 1 ≤ length sent
+  some : 1 ≤ length given
   some = simp length-drop (omega arith)
 
   page-free : protectedAt (codeOf (p .stored .status)) (p .blocks) (pageBase address) ≡ false
@@ -52,20 +52,20 @@ module _ (p : Part) (i : List ℕ) (size : sizeOk (p .blocks) ≡ true) (least :
   unfolding commandNumber _and_ _or_ unless _orElse_ programOf
   program-number f a e w wp = rw (page-free, a, e, le-leb 5 (length i) least, w)
 
-  pub program-sound : p .asleep ≡ false → sound (programming p (programOf Array (p .blocks) i) sent) ≡ true
+  pub program-sound : p .asleep ≡ false → sound (programming p (programOf Array (p .blocks) i) given) ≡ true
   unfolding programOf
   program-sound a =
-      marked-sound (settled p (Busy (programOf Array (p .blocks) i)) true) (Busy (programOf Array (p .blocks) i)) (pageData sent) false
+      marked-sound (settled p (Busy (programOf Array (p .blocks) i)) true) (Busy (programOf Array (p .blocks) i)) (pageData given) false
       (program-begun p size a Array i least tt (ap not page-free))
 
-  first-kept : getD (pageData sent) 0 0 ≡ getD sent (passedCount sent) 0
-  first-kept = kept-byte sent 0 (omega (arith, some)) ∙ ap (λ (k : ℕ). getD sent k 0) (add-zero (passedCount sent))
+  first-kept : getD (pageData given) 0 0 ≡ getD given (passedCount given) 0
+  first-kept = kept-byte given 0 (omega (arith, some)) ∙ ap (λ (k : ℕ). getD given k 0) (add-zero (passedCount given))
 
   -- the first tick
   pub program-first : (xs : List ℕ)
-      → memoryAfter Array 1 (programming p (programOf Array (p .blocks) i) sent) xs
-      ≡ narrowed xs (pageBase address + pagePlace address (passedCount sent)) (getD sent (passedCount sent) 0)
+      → memoryAfter Array 1 (programming p (programOf Array (p .blocks) i) given) xs
+      ≡ narrowed xs (pageBase address + pagePlace address (passedCount given)) (getD given (passedCount given) 0)
   unfolding programOf pagePlace
   program-first xs =
-      ap (λ (k : ℕ). narrowed xs (pageBase address + k) (getD (pageData sent) 0 0)) (omega arith)
-      ∙ ap (narrowed xs (pageBase address + pagePlace address (passedCount sent))) first-kept
+      ap (λ (k : ℕ). narrowed xs (pageBase address + k) (getD (pageData given) 0 0)) (omega arith)
+      ∙ ap (narrowed xs (pageBase address + pagePlace address (passedCount given))) first-kept

@@ -32,26 +32,26 @@ module _ (p : Record) (r : Ready p) (w : p .part .wel ≡ true) (h m l : ℕ) (d
   address = addressIn (p .part .blocks) input
 
   -- the part as the program begins
-  abbrev begins : Record
-  begins = programming (p .part) (programOf Array (p .part .blocks) input) d
+  abbrev begun : Record
+  begun = programming (p .part) (programOf Array (p .part .blocks) input) d
 
   module _ (free : Free (codeOf (p .part .stored .status)) (p .part .blocks) address) where
-    begins-sound : sound begins ≡ true
-    begins-sound = program-sound (p .part) input (sound-parts p (r .is-sound) .size) (omega arith) free (r .awake)
+    begun-sound : sound begun ≡ true
+    begun-sound = program-sound (p .part) input (sound-parts p (r .is-sound) .size) (omega arith) free (r .awake)
 
-    pub program-run : send p input ≡ did begins (length input)
+    pub program-run : send p input ≡ did begun (length input)
     unfolding decoded
     program-run =
         executes p (r .is-sound) true PageProgram input (omega arith) (omega arith) refl
         (program-number (p .part) input (sound-parts p (r .is-sound) .size) (omega arith) free (p .phase) (r .awake) (r .idle) w true)
         ∙ ap (λ (f : Phase). answered (executed (columns PageProgram) (p .part) f input) input p) (r .idle)
 
-    pub program-ticks : (k : ℕ) → k ≤ tickLimit → tick (send p input .next) k ≡ record { next = recordAfter k begins; number = 0; done = workingTicks k begins }
-    program-ticks k b = rw program-run (ticks-run begins begins-sound k b)
+    pub program-ticks : (k : ℕ) → k ≤ tickLimit → tick (send p input .next) k ≡ record { next = recordAfter k begun; number = 0; done = workingTicks k begun }
+    program-ticks k b = rw program-run (ticks-run begun begun-sound k b)
 
     module _ (xs : List ℕ) (e : length xs ≡ arrayBytes (p .part .blocks)) where
-      pub program-array : (k : ℕ) → k ≤ tickLimit → arrayTicked (send p input .next) k xs ≡ memoryAfter Array k begins xs
-      program-array k b = rw program-run (ticks-memory begins begins-sound Array (length xs) k xs e b)
+      pub program-array : (k : ℕ) → k ≤ tickLimit → arrayTicked (send p input .next) k xs ≡ memoryAfter Array k begun xs
+      program-array k b = rw program-run (ticks-memory begun begun-sound Array (length xs) k xs e b)
 
       -- the first tick
       pub program-tick : arrayTicked (send p input .next) 1 xs ≡ narrowed xs (pageBase address + pagePlace address (passedCount d)) (getD d (passedCount d) 0)

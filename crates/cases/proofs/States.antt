@@ -32,18 +32,18 @@ abbrev pub least : Length → ℕ
 least (Exactly l) = l
 least (AtLeast l) = l
 
-abbrev pub sent : Entry → List ℕ
-sent e = e .code ∷ replicate (least (columns (e .command) .length) - 1) 0
+abbrev pub leastInput : Entry → List ℕ
+leastInput e = e .code ∷ replicate (least (columns (e .command) .length) - 1) 0
 
 -- the numbers that the codes answer, in the table's order
 abbrev pub numbers : Record → List Entry → List ℕ
 numbers p [] = []
 numbers p (e ∷ es) =
-    transacted p (arrayBytes (p .part .blocks)) rowsBytes true (sent e) (length (sent e)) .number ∷ numbers p es
+    transacted p (arrayBytes (p .part .blocks)) rowsBytes true (leastInput e) (length (leastInput e)) .number ∷ numbers p es
 
 -- a part of 16 blocks with nothing protected or locked
-abbrev pub recordIn : Phase → Bool → Bool → Bool → Record
-recordIn f wel armed asleep =
+abbrev pub recordWith : Phase → Bool → Bool → Bool → Record
+recordWith f wel armed asleep =
     record {
       part = record { blocks = 16; identity = noIdentity; stored = registersIn f wel noStored; wel = wel; armed = armed; asleep = asleep };
       phase = f;
@@ -66,20 +66,20 @@ whileSuspended =
 
 -- the codes, as they stand in the table: 03 0B 05 48 9F 90 AB 68 06 04 01 42 02 D7 20 52 D8 C7 60 75 B0 7A 30 B9 66 99 64 62
 pub record States : Type 0 where
-  pub idle : numbers (recordIn Idle true false false) codes
+  pub idle : numbers (recordWith Idle true false false) codes
       ≡ 0 ∷ 0 ∷ 0 ∷ 0 ∷ 0 ∷ 0 ∷ 0 ∷ 0 ∷ 0 ∷ 0 ∷ 0 ∷ 0 ∷ 0 ∷ 0 ∷ 0 ∷ 0 ∷ 0 ∷ 0 ∷ 0 ∷ 25 ∷ 25 ∷ 25 ∷ 25 ∷ 0 ∷ 0 ∷ 25 ∷ 0 ∷ 0 ∷ []
-  pub idle-without-wel : numbers (recordIn Idle false true false) codes
+  pub idle-without-wel : numbers (recordWith Idle false true false) codes
       ≡ 0 ∷ 0 ∷ 0 ∷ 0 ∷ 0 ∷ 0 ∷ 0 ∷ 0 ∷ 0 ∷ 0 ∷ 26 ∷ 26 ∷ 26 ∷ 26 ∷ 26 ∷ 26 ∷ 26 ∷ 26 ∷ 26 ∷ 25 ∷ 25 ∷ 25 ∷ 25 ∷ 0 ∷ 0 ∷ 0 ∷ 26 ∷ 26 ∷ []
-  pub asleep : numbers (recordIn Idle true true true) codes
+  pub asleep : numbers (recordWith Idle true true true) codes
       ≡ 21 ∷ 21 ∷ 21 ∷ 21 ∷ 21 ∷ 21 ∷ 0 ∷ 21 ∷ 21 ∷ 21 ∷ 21 ∷ 21 ∷ 21 ∷ 21 ∷ 21 ∷ 21 ∷ 21 ∷ 21 ∷ 21 ∷ 21 ∷ 21 ∷ 21 ∷ 21 ∷ 21 ∷ 21 ∷ 21 ∷ 21 ∷ 21 ∷ []
-  pub busy-program : numbers (recordIn (Busy program) true true false) codes ≡ whileBusy 0
-  pub busy-sector : numbers (recordIn (Busy (Erase Sector 4096 3)) true true false) codes ≡ whileBusy 0
-  pub busy-chip : numbers (recordIn (Busy (Erase Chip 0 5)) true true false) codes ≡ whileBusy 25
-  pub busy-row : numbers (recordIn (Busy (Erase Row 256 0)) true true false) codes ≡ whileBusy 25
-  pub busy-row-program : numbers (recordIn (Busy (Program Rows 512 7 1 0)) true true false) codes ≡ whileBusy 25
-  pub busy-write : numbers (recordIn (Busy (Write Status 0)) true true false) codes ≡ whileBusy 25
-  pub suspended-program : numbers (recordIn (Suspended program) false true false) codes ≡ whileSuspended
-  pub suspended-sector : numbers (recordIn (Suspended (Erase Sector 4096 3)) false true false) codes ≡ whileSuspended
+  pub busy-program : numbers (recordWith (Busy program) true true false) codes ≡ whileBusy 0
+  pub busy-sector : numbers (recordWith (Busy (Erase Sector 4096 3)) true true false) codes ≡ whileBusy 0
+  pub busy-chip : numbers (recordWith (Busy (Erase Chip 0 5)) true true false) codes ≡ whileBusy 25
+  pub busy-row : numbers (recordWith (Busy (Erase Row 256 0)) true true false) codes ≡ whileBusy 25
+  pub busy-row-program : numbers (recordWith (Busy (Program Rows 512 7 1 0)) true true false) codes ≡ whileBusy 25
+  pub busy-write : numbers (recordWith (Busy (Write Status 0)) true true false) codes ≡ whileBusy 25
+  pub suspended-program : numbers (recordWith (Suspended program) false true false) codes ≡ whileSuspended
+  pub suspended-sector : numbers (recordWith (Suspended (Erase Sector 4096 3)) false true false) codes ≡ whileSuspended
 
 pub states : States
 unfolding transacted outcomeOf transactionRefusal sizeNumber rowsNumber lengthNumber outputNumber soundNumber commandNumber sound partSound operationOk bitsOk pageOk sizeOk decoded addressIn highFirst rowOk rowPlace protected protectedBlocks blocksAsked locked barred noData pagePlace programOf eraseOf writeOf _and_ _or_ unless _orElse_

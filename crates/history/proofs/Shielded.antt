@@ -1,5 +1,5 @@
 -- A byte whose block is protected throughout, or whose row is locked throughout, holds its starting value after any run of calls: no touch reaches it.
-use Prim.Native.Nat.{ℕ, zero, suc, _+_, _*_, _/_, _%_, _≤_, _<_, min}
+use Prim.Native.Nat.{ℕ, zero, suc, _+_, _-_, _*_, _/_, _%_, _≤_, _<_, min}
 use mathlib.Core.Path.{_≡_, refl, sym, ap, _∙_}
 use mathlib.Core.Bool.{Bool, true, false, not, cond, false≢true}
 use mathlib.Core.List.{List, [], _∷_}
@@ -18,9 +18,9 @@ use Rattle.types.specs.declared.Work.the-variants.{NoWork, At}
 use Rattle.types.specs.declared.Stored.{Stored}
 use Rattle.types.specs.declared.Record.{Record}
 use Rattle.words.specs.Logic.{_and_, _or_}
-use Rattle.words.proofs.Tests.{and-l, and-r, and-false}
+use Rattle.words.proofs.Tests.{and-l, and-r}
 use Rattle.paper.specs.Sizes.{arrayBytes, rowsBytes, pageBytes, blockBytes, sameMemory}
-use Rattle.paper.specs.Protection.{codeOf, blocksAsked, protectedBlocks, protected, locked}
+use Rattle.paper.specs.Protection.{codeOf, blocksAsked, protectsTop, protectedBlocks, protected, locked}
 use Rattle.paper.specs.Program.{pageBase, pagePlace, narrowedByte}
 use Rattle.paper.specs.Erase.{memoryOf, unitBytes, unitBase, erasedByte}
 use Rattle.paper.specs.Phases.{running, workIs, anyOperation, isBusy}
@@ -37,12 +37,23 @@ use Rattle.history.specs.Run.{Run}
 use Rattle.history.proofs.Touches.{bytes-append}
 use Rattle.history.proofs.Told.{run-told}
 
--- a code of 0 protects nothing
-none-protected : (n k : ℕ) → protected 0 n k ≡ false
-unfolding protected protectedBlocks blocksAsked _and_ _or_
-none-protected n k =
-    let e : ltb k (0 + min n 0) ≡ false = le-ltb k (0 + min n 0) (omega arith) in
-    ap (λ (t : Bool). leb 0 k and t) e ∙ and-false (leb 0 k)
+-- a stretch of no blocks has none
+none-in : (f k : ℕ) (t : Bool) → leb f k ≡ t → (t and ltb k (f + 0)) ≡ false
+unfolding _and_
+none-in f k true e = le-ltb k (f + 0) (omega (arith, leb-true f k e))
+none-in f k false e = refl
+
+-- a code that asks for no block protects none
+pub none-protected : (c n k : ℕ) → blocksAsked c ≡ 0 → protected c n k ≡ false
+unfolding protected protectedBlocks
+none-protected c n k e =
+    let z : min n (blocksAsked c) ≡ 0 = omega arith in
+    rw z (none-in (cond (protectsTop c) (n - 0) 0) k (leb (cond (protectsTop c) (n - 0) 0) k) refl)
+
+-- 0 and 15 do
+pub none-asked : (blocksAsked 0 ≡ 0) × (blocksAsked 15 ≡ 0)
+unfolding blocksAsked _or_
+none-asked = (refl, refl)
 
 -- places of one block, or of one row, are free together
 module _ (n : ℕ) (g : Stored) (at b : ℕ) where
@@ -64,7 +75,7 @@ module _ (n : ℕ) (g : Stored) (at b : ℕ) where
   unit-free Block64 e l h f = same-block (omega arith) f
   unit-free Chip e l h f =
       let z : codeOf (g .status) ≡ 0 = eqb-true _ _ f in
-      ap (λ (c : ℕ). not (protected c n (at / blockBytes))) z ∙ ap not (none-protected n (at / blockBytes))
+      ap (λ (c : ℕ). not (protected c n (at / blockBytes))) z ∙ ap not (none-protected 0 n (at / blockBytes) (none-asked .0))
   unit-free Row e l h f = same-row (omega arith) f
 
 -- a test that only a free place can pass is failed at a place that is not free
