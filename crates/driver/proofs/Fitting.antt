@@ -1,0 +1,109 @@
+-- A sound record whose page data is a page fits its bytes, so that it is read back from them; and calls keep page data a page.
+use Prim.Native.Nat.{ℕ, zero, suc, _+_, _-_, _^_, _≤_, _<_}
+use mathlib.Core.Path.{_≡_, refl, _∙_}
+use mathlib.Core.Bool.{Bool, true, false, cond}
+use mathlib.Core.List.{List}
+use native.Mathlib.Omega.{arith}
+use lib.Dec.{ltb}
+use lib.ListN.{length, drop, replicate, length-append, length-drop, length-replicate}
+use borrow.Author.Tests.{leb-true}
+use Rattle.types.specs.declared.Memory.{Memory}
+use Rattle.types.specs.declared.Memory.the-variants.{Array, Rows}
+use Rattle.types.specs.declared.Operation.{Operation}
+use Rattle.types.specs.declared.Operation.the-variants.{Program, Erase, Write}
+use Rattle.types.specs.declared.Phase.{Phase}
+use Rattle.types.specs.declared.Phase.the-variants.{Idle, Busy, Suspended}
+use Rattle.types.specs.declared.Work.{Work}
+use Rattle.types.specs.declared.Work.the-variants.{NoWork, At}
+use Rattle.types.specs.declared.Stored.{Stored}
+use Rattle.types.specs.declared.Data.{Data}
+use Rattle.types.specs.declared.Data.the-variants.{Kept, Sent, Zero}
+use Rattle.types.specs.declared.Change.{Change}
+use Rattle.types.specs.declared.Change.the-variants.{Same, Marked, Became}
+use Rattle.types.specs.declared.Record.{Record}
+use Rattle.words.proofs.Tests.{and-l, and-r}
+use Rattle.paper.specs.Sizes.{memoryBytes, pageBytes}
+use Rattle.paper.specs.Program.{dataSent, keptCount, passedCount, pageData, noData}
+use Rattle.paper.specs.Erase.{memoryOf, unitBytes}
+use Rattle.paper.specs.Phases.{running}
+use Rattle.paper.specs.Operations.{ticksInAll, ticksDone, advancedBy}
+use Rattle.paper.specs.Soundness.{phaseOk, sound}
+use Rattle.paper.specs.Commands.{pageAfter, changed}
+use Rattle.paper.specs.Ticks.{finished, advanced, worked, tickedAt, recordAfter}
+use Rattle.paper.proofs.Sizes.{size-range}
+use Rattle.paper.proofs.Pages.{unit-pages-le}
+use Rattle.paper.proofs.Soundness.{InOrder, in-order, sound-parts}
+use Rattle.cells.specs.declared.Cells.{Cells}
+use Rattle.cells.specs.Phases.{operationCells, cellsOf}
+use Rattle.record_bytes.specs.Read.{Fits}
+
+-- the numbers of a phase fit eight bytes each
+record Small (s : Cells) : Type 0 where
+  base : s .base < 2 ^ 64
+  count : s .count < 2 ^ 64
+  done : s .done < 2 ^ 64
+
+memory-few : (m : Memory) (n : ℕ) → n ≤ 16 → memoryBytes m n ≤ 2 ^ 20
+memory-few Array n h = omega arith
+memory-few Rows n h = omega arith
+
+-- an operation that is in order on a part of at most 16 blocks
+operation-small : (f n : ℕ) (g : Stored) (o : Operation) → n ≤ 16 → InOrder o n g → Small (operationCells f o)
+operation-small f n g (Program m b s k d) few i =
+    let inside : b + pageBytes ≤ memoryBytes m n = leb-true _ _ (i .within) in
+    let kept : k ≤ pageBytes = leb-true _ _ (and-l _ _ (and-r _ _ (i .content))) in
+    record { base = omega (arith, memory-few m n few); count = omega arith; done = omega (arith, i .going) }
+operation-small f n g (Erase u b d) few i =
+    let inside : b + unitBytes u n ≤ memoryBytes (memoryOf u) n = leb-true _ _ (i .within) in
+    record { base = omega (arith, memory-few (memoryOf u) n few); count = omega arith; done = omega (arith, i .going, unit-pages-le u n (omega arith)) }
+operation-small f n g (Write r v) few i = record { base = omega arith; count = omega arith; done = omega arith }
+
+phase-small : (f : Phase) (n : ℕ) (g : Stored) → n ≤ 16 → phaseOk f n g ≡ true → Small (cellsOf f)
+phase-small Idle n g few h = record { base = omega arith; count = omega arith; done = omega arith }
+phase-small (Busy o) n g few h = operation-small 1 n g o few (in-order o n g h)
+phase-small (Suspended o) n g few h = operation-small 2 n g o few (in-order o n g (and-r _ _ h))
+
+-- so many bytes of page data
+abbrev pub Page : Record → Type 0
+Page p = length (p .page) ≡ pageBytes
+
+pub sound-fits : (p : Record) → sound p ≡ true → Page p → Fits p
+sound-fits p s h =
+    let t = sound-parts p s in
+    let few : p .part .blocks ≤ 16 = size-range (p .part .blocks) (t .size) .1 in
+    let c = phase-small (p .phase) (p .part .blocks) (p .part .stored) few (t .phase-ok) in
+    record { blocks = omega arith; base = c .base; count = c .count; done = c .done; page = h }
+
+-- page data of what was sent, and of nothing
+data-page : (d : List ℕ) → length (pageData d) ≡ pageBytes
+unfolding pageData
+data-page d = length-append (drop (passedCount d) d) (replicate (pageBytes - keptCount d) 0) ∙ simp (length-drop, length-replicate) (omega arith)
+
+pub none-page : length noData ≡ pageBytes
+unfolding noData
+none-page = refl
+
+-- what a transaction changes keeps it a page
+after-page : (d : Data) (i g : List ℕ) → length g ≡ pageBytes → length (pageAfter d i g) ≡ pageBytes
+after-page Kept i g h = h
+after-page Sent i g h = data-page (dataSent i)
+after-page Zero i g h = none-page
+
+pub changed-page : (c : Change) (i : List ℕ) (p : Record) → Page p → Page (changed c i p)
+changed-page Same i p h = h
+changed-page (Marked armed) i p h = h
+changed-page (Became q f d) i p h = after-page d i (p .page) h
+
+-- and so do ticks
+worked-page : (p : Record) (o : Operation) (t : Bool) → Page p → Page (cond t (advanced p (advancedBy 1 o)) (finished p o))
+worked-page p o true h = h
+worked-page p o false h = none-page
+
+ticked-page : (p : Record) (w : Work) → Page p → Page (tickedAt p w)
+unfolding worked
+ticked-page p NoWork h = h
+ticked-page p (At o) h = worked-page p o (ltb (ticksDone o + 1) (ticksInAll o (p .part .blocks))) h
+
+pub run-page : (n : ℕ) (p : Record) → Page p → Page (recordAfter n p)
+run-page zero p h = h
+run-page (suc n) p h = ticked-page (recordAfter n p) (running (recordAfter n p .phase)) (run-page n p h)

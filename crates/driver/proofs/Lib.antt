@@ -1,0 +1,4 @@
+pub mod Fitting
+pub mod Runs
+pub mod FromC
+pub mod Contracts
