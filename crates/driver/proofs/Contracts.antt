@@ -9,7 +9,7 @@ use Rattle.yawlspar.specs.Face.{powerUpAnswer, powerUpBytes}
 use Rattle.yawlspar.proofs.yawlspar_power_up.Reads as yawlspar-power-up
 use Rattle.yawlspar.proofs.yawlspar_transact.Reads as yawlspar-transact
 use Rattle.yawlspar.proofs.yawlspar_tick.Reads as yawlspar-tick
-use Rattle.driver.specs.Driven.{CCall, transact, tick, Driven, transacts, waits}
+use Rattle.driver.specs.Driven.{CCall, transact, tick, Driven, transacts, passes}
 
 -- bytes, array, rows, level, input and output are a call's arguments
 pub transact-drives : Follows yawlspar-transact.Learnt (λ κ a x s.
@@ -21,7 +21,7 @@ transact-drives κ a x s l ds cs ys ts r = transacts x (now (s .1 .1 .1 .1 .1 .0
 pub tick-drives : Follows yawlspar-tick.Learnt (λ κ a x s.
     (ds : List CCall) (cs ys ts : List ℕ) → Driven (now (s .0)) (now (s .1 .0)) (now (s .1 .1 .0)) ds cs ys ts
     → Driven (now (a .0)) (now (a .1 .0)) (now (a .1 .1 .0)) (tick (a .1 .1 .1 .0) ∷ ds) cs ys ts)
-tick-drives κ a x s l ds cs ys ts r = waits x (l .0) (l .1 .0) (l .1 .1 .0) (l .1 .1 .1) r
+tick-drives κ a x s l ds cs ys ts r = passes x (l .0) (l .1 .0) (l .1 .1 .0) (l .1 .1 .1) r
 
 -- bytes, blocks, maker, kind, capacity, device, status and function are
 pub power-up-drives : Follows yawlspar-power-up.Learnt (λ κ a x s.

@@ -21,12 +21,15 @@ use Rattle.record_bytes.specs.Read.{held, recordIn}
 use Rattle.record_bytes.proofs.Back.{exact}
 use Rattle.yawlspar.specs.Face.{upNumber, powerUpAnswer, powerUpBytes}
 use Rattle.history.specs.Run.{Run}
+use Rattle.history.specs.Course.{course}
+use Rattle.history.proofs.Course.{course-told}
 use Rattle.history.proofs.FromPowerUp.{FromPowerUp, history-told}
 use Rattle.reset.specs.Closing.{wake, allAside, untilArmed, closing, poweredAs}
 use Rattle.reset.proofs.Run.{FreshRun, reset-after-run}
-use Rattle.driver.specs.Driven.{CCall, transact, callOf, callsOf, Driven, closingFromC}
+use Rattle.driver.specs.Driven.{CCall, transact, callOf, callsOf, Driven, heard, packedSteps, closingFromC}
 use Rattle.driver.proofs.Fitting.{Page, none-page}
-use Rattle.driver.proofs.Runs.{Holding, own-bytes-hold, driven-run}
+use Rattle.driver.proofs.Holding.{Holding, own-bytes-hold}
+use Rattle.driver.proofs.Runs.{driven-run, driven-heard}
 
 -- some calls from C, then others
 calls-of-append : (a b : List CCall) → callsOf (a ++ b) ≡ callsOf a ++ callsOf b
@@ -71,19 +74,21 @@ module _ (n m t k d status function : ℕ) (bs : List ℕ) where
         let s = power-up-sound n identity registers in
         record { in-bytes = own-bytes-hold start (powerUpBytes n m t k d status function bs) up-bytes s up-page; is-sound = s; page = up-page; array = lx ∙ sym (ap (λ (p : Record). arrayBytes (p .part .blocks)) (powered-fresh n identity registers up-unrefused)); rows = lr }
 
-  -- what calls from C leave of a part that was powered up, unrefused: the bytes hold a record, to which a run of the calls led, and every stored byte is what the history says
-  pub record FromC (ds : List CCall) (xs rs cs ys ts : List ℕ) : Type 0 where
+  -- what calls from C leave of a part that was powered up, unrefused: the bytes hold a record, to which a run of the calls led; every stored byte is what the history says; and C heard what the part answered
+  pub record FromC {ds : List CCall} {xs rs cs ys ts : List ℕ} (chain : Driven (powerUpBytes n m t k d status function bs) xs rs ds cs ys ts) : Type 0 where
     pub unrefused : poweredUp n identity registers .number ≡ 0
     pub next : Record
     pub in-bytes : recordIn cs ≡ held next
     pub run : Run start xs rs (callsOf ds) next ys ts
     pub told : FromPowerUp n identity registers (callsOf ds) xs rs next ys ts
+    pub answers : heard chain ≡ packedSteps (course run)
 
   pub driven-told : {ds : List CCall} {xs rs cs ys ts : List ℕ} → powerUpAnswer (length bs) n m t k d status function ≡ 0 → length xs ≡ arrayBytes n → length rs ≡ rowsBytes
-      → Driven (powerUpBytes n m t k d status function bs) xs rs ds cs ys ts → FromC ds xs rs cs ys ts
-  driven-told {ds} {xs} {rs} {cs} {ys} {ts} z lx lr driven =
-      let l = driven-run driven start (up-holds z xs rs lx lr) in
-      record { unrefused = up-unrefused z; next = l .next; in-bytes = l .in-bytes; run = l .run; told = history-told n identity registers (up-unrefused z) lx lr (l .run) }
+      → (chain : Driven (powerUpBytes n m t k d status function bs) xs rs ds cs ys ts) → FromC chain
+  driven-told {ds} {xs} {rs} {cs} {ys} {ts} z lx lr chain =
+      let h = up-holds z xs rs lx lr in
+      let l = driven-run chain start h in
+      record { unrefused = up-unrefused z; next = l .next; in-bytes = l .in-bytes; run = l .run; told = history-told n identity registers (up-unrefused z) lx lr (l .run); answers = driven-heard chain start h ∙ ap packedSteps (sym (course-told (l .run))) }
 
   -- what any calls from C, then ABh, calls, 66h, calls and 99h leave: the bytes are those of the record that power-up gives for the same size, identity and stored registers
   pub record FreshFromC (a : List Call) (w1 w2 w3 : Bool) (b c : List Call) (xs rs cs ys ts : List ℕ) : Type 0 where
@@ -98,8 +103,8 @@ module _ (n m t k d status function : ℕ) (bs : List ℕ) where
       allAside (callsOf b) (recordAfterCall (wake (eqb l1 1)) p) ≡ true → allAside (callsOf c) (recordAfterCalls (untilArmed (eqb l1 1) (eqb l2 1) (callsOf b)) p) ≡ true
       → Driven (powerUpBytes n m t k d status function bs) xs rs (a ++ closingFromC l1 l2 l3 x y w b c) cs ys ts
       → FreshFromC (callsOf a) (eqb l1 1) (eqb l2 1) (eqb l3 1) (callsOf b) (callsOf c) xs rs cs ys ts
-  reset-from-c a l1 l2 l3 x y w b c {xs} {rs} {cs} {ys} {ts} h1 h2 h3 z lx lr hb hc driven =
-      let l = driven-told z lx lr driven in
+  reset-from-c a l1 l2 l3 x y w b c {xs} {rs} {cs} {ys} {ts} h1 h2 h3 z lx lr hb hc chain =
+      let l = driven-told z lx lr chain in
       let e : callsOf (a ++ closingFromC l1 l2 l3 x y w b c) ≡ callsOf a ++ closing (eqb l1 1) (eqb l2 1) (eqb l3 1) (callsOf b) (callsOf c) =
       calls-of-append a (closingFromC l1 l2 l3 x y w b c) ∙ ap (λ (ds : List Call). callsOf a ++ ds) (closing-of l1 l2 l3 x y w b c h1 h2 h3) in
       let f = reset-after-run n identity registers (callsOf a) (eqb l1 1) (eqb l2 1) (eqb l3 1) (callsOf b) (callsOf c) (l .unrefused) lx lr hb hc (subst (λ (ds : List Call). Run start xs rs ds (l .next) ys ts) e (l .run)) in

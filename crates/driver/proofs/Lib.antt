@@ -1,4 +1,6 @@
 pub mod Fitting
+pub mod Holding
+pub mod Chains
 pub mod Runs
 pub mod FromC
 pub mod Contracts
