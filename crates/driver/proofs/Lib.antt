@@ -3,4 +3,5 @@ pub mod Holding
 pub mod Chains
 pub mod Runs
 pub mod FromC
+pub mod Reset
 pub mod Contracts

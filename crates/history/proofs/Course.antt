@@ -9,6 +9,7 @@ use Rattle.types.specs.declared.Answer.{Answer}
 use Rattle.types.specs.declared.Ticked.{Ticked}
 use Rattle.paper.specs.Sizes.{arrayBytes, rowsBytes}
 use Rattle.paper.specs.Operations.{Touch}
+use Rattle.paper.specs.Calls.{transacted, ticked}
 use Rattle.paper.specs.History.{Call, transaction, ticks, recordAfterCall, reachedBy, callTouches, history}
 use Rattle.paper.proofs.CallKept.{call-size}
 use Rattle.history.specs.Run.{Run, done, sends, waits}
@@ -30,10 +31,19 @@ course-told (waits {p} {q} {xs} {rs} {xs′} {rs′} {ys} {ts} {n} {cs} w h hx h
     ap (λ (ss : List Step). waited w (reachedBy (w .number) n p) ∷ ss) (course-told run ∙ course-as cs (w .next) f g)
     ∙ ap (λ (x : Ticked). waited x (reachedBy (x .number) n p) ∷ courseOf cs (x .next) (length xs) (length rs)) h
 
-run-ends : {cs : List Call} {p q : Record} {xs rs ys ts : List ℕ} (run : Run p xs rs cs q ys ts) → q ≡ endOf p (course run)
+-- a run ends with the record that its course ends with
+pub run-ends : {cs : List Call} {p q : Record} {xs rs ys ts : List ℕ} (run : Run p xs rs cs q ys ts) → q ≡ endOf p (course run)
 run-ends done = refl
 run-ends (sends w h run) = run-ends run
 run-ends (waits w h hx hr run) = run-ends run
+
+-- the course of some calls, then others
+pub course-append : (cs ds : List Call) (p : Record) (a r : ℕ) → courseOf (cs ++ ds) p a r ≡ courseOf cs p a r ++ courseOf ds (endOf p (courseOf cs p a r)) a r
+course-append [] ds p a r = refl
+course-append (transaction wp i o ∷ cs) ds p a r =
+    ap (λ (ss : List Step). sent (transacted p a r wp i o) ∷ ss) (course-append cs ds (transacted p a r wp i o .next) a r)
+course-append (ticks n ∷ cs) ds p a r =
+    ap (λ (ss : List Step). waited (ticked p a r n) (reachedBy (ticked p a r n .number) n p) ∷ ss) (course-append cs ds (ticked p a r n .next) a r)
 
 -- two runs of the same calls from the same record, over memories of the same lengths and any contents, take the same course and end with the same record
 pub course-forgets-contents : {cs : List Call} {p q q′ : Record} {xs rs ys ts xs′ rs′ ys′ ts′ : List ℕ}

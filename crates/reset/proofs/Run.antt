@@ -20,7 +20,7 @@ use Rattle.reset.proofs.Aside.{calls-append}
 use Rattle.reset.proofs.Theorem.{reset-after-history}
 
 -- 99h comes last
-reset-last : (a : List Call) (w1 w2 w3 : Bool) (b c : List Call) → a ++ closing w1 w2 w3 b c ≡ (a ++ untilReset w1 w2 b c) ++ (reset w3 ∷ [])
+pub reset-last : (a : List Call) (w1 w2 w3 : Bool) (b c : List Call) → a ++ closing w1 w2 w3 b c ≡ (a ++ untilReset w1 w2 b c) ++ (reset w3 ∷ [])
 reset-last a w1 w2 w3 b c =
     ap (λ (cs : List Call). a ++ (wake w1 ∷ cs)) (sym (append-assoc b (arm w2 ∷ c) (reset w3 ∷ [])))
     ∙ sym (append-assoc a (untilReset w1 w2 b c) (reset w3 ∷ []))
