@@ -1,2 +1,3 @@
 pub mod IdleSound
+pub mod PhaseOk
 pub mod Tight

@@ -7,6 +7,7 @@ use Rattle.record.proofs.fresh_part.Reads as fresh-part
 use Rattle.record.proofs.no_stored.Reads as no-stored
 use Rattle.record.proofs.zero_record.Reads as zero-record
 use Rattle.record.proofs.is_sound_in.Reads as is-sound-in
+use Rattle.record.proofs.is_sound_any.Reads as is-sound-any
 use Rattle.record.proofs.is_sound.Reads as is-sound
 use Rattle.record.proofs.power_up.Reads as power-up
 
@@ -30,6 +31,9 @@ zero-record-one κ a x y s t p q = agree p q
 
 pub is-sound-in-one : OneResult is-sound-in.Learnt
 is-sound-in-one κ a x y s t p q = agree p q
+
+pub is-sound-any-one : OneResult is-sound-any.Learnt
+is-sound-any-one κ a x y s t p q = agree p q
 
 pub is-sound-one : OneResult is-sound.Learnt
 is-sound-one κ a x y s t p q = agree p q

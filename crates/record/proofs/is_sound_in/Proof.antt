@@ -24,15 +24,15 @@ is-sound-part-requires c κs = search needs
 kept-in-requires : tie.Need-kept-in-requires
 kept-in-requires c κs = search needs
 
-zero-from-requires : tie.Need-zero-from-requires
-zero-from-requires c κs = search needs
+is-zero-from-requires : tie.Need-is-zero-from-requires
+is-zero-from-requires c κs = search needs
 
 both-requires : tie.Need-both-requires
 both-requires c κs = search needs
 
 returns-2 : tie.Need-returns-2
 unfolding sound pageOk
-returns-2 c = rw (c .both .ensures, c .before .zero-from .ensures, c .before .before .kept-in .ensures, c .before .before .before .is-sound-part .ensures)
+returns-2 c = rw (c .both .ensures, c .before .is-zero-from .ensures, c .before .before .kept-in .ensures, c .before .before .before .is-sound-part .ensures)
 
 pub is-sound-in-spec : {M : Type 1} → statement M
 is-sound-in-spec =
@@ -43,6 +43,6 @@ is-sound-in-spec =
     returns
     is-sound-part-requires
     kept-in-requires
-    zero-from-requires
+    is-zero-from-requires
     both-requires
     returns-2)

@@ -4,8 +4,8 @@ use borrow.Author.Needs.{needs}
 use Rattle.ticks.proofs.tick_number.Statement.{statement}
 use Rattle.ticks.proofs.tick_number.Tie as tie
 
-is-sound-in-requires : tie.Need-is-sound-in-requires
-is-sound-in-requires c κs = search needs
+is-sound-any-requires : tie.Need-is-sound-any-requires
+is-sound-any-requires c κs = search needs
 
 both-requires : tie.Need-both-requires
 both-requires c κs = search needs
@@ -15,7 +15,7 @@ tick-number-requires c κs = search needs
 
 returns : tie.Need-returns
 unfolding soundIn
-returns c = rw (c .tick-number .ensures, c .before .both .ensures, c .before .before .is-sound-in .ensures)
+returns c = rw (c .tick-number .ensures, c .before .both .ensures, c .before .before .is-sound-any .ensures)
 
 pub tick-number-spec : {M : Type 1} → statement M
-tick-number-spec = tie.close (tie.spec is-sound-in-requires both-requires tick-number-requires returns)
+tick-number-spec = tie.close (tie.spec is-sound-any-requires both-requires tick-number-requires returns)

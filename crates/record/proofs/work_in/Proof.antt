@@ -1,0 +1,26 @@
+-- `record::work_in` meets its contract: each arm is a clause of the definition.
+use borrow.Author.Needs.{needs}
+use Rattle.record.proofs.work_in.Statement.{statement}
+use Rattle.record.proofs.work_in.Tie as tie
+
+enum-told : tie.Need-enum-told
+enum-told c = search needs
+
+enum-known-phase : tie.Need-enum-known-phase
+enum-known-phase c = search needs
+
+enum-known-phase-2 : tie.Need-enum-known-phase-2
+enum-known-phase-2 c = search needs
+
+returns : tie.Need-returns
+returns c = search needs
+
+returns-2 : tie.Need-returns-2
+returns-2 c = rw (c .before .phase .given .1)
+
+returns-3 : tie.Need-returns-3
+returns-3 c = rw (c .before .phase2 .given .1)
+
+pub work-in-spec : {M : Type 1} → statement M
+work-in-spec =
+    tie.close (tie.spec enum-told enum-known-phase enum-known-phase-2 returns returns-2 returns-3)
