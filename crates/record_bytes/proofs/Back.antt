@@ -15,12 +15,13 @@ use Rattle.types.specs.declared.Record.{Record}
 use Rattle.words.specs.Logic.{_and_, bit}
 use Rattle.words.proofs.Tests.{and-l, and-r, and-in}
 use Rattle.words.proofs.Allowed.{agree}
+use Rattle.paper.specs.Sizes.{pageBytes}
 use Rattle.paper.proofs.Soundness.{recordOf}
 use Rattle.address.proofs.Bytes.{number-back}
 use Rattle.cells.specs.Phases.{cellsOf, phaseOf}
 use Rattle.cells.proofs.Back.{phase-back, same-cells}
 use Rattle.record_bytes.specs.declared.Found.{Found}
-use Rattle.record_bytes.specs.Layout.{partBytes, phaseBytes, header, recordBytes, written}
+use Rattle.record_bytes.specs.Layout.{headerLength, recordLength, partBytes, phaseBytes, header, recordBytes, written}
 use Rattle.record_bytes.specs.Read.{cellsIn, partIn, phaseIn, fieldsIn, holds, Held, nothing, held, recordIn, found, Fits}
 use Rattle.record_bytes.proofs.Laws.{header-length}
 use Rattle.record_bytes.proofs.Same.{same-bytes, one-list}
@@ -34,7 +35,7 @@ same-fields : (b b′ : ℕ) (i : Identity) (s : Stored) (w w′ a a′ z z′ :
     → _≡_ {A = Part} record { blocks = b; identity = i; stored = s; wel = w; armed = a; asleep = z } record { blocks = b′; identity = i; stored = s; wel = w′; armed = a′; asleep = z′ }
 same-fields b b′ i s w w′ a a′ z z′ eb ew ea ez = rw (eb, ew, ea, ez)
 
-page-back : (p : Record) → drop 38 (recordBytes p) ≡ p .page
+page-back : (p : Record) → drop headerLength (recordBytes p) ≡ p .page
 unfolding recordBytes partBytes phaseBytes
 page-back p = refl
 
@@ -55,11 +56,11 @@ module _ (p : Record) (h : Fits p) where
   unfolding fieldsIn
   fields-back = rw (part-back, phase-in-back, page-back p)
 
-front : (p : Record) → take 38 (recordBytes p) ≡ header (p .part) (cellsOf (p .phase))
+front : (p : Record) → take headerLength (recordBytes p) ≡ header (p .part) (cellsOf (p .phase))
 unfolding recordBytes
-front p = take-at (header (p .part) (cellsOf (p .phase))) (p .page) 38 (header-length (p .part) (cellsOf (p .phase)))
+front p = take-at (header (p .part) (cellsOf (p .phase))) (p .page) headerLength (header-length (p .part) (cellsOf (p .phase)))
 
-pub record-length : (p : Record) → length (p .page) ≡ 256 → length (recordBytes p) ≡ 294
+pub record-length : (p : Record) → length (p .page) ≡ pageBytes → length (recordBytes p) ≡ recordLength
 unfolding recordBytes
 record-length p h = length-append (header (p .part) (cellsOf (p .phase))) (p .page) ∙ simp (header-length (p .part) (cellsOf (p .phase)), h)
 
@@ -69,7 +70,7 @@ holds-back p h =
     and-in (eq-eqb _ _ (record-length p (h .page))) (rw (part-back p h, phase-in-back p h, front p) (same-bytes (header (p .part) (cellsOf (p .phase)))))
 
 -- a buffer of a record's length is written
-pub written-in : (p : Record) (bs : List ℕ) → length bs ≡ 294 → written p bs ≡ recordBytes p
+pub written-in : (p : Record) (bs : List ℕ) → length bs ≡ recordLength → written p bs ≡ recordBytes p
 unfolding written
 written-in p bs l = rw (eq-eqb _ _ l)
 
@@ -79,7 +80,7 @@ unfolding recordIn
 read-back p h = rw (holds-back p h, fields-back p h)
 
 -- part and phase as they are found in a record's bytes, with the page data behind the header, are the record
-pub found-back : (p : Record) (bs g : List ℕ) (x : Found) → Fits p → bs ≡ recordBytes p → x ≡ found (recordIn bs) → g ≡ drop 38 bs → recordOf (x .part) (x .phase) g ≡ p
+pub found-back : (p : Record) (bs g : List ℕ) (x : Found) → Fits p → bs ≡ recordBytes p → x ≡ found (recordIn bs) → g ≡ drop headerLength bs → recordOf (x .part) (x .phase) g ≡ p
 found-back p bs g x h eb ex eg =
     let k : x ≡ found (held p) = ex ∙ rw (eb, read-back p h) in
     rw (k, eg, eb, page-back p)
@@ -97,8 +98,8 @@ ok-as bs false e = rw e
 pub own-bytes : (bs : List ℕ) → holds bs ≡ true → recordBytes (fieldsIn bs) ≡ bs
 unfolding holds recordBytes fieldsIn
 own-bytes bs e =
-    ap (λ (x : List ℕ). x ++ drop 38 bs) (one-list (header (partIn bs) (cellsOf (phaseIn bs))) (take 38 bs) (and-r _ _ e))
-    ∙ take-append-drop 38 bs
+    ap (λ (x : List ℕ). x ++ drop headerLength bs) (one-list (header (partIn bs) (cellsOf (phaseIn bs))) (take headerLength bs) (and-r _ _ e))
+    ∙ take-append-drop headerLength bs
 
 exact-as : (bs : List ℕ) (p : Record) (t : Bool) → holds bs ≡ t → recordIn bs ≡ held p → bs ≡ recordBytes p
 exact-as bs p true e h = sym (own-bytes bs e) ∙ ap (λ (x : Held). recordBytes (x .state)) (sym (taken bs e) ∙ h)
@@ -117,7 +118,7 @@ module _ (bs : List ℕ) (h : recordIn bs .ok ≡ true) where
   pub holding : holds bs ≡ true
   holding = sym (ok-as bs (holds bs) refl) ∙ h
 
-  pub held-length : length bs ≡ 294
+  pub held-length : length bs ≡ recordLength
   unfolding holds
   held-length = eqb-true _ _ (and-l _ _ holding)
 
@@ -125,8 +126,8 @@ module _ (bs : List ℕ) (h : recordIn bs .ok ≡ true) where
   held-bytes = ap (λ (x : Held). recordBytes (x .state)) (taken bs holding) ∙ own-bytes bs holding
 
   -- part and phase with the page data behind the header
-  pub held-state : recordOf (recordIn bs .state .part) (recordIn bs .state .phase) (take 256 (drop 38 bs)) ≡ recordIn bs .state
+  pub held-state : recordOf (recordIn bs .state .part) (recordIn bs .state .phase) (take pageBytes (drop headerLength bs)) ≡ recordIn bs .state
   unfolding fieldsIn
   held-state =
-      let d : take 256 (drop 38 bs) ≡ drop 38 bs = take-all 256 (drop 38 bs) (simp length-drop (omega (arith, held-length))) in
+      let d : take pageBytes (drop headerLength bs) ≡ drop headerLength bs = take-all pageBytes (drop headerLength bs) (simp length-drop (omega (arith, held-length))) in
       rw (taken bs holding, d)

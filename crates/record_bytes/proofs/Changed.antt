@@ -12,16 +12,16 @@ use Rattle.words.specs.Logic.{bit}
 use Rattle.paper.specs.Records.{marked}
 use Rattle.paper.specs.Commands.{changed}
 use Rattle.paper.proofs.Soundness.{recordOf}
-use Rattle.record_bytes.specs.Layout.{partBytes, phaseBytes, recordBytes, bytesChanged, changeWritten}
+use Rattle.record_bytes.specs.Layout.{armedAt, recordLength, partBytes, phaseBytes, recordBytes, bytesChanged, changeWritten}
 use Rattle.record_bytes.specs.Read.{recordIn}
 use Rattle.record_bytes.proofs.Back.{held-length, held-bytes}
 
--- the armed mark is at place 9
-mark-set : (p : Record) (armed : Bool) → set (recordBytes p) 9 (bit armed) ≡ recordBytes (recordOf (marked (p .part) armed) (p .phase) (p .page))
+-- the armed mark at its place
+mark-set : (p : Record) (armed : Bool) → set (recordBytes p) armedAt (bit armed) ≡ recordBytes (recordOf (marked (p .part) armed) (p .phase) (p .page))
 unfolding recordBytes partBytes phaseBytes
 mark-set p armed = refl
 
-changed-in : (c : Change) (i bs : List ℕ) → length bs ≡ 294 → changeWritten c i bs ≡ bytesChanged c i bs
+changed-in : (c : Change) (i bs : List ℕ) → length bs ≡ recordLength → changeWritten c i bs ≡ bytesChanged c i bs
 unfolding changeWritten
 changed-in c i bs l = rw (eq-eqb _ _ l)
 

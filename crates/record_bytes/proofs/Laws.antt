@@ -10,13 +10,14 @@ use Rattle.types.specs.declared.Phase.{Phase}
 use Rattle.types.specs.declared.Phase.the-variants.{Idle, Busy, Suspended}
 use Rattle.types.specs.declared.Part.{Part}
 use Rattle.words.specs.Logic.{bit}
+use Rattle.paper.specs.Sizes.{pageBytes}
 use Rattle.paper.specs.Address.{highFirst}
 use Rattle.paper.specs.Phases.{isIdle}
 use Rattle.paper.proofs.Addresses.{high-first-none, high-first-more}
 use Rattle.address.specs.Bytes.{highFirstBytes}
 use Rattle.cells.specs.declared.Cells.{Cells}
 use Rattle.cells.specs.Phases.{cellsOf}
-use Rattle.record_bytes.specs.Layout.{partLength, phaseLength, partBytes, phaseBytes, header}
+use Rattle.record_bytes.specs.Layout.{partLength, phaseLength, headerLength, recordLength, partBytes, phaseBytes, header}
 
 -- of at most eight bytes the first eight are all
 pub take-few : (k : ℕ) (l : List ℕ) → k ≤ 8 → take 8 (take k l) ≡ take k l
@@ -52,11 +53,14 @@ module _ (bs a : List ℕ) (n m : ℕ) (x : List ℕ) (la : length a ≡ n) (e :
       rw (h, behind, drop-drop) (ap (λ (t : List ℕ). t ++ (z ++ drop (n + m) bs)) (ap (take n) e ∙ take-at a (drop n bs) n la) ∙ sym (append-assoc a z (drop (n + m) bs)))
 
 -- page data copied out of a record's bytes
-pub page-copied : (bs d : List ℕ) → length bs ≡ 294 → length d ≡ 256 → take (length (take 256 (drop 38 bs))) (take 256 (drop 38 bs)) ++ drop (length (take 256 (drop 38 bs))) d ≡ drop 38 bs
+abbrev pageIn : List ℕ → List ℕ
+pageIn bs = take pageBytes (drop headerLength bs)
+
+pub page-copied : (bs d : List ℕ) → length bs ≡ recordLength → length d ≡ pageBytes → take (length (pageIn bs)) (pageIn bs) ++ drop (length (pageIn bs)) d ≡ drop headerLength bs
 page-copied bs d l ld =
-    let t : take 256 (drop 38 bs) ≡ drop 38 bs = take-all 256 (drop 38 bs) (simp length-drop (omega arith)) in
-    let n : length d ≤ length (drop 38 bs) = simp length-drop (omega arith) in
-    rw t (copied-whole (drop 38 bs) d n)
+    let t : pageIn bs ≡ drop headerLength bs = take-all pageBytes (drop headerLength bs) (simp length-drop (omega arith)) in
+    let n : length d ≤ length (drop headerLength bs) = simp length-drop (omega arith) in
+    rw t (copied-whole (drop headerLength bs) d n)
 
 pub part-length : (p : Part) → length (partBytes p) ≡ partLength
 unfolding partBytes
@@ -66,26 +70,36 @@ pub phase-length : (s : Cells) → length (phaseBytes s) ≡ phaseLength
 unfolding phaseBytes
 phase-length s = refl
 
-pub header-length : (p : Part) (s : Cells) → length (header p s) ≡ 38
+pub header-length : (p : Part) (s : Cells) → length (header p s) ≡ headerLength
 unfolding partBytes phaseBytes
 header-length p s = refl
 
+-- x is a record's bytes with what a part is written over them
+module _ (bs : List ℕ) (p : Part) (x : List ℕ) (l : length bs ≡ recordLength) (e : x ≡ partBytes p ++ drop partLength bs) where
+  pub phase-room : length (take phaseLength (drop partLength x)) ≡ phaseLength
+  phase-room = room bs (partBytes p) partLength phaseLength x (part-length p) e (omega arith)
+
+  -- and what it does written behind
+  pub phase-laid : (y : List ℕ) (s : Cells) → y ≡ phaseBytes s → take partLength x ++ (y ++ drop phaseLength (drop partLength x)) ≡ header p s ++ drop headerLength bs
+  phase-laid y s h =
+      laid bs (partBytes p) partLength phaseLength x (part-length p) e (omega arith) y (phaseBytes s) h
+
 -- x is a record's bytes with a header written over them
-module _ (bs : List ℕ) (p : Part) (s : Cells) (x : List ℕ) (l : length bs ≡ 294) (e : x ≡ header p s ++ drop 38 bs) where
-  pub page-room : length (take 256 (drop 38 x)) ≡ 256
-  page-room = room bs (header p s) 38 256 x (header-length p s) e (omega arith)
+module _ (bs : List ℕ) (p : Part) (s : Cells) (x : List ℕ) (l : length bs ≡ recordLength) (e : x ≡ header p s ++ drop headerLength bs) where
+  pub page-room : length (take pageBytes (drop headerLength x)) ≡ pageBytes
+  page-room = room bs (header p s) headerLength pageBytes x (header-length p s) e (omega arith)
 
   -- page data is there as it was
-  pub page-there : take 256 (drop 38 x) ≡ drop 38 bs
+  pub page-there : take pageBytes (drop headerLength x) ≡ drop headerLength bs
   page-there =
-      there bs (header p s) 38 256 x (header-length p s) e (omega arith) ∙ take-all 256 (drop 38 bs) (simp length-drop (omega arith))
+      there bs (header p s) headerLength pageBytes x (header-length p s) e (omega arith) ∙ take-all pageBytes (drop headerLength bs) (simp length-drop (omega arith))
 
   -- and other page data in its place
-  pub page-laid : (y z : List ℕ) → y ≡ z → take 38 x ++ (y ++ drop 256 (drop 38 x)) ≡ header p s ++ z
+  pub page-laid : (y z : List ℕ) → y ≡ z → take headerLength x ++ (y ++ drop pageBytes (drop headerLength x)) ≡ header p s ++ z
   page-laid y z h =
-      let m : length bs ≤ 294 = omega arith in
-      let n : drop 294 bs ≡ [] = drop-of-length-le bs m in
-      laid bs (header p s) 38 256 x (header-length p s) e (omega arith) y z h ∙ ap (λ (t : List ℕ). (header p s ++ z) ++ t) n ∙ append-nil (header p s ++ z)
+      let m : length bs ≤ recordLength = omega arith in
+      let n : drop recordLength bs ≡ [] = drop-of-length-le bs m in
+      laid bs (header p s) headerLength pageBytes x (header-length p s) e (omega arith) y z h ∙ ap (λ (t : List ℕ). (header p s ++ z) ++ t) n ∙ append-nil (header p s ++ z)
 
 -- the bytes of an idle phase
 pub idle-bytes : (f : Phase) → isIdle f ≡ true → replicate phaseLength 0 ≡ phaseBytes (cellsOf f)

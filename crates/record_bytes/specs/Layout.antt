@@ -1,5 +1,5 @@
--- A record in bytes: a header of 38 bytes with every field at its place, and the 256 bytes of page data.
-use Prim.Native.Nat.{ℕ}
+-- A record in bytes: a header with every field at its place, and the 256 bytes of page data.
+use Prim.Native.Nat.{ℕ, _+_}
 use mathlib.Core.Bool.{cond}
 use mathlib.Core.List.{List, [], _∷_, _++_}
 use lib.Dec.{eqb}
@@ -9,33 +9,67 @@ use Rattle.types.specs.declared.Record.{Record}
 use Rattle.types.specs.declared.Change.{Change}
 use Rattle.types.specs.declared.Change.the-variants.{Same, Marked, Became}
 use Rattle.words.specs.Logic.{bit}
+use Rattle.paper.specs.Sizes.{pageBytes}
 use Rattle.paper.specs.Commands.{pageAfter}
 use Rattle.address.specs.Bytes.{highFirstBytes}
 use Rattle.cells.specs.declared.Cells.{Cells}
 use Rattle.cells.specs.Phases.{cellsOf}
 
--- so many bytes of a header say what a part is, and so many what it does
-abbrev pub partLength : ℕ
-partLength = 11
+-- where WEL and the marks stand: behind blocks, identity and registers
+abbrev pub marksAt : ℕ
+marksAt = 8
 
+abbrev pub welAt : ℕ
+welAt = marksAt
+
+abbrev pub armedAt : ℕ
+armedAt = marksAt + 1
+
+abbrev pub asleepAt : ℕ
+asleepAt = marksAt + 2
+
+-- so many bytes of a header say what a part is
+abbrev pub partLength : ℕ
+partLength = marksAt + 3
+
+-- behind them the phase, the operation's kind, its start or value, and in eight bytes each its base, its count and its ticks done
+abbrev pub phaseAt : ℕ
+phaseAt = partLength
+
+abbrev pub kindAt : ℕ
+kindAt = partLength + 1
+
+abbrev pub valueAt : ℕ
+valueAt = partLength + 2
+
+abbrev pub baseAt : ℕ
+baseAt = partLength + 3
+
+abbrev pub countAt : ℕ
+countAt = partLength + 11
+
+abbrev pub doneAt : ℕ
+doneAt = partLength + 19
+
+-- so many say what it does
 abbrev pub phaseLength : ℕ
 phaseLength = 27
 
 -- the bytes of a header, and of a record
 abbrev pub headerLength : ℕ
-headerLength = 38
+headerLength = partLength + phaseLength
 
 abbrev pub recordLength : ℕ
-recordLength = 294
+recordLength = headerLength + pageBytes
 
--- what a part is: at 0 blocks, at 2 identity M, T, C, D, at 6 status, at 7 function, at 8 WEL, at 9 armed, at 10 asleep
+-- what a part is: at 0 blocks, at 2 identity M, T, C, D, at 6 the registers, then WEL, armed, asleep
 unfoldable pub partBytes : Part → List ℕ
 partBytes p =
     highFirstBytes 2 (p .blocks)
     ++ (p .identity .maker ∷ p .identity .kind ∷ p .identity .capacity ∷ p .identity .device ∷ [])
     ++ (p .stored .status ∷ p .stored .function ∷ bit (p .wel) ∷ bit (p .armed) ∷ bit (p .asleep) ∷ [])
 
--- what it does: at 11 the phase, at 12 the operation's kind, at 13 its start or value, at 14 its base, at 22 its count, at 30 its ticks done
+-- what it does
 unfoldable pub phaseBytes : Cells → List ℕ
 phaseBytes s =
     (s .phase ∷ s .kind ∷ s .value ∷ [])
@@ -58,7 +92,7 @@ written p bs = cond (eqb (length bs) recordLength) (recordBytes p) bs
 -- the bytes of a record after a change by a call with the input i
 abbrev pub bytesChanged : Change → List ℕ → List ℕ → List ℕ
 bytesChanged Same i bs = bs
-bytesChanged (Marked armed) i bs = set bs 9 (bit armed)
+bytesChanged (Marked armed) i bs = set bs armedAt (bit armed)
 bytesChanged (Became q f d) i bs = header q (cellsOf f) ++ pageAfter d i (drop headerLength bs)
 
 -- a buffer with the change written; bytes of another length are left as they are

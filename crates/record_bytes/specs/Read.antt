@@ -9,12 +9,13 @@ use Rattle.types.specs.declared.Phase.{Phase}
 use Rattle.types.specs.declared.Part.{Part}
 use Rattle.types.specs.declared.Record.{Record}
 use Rattle.words.specs.Logic.{_and_}
+use Rattle.paper.specs.Sizes.{pageBytes}
 use Rattle.paper.specs.Address.{highFirst}
 use Rattle.paper.specs.Calls.{zeroRecord}
 use Rattle.cells.specs.declared.Cells.{Cells}
 use Rattle.cells.specs.Phases.{cells, cellsOf, phaseOf}
 use Rattle.record_bytes.specs.declared.Found.{Found}
-use Rattle.record_bytes.specs.Layout.{headerLength, recordLength, header}
+use Rattle.record_bytes.specs.Layout.{welAt, armedAt, asleepAt, phaseAt, kindAt, valueAt, baseAt, countAt, doneAt, headerLength, recordLength, header}
 
 -- the number that k bytes from a place on are
 abbrev pub numberAt : List ℕ → ℕ → ℕ → ℕ
@@ -22,12 +23,12 @@ numberAt bs at k = highFirst (take k (drop at bs))
 
 -- the cells in a header
 unfoldable pub cellsIn : List ℕ → Cells
-cellsIn bs = cells (getD bs 11 0) (getD bs 12 0) (getD bs 13 0) (numberAt bs 14 8) (numberAt bs 22 8) (numberAt bs 30 8)
+cellsIn bs = cells (getD bs phaseAt 0) (getD bs kindAt 0) (getD bs valueAt 0) (numberAt bs baseAt 8) (numberAt bs countAt 8) (numberAt bs doneAt 8)
 
 -- the fields of a part at their places, whatever stands there
 unfoldable pub partIn : List ℕ → Part
 partIn bs =
-    record { blocks = numberAt bs 0 2; identity = record { maker = getD bs 2 0; kind = getD bs 3 0; capacity = getD bs 4 0; device = getD bs 5 0 }; stored = record { status = getD bs 6 0; function = getD bs 7 0 }; wel = eqb (getD bs 8 0) 1; armed = eqb (getD bs 9 0) 1; asleep = eqb (getD bs 10 0) 1 }
+    record { blocks = numberAt bs 0 2; identity = record { maker = getD bs 2 0; kind = getD bs 3 0; capacity = getD bs 4 0; device = getD bs 5 0 }; stored = record { status = getD bs 6 0; function = getD bs 7 0 }; wel = eqb (getD bs welAt 0) 1; armed = eqb (getD bs armedAt 0) 1; asleep = eqb (getD bs asleepAt 0) 1 }
 
 -- the phase so
 abbrev pub phaseIn : List ℕ → Phase
@@ -39,7 +40,7 @@ fieldsIn bs = record { part = partIn bs; phase = phaseIn bs; page = drop headerL
 
 -- WEL and the marks are 0 or 1
 unfoldable pub marksIn : List ℕ → Bool
-marksIn bs = leb (getD bs 8 0) 1 and leb (getD bs 9 0) 1 and leb (getD bs 10 0) 1
+marksIn bs = leb (getD bs welAt 0) 1 and leb (getD bs armedAt 0) 1 and leb (getD bs asleepAt 0) 1
 
 -- two phases have the same cells
 unfoldable pub sameCells : Cells → Cells → Bool
@@ -91,4 +92,4 @@ pub record Fits (p : Record) : Type 0 where
   pub base : cellsOf (p .phase) .base < 2 ^ 64
   pub count : cellsOf (p .phase) .count < 2 ^ 64
   pub done : cellsOf (p .phase) .done < 2 ^ 64
-  pub page : length (p .page) ≡ 256
+  pub page : length (p .page) ≡ pageBytes

@@ -1,4 +1,4 @@
-// A record in bytes: a header of 38 bytes, every field at its place, and the 256 bytes of page data.
+// A record in bytes: a header, every field at its place, and the 256 bytes of page data.
 // The bytes are a record's own: no two strings of bytes hold one record.
 // `writing` and `reading` are the two ways; `places` says where each field stands.
 pub mod places;

@@ -1,41 +1,41 @@
-// The places of a record's fields in its bytes. Numbers stand high byte first.
+// The places of a record's fields in its bytes. Numbers stand high byte first. Each place is given by the one before it.
 
 // What the part is: two bytes of blocks, the identity M, T, C, D, the registers, WEL, and the marks.
 pub const BLOCKS: usize = 0;
 
-pub const MAKER: usize = 2;
+pub const MAKER: usize = BLOCKS + 2;
 
-pub const KIND: usize = 3;
+pub const KIND: usize = MAKER + 1;
 
-pub const CAPACITY: usize = 4;
+pub const CAPACITY: usize = KIND + 1;
 
-pub const DEVICE: usize = 5;
+pub const DEVICE: usize = CAPACITY + 1;
 
-pub const STATUS: usize = 6;
+pub const STATUS: usize = DEVICE + 1;
 
-pub const FUNCTION: usize = 7;
+pub const FUNCTION: usize = STATUS + 1;
 
-pub const WEL: usize = 8;
+pub const WEL: usize = FUNCTION + 1;
 
-pub const ARMED: usize = 9;
+pub const ARMED: usize = WEL + 1;
 
-pub const ASLEEP: usize = 10;
+pub const ASLEEP: usize = ARMED + 1;
 
 // What it does, in cells: the phase, the operation's kind, its start or value, and in eight bytes each its base, its
 // count and its ticks done.
-pub const PHASE: usize = 11;
+pub const PHASE: usize = ASLEEP + 1;
 
-pub const OPERATION: usize = 12;
+pub const OPERATION: usize = PHASE + 1;
 
-pub const VALUE: usize = 13;
+pub const VALUE: usize = OPERATION + 1;
 
-pub const BASE: usize = 14;
+pub const BASE: usize = VALUE + 1;
 
-pub const COUNT: usize = 22;
+pub const COUNT: usize = BASE + 8;
 
-pub const DONE: usize = 30;
+pub const DONE: usize = COUNT + 8;
 
 // Page data, and the end of the record.
-pub const PAGE: usize = 38;
+pub const PAGE: usize = DONE + 8;
 
-pub const END: usize = 294;
+pub const END: usize = PAGE + types::PAGE_BYTES;

@@ -102,8 +102,41 @@ fn none_found() -> Found
 }
 
 // The part and the phase of the record that bytes hold, or none. Page data stays where it is.
-// Bytes hold a record where the marks are marks, and the cells are those of the phase that they are read as.
+// Bytes hold a record where the marks are marks, and the cells are those of the phase that they are read as: an idle
+// phase has no cell but zero, and no more is asked of it. A transaction asks this, which mostly finds the part idle.
 pub fn read_part(bytes: &[u8]) -> Found
+    ensures { λ r. ⌜ r ≡ found (recordIn (now (bytes .entry))) ⌝ }
+{
+    let n = bytes.len();
+    if n != places::END {
+        return none_found();
+    }
+    let part = part_in(bytes);
+    let cells = cells_in(bytes);
+    let marks = marks_in(bytes);
+    let idle = same_cells(cells::cells_of(Phase::Idle), cells);
+    if words::both(marks, idle) {
+        return Found {
+            ok: true,
+            part: part,
+            phase: Phase::Idle,
+        };
+    }
+    let doing = cells::phase_of(cells);
+    let same = same_cells(cells::cells_of(doing), cells);
+    if words::both(marks, same) {
+        return Found {
+            ok: true,
+            part: part,
+            phase: doing,
+        };
+    }
+    none_found()
+}
+
+// The same, one way for every phase. A tick call asks this, which mostly finds the part busy. Each of the two has one
+// caller in the archive for C, so that it is compiled in place there.
+pub fn read_any(bytes: &[u8]) -> Found
     ensures { λ r. ⌜ r ≡ found (recordIn (now (bytes .entry))) ⌝ }
 {
     if bytes.len() != places::END {
@@ -138,7 +171,7 @@ pub fn read_back(state: Record) -> Record
     let mut bytes = [0u8; places::END];
     fits(state);
     crate::writing::write_record(state, &mut bytes);
-    let found = read_part(&bytes);
+    let found = read_any(&bytes);
     let part = found.part;
     let phase = found.phase;
     let mut page = record::no_data();

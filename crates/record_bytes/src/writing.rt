@@ -5,7 +5,7 @@ ghost use lib.ListN.{length, drop};
 ghost use Rattle.paper.specs.Sizes.{pageBytes};
 ghost use Rattle.paper.specs.Commands.{pageAfter};
 ghost use Rattle.cells.specs.Phases.{cellsOf};
-ghost use Rattle.record_bytes.specs.Layout.{phaseLength, headerLength, recordLength, partBytes, phaseBytes, header, written, changeWritten};
+ghost use Rattle.record_bytes.specs.Layout.{partLength, phaseLength, headerLength, recordLength, partBytes, phaseBytes, header, written, changeWritten};
 use crate::places;
 use types::Change;
 use types::Data;
@@ -76,7 +76,25 @@ fn phase_bytes(phase: Phase) -> [u8; places::PAGE - places::PHASE]
     ]
 }
 
-// What a part does, written where it stands in a header: zeros where the part is idle.
+// What a part is, written over the first of a record's bytes.
+fn write_part(part: Part, bytes: &mut [u8])
+    requires { ⌜ length (now bytes) ≡ recordLength ⌝ }
+    ensures { λ _. ⌜ now (bytes .exit) ≡ partBytes part ++ drop partLength (now (bytes .entry)) ⌝ }
+{
+    let front = part_bytes(part);
+    bytes::copy(&front, bytes);
+}
+
+// What a part does, written where it stands in a header.
+fn write_cells(phase: Phase, bytes: &mut [u8])
+    requires { ⌜ length (now bytes) ≡ phaseLength ⌝ }
+    ensures { λ _. ⌜ now (bytes .exit) ≡ phaseBytes (cellsOf phase) ⌝ }
+{
+    let cells = phase_bytes(phase);
+    bytes::copy(&cells, bytes);
+}
+
+// The same, zeros where the part is idle, so that no byte of them is worked out.
 fn write_phase(phase: Phase, bytes: &mut [u8])
     requires { ⌜ length (now bytes) ≡ phaseLength ⌝ }
     ensures { λ _. ⌜ now (bytes .exit) ≡ phaseBytes (cellsOf phase) ⌝ }
@@ -85,8 +103,7 @@ fn write_phase(phase: Phase, bytes: &mut [u8])
         runs::fill(bytes, 0);
         return;
     }
-    let cells = phase_bytes(phase);
-    bytes::copy(&cells, bytes);
+    write_cells(phase, bytes);
 }
 
 // The header of a part in a phase, written over a record's.
@@ -94,8 +111,7 @@ fn write_header(part: Part, phase: Phase, bytes: &mut [u8])
     requires { ⌜ length (now bytes) ≡ recordLength ⌝ }
     ensures { λ _. ⌜ now (bytes .exit) ≡ header part (cellsOf phase) ++ drop headerLength (now (bytes .entry)) ⌝ }
 {
-    let front = part_bytes(part);
-    bytes::copy(&front, bytes);
+    write_part(part, bytes);
     write_phase(phase, &mut bytes[places::PHASE..places::PAGE]);
 }
 
@@ -109,7 +125,8 @@ pub fn write_record(state: Record, bytes: &mut [u8])
     let part = state.part;
     let phase = state.phase;
     let page = state.page;
-    write_header(part, phase, bytes);
+    write_part(part, bytes);
+    write_cells(phase, &mut bytes[places::PHASE..places::PAGE]);
     bytes::copy(&page, &mut bytes[places::PAGE..places::END]);
 }
 

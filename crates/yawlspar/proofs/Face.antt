@@ -15,6 +15,7 @@ use Rattle.types.specs.declared.Waited.{Waited}
 use Rattle.types.specs.declared.PoweredUp.{PoweredUp}
 use Rattle.words.specs.Logic.{_and_}
 use Rattle.words.proofs.Tests.{and-l, and-r, unless-zero, orElse-zero, orElse-on, orElse-first}
+use Rattle.paper.specs.Sizes.{pageBytes}
 use Rattle.paper.specs.Soundness.{sound}
 use Rattle.paper.specs.Calls.{outcomeOf, outputAfter, ticked, tickedMemory}
 use Rattle.paper.proofs.Sizes.{size-range}
@@ -22,7 +23,7 @@ use Rattle.paper.proofs.Soundness.{recordOf}
 use Rattle.ticks.specs.Waited.{waitedOf, waitedMemory, tickedBy}
 use Rattle.ticks.proofs.Waited.{ticked-told, memory-told}
 use Rattle.record_bytes.specs.declared.Found.{Found}
-use Rattle.record_bytes.specs.Layout.{recordBytes, changeWritten}
+use Rattle.record_bytes.specs.Layout.{headerLength, recordLength, recordBytes, changeWritten}
 use Rattle.record_bytes.specs.Read.{Held, recordIn, found}
 use Rattle.record_bytes.proofs.Back.{held-length, held-state}
 use Rattle.record_bytes.proofs.Changed.{held-changed}
@@ -61,7 +62,7 @@ module _ (bs : List ℕ) (e : recordIn bs .ok ≡ true) (x : Found) (ex : x ≡ 
   held = recordIn bs .state
 
   abbrev lent : List ℕ
-  lent = take 256 (drop 38 bs)
+  lent = take pageBytes (drop headerLength bs)
 
   -- a transaction: s is whether the record is sound, t also that the level is one
   module _ (wp : ℕ) (s t : Bool) (es : s ≡ sound (recordOf (x .part) (x .phase) lent)) (et : t ≡ (s and leb wp 1)) where
@@ -88,7 +89,7 @@ module _ (bs : List ℕ) (e : recordIn bs .ok ≡ true) (x : Found) (ex : x ≡ 
   abbrev whole : Record
   whole = recordOf (held .part) (held .phase) lent
 
-  lent-length : length lent ≡ 256
+  lent-length : length lent ≡ pageBytes
   lent-length = simp (length-take, length-drop) (omega (arith, held-length bs e))
 
   module _ (a r n : ℕ) where
@@ -115,7 +116,7 @@ module _ (bs : List ℕ) (e : recordIn bs .ok ≡ true) (x : Found) (ex : x ≡ 
 
 -- power-up: what the numbers that it can take are
 pub record Given (l n m t c d status function : ℕ) : Type 0 where
-  pub whole : l ≡ 294
+  pub whole : l ≡ recordLength
   pub few : n ≤ 16
   pub maker : m ≤ 255
   pub kind : t ≤ 255

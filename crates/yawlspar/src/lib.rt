@@ -139,7 +139,7 @@ pub extern "C" fn yawlspar_tick(
     ensures array { λ _. ⌜ now (array .exit) ≡ tickMemory Array (recordIn (now (bytes .entry))) (length (now (array .entry))) (length (now (rows .entry))) count (now (array .entry)) ⌝ }
     ensures rows { λ _. ⌜ now (rows .exit) ≡ tickMemory Rows (recordIn (now (bytes .entry))) (length (now (array .entry))) (length (now (rows .entry))) count (now (rows .entry)) ⌝ }
 {
-    let found = record_bytes::reading::read_part(bytes);
+    let found = record_bytes::reading::read_any(bytes);
     if !found.ok {
         return 5;
     }

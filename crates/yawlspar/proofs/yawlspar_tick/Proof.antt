@@ -11,8 +11,8 @@ use Rattle.yawlspar.proofs.Face.{unheld-tick-answer, unheld-tick-bytes,
 use Rattle.yawlspar.proofs.yawlspar_tick.Statement.{statement}
 use Rattle.yawlspar.proofs.yawlspar_tick.Tie as tie
 
-read-part-requires : tie.Need-read-part-requires
-read-part-requires c κs = search needs
+read-any-requires : tie.Need-read-any-requires
+read-any-requires c κs = search needs
 
 same-length : tie.Need-same-length
 same-length c = search needs
@@ -20,7 +20,7 @@ same-length c = search needs
 returns : tie.Need-returns
 returns c =
     let h = recordIn (now (c .before .before .before .before .before .before .before .args .bytes)) in
-    let n = ap (λ (x : Found). x .ok) (sym (c .before .before .read-part .ensures)) ∙ not-true _ (c .if1 .taken) in
+    let n = ap (λ (x : Found). x .ok) (sym (c .before .before .read-any .ensures)) ∙ not-true _ (c .if1 .taken) in
     (unheld-tick-answer h n _ _ _, (unheld-tick-bytes h n _ _ _ _, (unheld-memory h n _ _ _ _ _, unheld-memory h n _ _ _ _ _)))
 
 sub-page : tie.Need-sub-page
@@ -31,7 +31,7 @@ part-page-start c = search needs
 
 part-page-end : tie.Need-part-page-end
 part-page-end c =
-    let e = ap (λ (x : Found). x .ok) (sym (c .before .before .before .before .read-part .ensures)) ∙ not-false _ (c .before .before .if1 .left) in
+    let e = ap (λ (x : Found). x .ok) (sym (c .before .before .before .before .read-any .ensures)) ∙ not-false _ (c .before .before .if1 .left) in
     omega (arith, held-length (now (c .before .before .before .before .before .before .before .before .before .args .bytes)) e)
 
 tick-part-requires : tie.Need-tick-part-requires
@@ -45,7 +45,7 @@ write-change-requires c κs = search needs
 
 pack-requires : tie.Need-pack-requires
 pack-requires c κs =
-    let f = c .before .before .before .before .before .before .before .before .before .before .before .before .before .before .before .before .before .read-part in
+    let f = c .before .before .before .before .before .before .before .before .before .before .before .before .before .before .before .before .before .read-any in
     let e = ap (λ (x : Found). x .ok) (sym (f .ensures)) ∙ not-false _ (c .before .before .before .before .before .before .before .before .before .before .before .before .before .before .before .if1 .left) in
     told-done (now (c .before .before .before .before .before .before .before .before .before .before .before .before .before .before .before .before .before .before .before .before .before .before .args .bytes)) e (f .result) (f .ensures) _ _ _ _ (c .before .before .before .before .before .before .before .before .before .tick-part .ensures .0)
 
@@ -61,7 +61,7 @@ same-length-4 c = search needs
 returns-2 : tie.Need-returns-2
 returns-2 c =
     let bs = now (c .before .before .before .before .before .before .before .before .before .before .before .before .before .before .before .before .before .before .before .before .before .before .before .args .bytes) in
-    let f = c .before .before .before .before .before .before .before .before .before .before .before .before .before .before .before .before .before .before .read-part in
+    let f = c .before .before .before .before .before .before .before .before .before .before .before .before .before .before .before .before .before .before .read-any in
     let e = ap (λ (x : Found). x .ok) (sym (f .ensures)) ∙ not-false _ (c .before .before .before .before .before .before .before .before .before .before .before .before .before .before .before .before .if1 .left) in
     let u = c .before .before .before .before .before .before .before .before .before .before .tick-part .ensures in
     (c .pack .ensures ∙ tick-answer bs e (f .result) (f .ensures) _ _ _ _ (u .0), (c .before .before .before .write-change .ensures ∙ tick-bytes bs e (f .result) (f .ensures) _ _ _ _ (u .0), (tick-memory bs e (f .result) (f .ensures) _ _ _ _ _ _ (u .1 .0), tick-memory bs e (f .result) (f .ensures) _ _ _ _ _ _ (u .1 .1))))
@@ -70,7 +70,7 @@ pub yawlspar-tick-spec : {M : Type 1} → statement M
 yawlspar-tick-spec =
     tie.close
     (tie.spec
-    read-part-requires
+    read-any-requires
     same-length
     returns
     sub-page

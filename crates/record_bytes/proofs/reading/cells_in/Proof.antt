@@ -3,6 +3,7 @@ use native.Mathlib.Omega.{arith}
 use lib.ListN.{drop}
 use denote.Ref.{now}
 use borrow.Author.Needs.{needs}
+use Rattle.record_bytes.specs.Layout.{baseAt, countAt, doneAt}
 use Rattle.record_bytes.specs.Read.{cellsIn}
 use Rattle.record_bytes.proofs.Laws.{take-few}
 use Rattle.record_bytes.proofs.reading.cells_in.Statement.{statement}
@@ -57,7 +58,7 @@ returns : tie.Need-returns
 unfolding cellsIn
 returns c =
     let bs = now (c .before .before .before .before .before .before .before .before .before .before .args .bytes) in
-    rw (c .before .before .before .high-first3 .ensures, c .before .before .before .before .before .high-first2 .ensures, c .before .before .before .before .before .before .before .high-first .ensures, take-few 8 (drop 14 bs) (omega arith), take-few 8 (drop 22 bs) (omega arith), take-few 8 (drop 30 bs) (omega arith))
+    rw (c .before .before .before .high-first3 .ensures, c .before .before .before .before .before .high-first2 .ensures, c .before .before .before .before .before .before .before .high-first .ensures, take-few 8 (drop baseAt bs) (omega arith), take-few 8 (drop countAt bs) (omega arith), take-few 8 (drop doneAt bs) (omega arith))
 
 pub cells-in-spec : {M : Type 1} → statement M
 cells-in-spec =

@@ -3,6 +3,8 @@ use Prim.Native.Nat.{ℕ}
 use mathlib.Core.Path.{_≡_, _∙_, ap}
 use lib.ListN.{length, length-replicate}
 use borrow.Author.Needs.{needs}
+use Rattle.paper.specs.Sizes.{pageBytes}
+use Rattle.record_bytes.specs.Layout.{recordLength}
 use Rattle.record_bytes.proofs.Laws.{page-copied}
 use Rattle.record_bytes.proofs.Back.{record-length, written-in, found-back}
 use Rattle.record_bytes.proofs.reading.read_back.Statement.{statement}
@@ -17,11 +19,11 @@ slice-aggregate-write-record c = search needs
 write-record-requires : tie.Need-write-record-requires
 write-record-requires c κs = search needs
 
-slice-aggregate-read-part : tie.Need-slice-aggregate-read-part
-slice-aggregate-read-part c = search needs
+slice-aggregate-read-any : tie.Need-slice-aggregate-read-any
+slice-aggregate-read-any c = search needs
 
-read-part-requires : tie.Need-read-part-requires
-read-part-requires c κs = search needs
+read-any-requires : tie.Need-read-any-requires
+read-any-requires c κs = search needs
 
 no-data-requires : tie.Need-no-data-requires
 no-data-requires c κs = search needs
@@ -44,9 +46,9 @@ copy-requires c κs = search needs
 returns : tie.Need-returns
 returns c =
     let fit = c .before .before .before .before .before .before .before .before .before .before .before .before .fits2 .ensures in
-    let w = c .before .before .before .before .before .before .before .before .before .before .write-record .ensures ∙ written-in _ _ (length-replicate {A = ℕ} 294 0) in
-    let ld : length (c .before .before .before .before .before .no-data .result) ≡ 256 = search needs in
-    found-back _ _ _ _ fit w (c .before .before .before .before .before .before .before .read-part .ensures) (c .before .copy .ensures .1 ∙ page-copied (c .before .before .before .before .before .before .before .before .before .before .write-record .last .1 .0) (c .before .before .before .before .before .no-data .result) (ap length w ∙ record-length _ (fit .page)) ld)
+    let w = c .before .before .before .before .before .before .before .before .before .before .write-record .ensures ∙ written-in _ _ (length-replicate {A = ℕ} recordLength 0) in
+    let ld : length (c .before .before .before .before .before .no-data .result) ≡ pageBytes = search needs in
+    found-back _ _ _ _ fit w (c .before .before .before .before .before .before .before .read-any .ensures) (c .before .copy .ensures .1 ∙ page-copied (c .before .before .before .before .before .before .before .before .before .before .write-record .last .1 .0) (c .before .before .before .before .before .no-data .result) (ap length w ∙ record-length _ (fit .page)) ld)
 
 pub read-back-spec : {M : Type 1} → statement M
 read-back-spec =
@@ -55,8 +57,8 @@ read-back-spec =
     fits-requires
     slice-aggregate-write-record
     write-record-requires
-    slice-aggregate-read-part
-    read-part-requires
+    slice-aggregate-read-any
+    read-any-requires
     no-data-requires
     sub-copy
     part-copy-start

@@ -1,11 +1,9 @@
--- `record_bytes::writing::write_phase` meets its contract: an idle phase is zeros, and of any other its bytes are copied over as many.
+-- `record_bytes::writing::write_phase` meets its contract: an idle phase is zeros, and any other is written.
 use Prim.Native.Nat.{ℕ}
 use mathlib.Core.Path.{_∙_, sym, ap}
-use lib.ListN.{length, replicate}
-use native.Mathlib.Omega.{arith}
-use denote.Ref.{now}
+use lib.ListN.{replicate}
+use Rattle.record_bytes.proofs.Laws.{idle-bytes}
 use borrow.Author.Needs.{needs}
-use Rattle.record_bytes.proofs.Laws.{copied-whole, phase-length, idle-bytes}
 use Rattle.record_bytes.proofs.writing.write_phase.Statement.{statement}
 use Rattle.record_bytes.proofs.writing.write_phase.Tie as tie
 
@@ -21,22 +19,14 @@ same-length c = search needs
 returns : tie.Need-returns
 returns c = c .before .before .fill .ensures ∙ ap (λ (n : ℕ). replicate n 0) (c .before .before .before .before .before .before .before .pre) ∙ idle-bytes (c .before .before .before .before .before .before .before .args .phase) (sym (c .before .before .before .before .before .is-idle .ensures) ∙ c .before .before .before .before .if1 .taken)
 
-phase-bytes-requires : tie.Need-phase-bytes-requires
-phase-bytes-requires c κs = search needs
-
-slice-aggregate-copy : tie.Need-slice-aggregate-copy
-slice-aggregate-copy c = search needs
-
-copy-requires : tie.Need-copy-requires
-copy-requires c κs = search needs
+write-cells-requires : tie.Need-write-cells-requires
+write-cells-requires c κs = search needs
 
 same-length-2 : tie.Need-same-length-2
 same-length-2 c = search needs
 
 returns-2 : tie.Need-returns-2
-returns-2 c =
-    let p = c .before .before .before .before .before .phase-bytes in
-    c .before .before .copy .ensures .1 ∙ copied-whole (p .result) (now (c .before .before .before .before .before .before .before .before .before .args .bytes)) (omega (arith, c .before .before .before .before .before .before .before .before .before .pre, ap length (p .ensures) ∙ phase-length _)) ∙ p .ensures
+returns-2 c = search needs
 
 pub write-phase-spec : {M : Type 1} → statement M
 write-phase-spec =
@@ -46,8 +36,6 @@ write-phase-spec =
     fill-requires
     same-length
     returns
-    phase-bytes-requires
-    slice-aggregate-copy
-    copy-requires
+    write-cells-requires
     same-length-2
     returns-2)
