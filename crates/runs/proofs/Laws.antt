@@ -1,11 +1,11 @@
 -- A run: how long it is, and what copying it leaves.
 use Prim.Native.Nat.{ℕ, _+_, _-_, _<_, _≤_, min}
-use mathlib.Core.Path.{_≡_, _∙_}
-use mathlib.Core.List.{List, _++_, append-nil}
+use mathlib.Core.Path.{_≡_, refl, sym, ap, _∙_}
+use mathlib.Core.List.{List, _++_, append-nil, append-assoc}
 use native.Mathlib.Omega.{arith}
 use native.Mathlib.Nat.{le-refl}
-use lib.ListN.{length, take, drop, length-take, length-drop, drop-of-length-le}
-use lib.Seq.{take-take}
+use lib.ListN.{length, take, drop, length-append, length-take, length-drop, drop-of-length-le}
+use lib.Seq.{take-take, take-add, take-at, drop-at, take-length, drop-drop}
 
 -- a run of r bytes from the place here of a source of n, with done bytes laid from the place from of an output of e
 pub record Run (n e from here done r : ℕ) : Type 0 where
@@ -25,3 +25,39 @@ copied s o ys here there r m n em en hs ho q =
     let ls : length (take r (drop here s)) ≡ r = simp (length-take, length-drop) (omega arith) in
     let lo : length (take r (drop there o)) ≤ r = simp (length-take, length-drop) (omega arith) in
     q ∙ rw (em, en, ls, take-take r r (drop here s) (le-refl r), drop-of-length-le (take r (drop there o)) lo) (append-nil (take r (drop here s)))
+
+-- bytes that were copied over no more others are those bytes
+pub copied-whole : (s d : List ℕ) → length d ≤ length s → take (length s) s ++ drop (length s) d ≡ s
+copied-whole s d h = rw (take-length, drop-of-length-le d h) (append-nil s)
+
+-- bytes of a source laid over the first i of as many others
+module _ (s o : List ℕ) (l : length o ≡ length s) where
+  abbrev over : ℕ → List ℕ
+  over i = take i s ++ drop i o
+
+  -- k more of them behind
+  pub more-over : (x y : List ℕ) (i k m n : ℕ) → m ≡ k → n ≡ k → i + k ≤ length s → x ≡ over i → y ≡ take m (drop i s) → take i x ++ (y ++ drop n (drop i x)) ≡ over (i + k)
+  more-over x y i k m n em en h ex ey =
+      let li : length (take i s) ≡ i = simp length-take (omega arith) in
+      let ta : take i x ≡ take i s = ap (take i) ex ∙ take-at (take i s) (drop i o) i li in
+      let da : drop i x ≡ drop i o = ap (drop i) ex ∙ drop-at (take i s) (drop i o) i li in
+      rw (ey, em, en, ta, da, drop-drop, take-add) (sym (append-assoc (take i s) (take k (drop i s)) (drop (i + k) o)))
+
+  -- all of them
+  pub all-over : (i : ℕ) → i ≡ length s → over i ≡ s
+  all-over i e =
+      let n : length o ≤ length s = omega arith in
+      rw (e, take-length, drop-of-length-le o n) (append-nil s)
+
+  pub over-length : (i : ℕ) → i ≤ length s → length (over i) ≡ length s
+  over-length i h = length-append (take i s) (drop i o) ∙ simp (length-take, length-drop) (omega arith)
+
+  -- what is left of them, copied behind
+  pub rest-over : (x ys : List ℕ) (i : ℕ) → i ≤ length s → length x ≡ length s → x ≡ over i
+      → ys ≡ take (length (take (length s - i) (drop i s))) (take (length s - i) (drop i s)) ++ drop (length (take (length s - i) (drop i s))) (take (length s - i) (drop i x))
+      → take i x ++ (ys ++ drop (length s - i) (drop i x)) ≡ s
+  rest-over x ys i h lx ex ey =
+      let r : i + (length s - i) ≤ length s = omega arith in
+      let q : i + (length s - i) ≤ length x = omega arith in
+      let y : ys ≡ take (length s - i) (drop i s) = copied s x ys i i (length s - i) _ _ refl refl r q ey in
+      more-over x ys i (length s - i) _ _ refl refl r ex y ∙ all-over (i + (length s - i)) (omega arith)

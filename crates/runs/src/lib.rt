@@ -1,6 +1,7 @@
 // Bytes in runs: set to one value all over, written from a source that is read round and round, or scanned.
 ghost use mathlib.Core.Path.{_≡_};
 ghost use lib.ListN.{length, drop, replicate};
+ghost use Rattle.runs.specs.Chunks.{chunk};
 ghost use Rattle.words.specs.Lists.{driven, allZero};
 
 // All of the bytes set to one value.
@@ -19,6 +20,34 @@ pub fn blank(bytes: &mut [u8])
     ensures { λ _. ⌜ now (bytes .exit) ≡ replicate (length (now (bytes .entry))) 255 ⌝ }
 {
     fill(bytes, 255);
+}
+
+// Bytes that are copied at once.
+const CHUNK: usize = 128;
+
+// A chunk copied by way of bytes of its own: it is read whole before any of it is written, whatever the two are, and so
+// is compiled to a few wide moves and no loop.
+fn copy_chunk(source: &[u8], output: &mut [u8])
+    requires { ⌜ (length (now source) ≡ chunk) × (length (now output) ≡ chunk) ⌝ }
+    ensures { λ _. ⌜ now (output .exit) ≡ now (source .entry) ⌝ }
+{
+    let mut held = [0u8; CHUNK];
+    bytes::copy(source, &mut held);
+    bytes::copy(&held, output);
+}
+
+// The source copied over as many bytes, in chunks and what is left.
+fn copy(source: &[u8], output: &mut [u8])
+    requires { ⌜ length (now output) ≡ length (now source) ⌝ }
+    ensures { λ _. ⌜ now (output .exit) ≡ now (source .entry) ⌝ }
+{
+    let n = source.len();
+    let mut i = 0;
+    while CHUNK <= n - i {
+        copy_chunk(&source[i..i + CHUNK], &mut output[i..i + CHUNK]);
+        i += CHUNK;
+    }
+    bytes::copy(&source[i..n], &mut output[i..n]);
 }
 
 // The source, read from its place at on and past its end from its start again, into the output from
@@ -40,7 +69,7 @@ pub fn drive(source: &[u8], at: usize, output: &mut [u8], from: usize)
     while done < room {
         let run = words::lesser(n - here, room - done);
         let there = from + done;
-        bytes::copy(&source[here..here + run], &mut output[there..there + run]);
+        copy(&source[here..here + run], &mut output[there..there + run]);
         here = 0;
         done += run;
     }

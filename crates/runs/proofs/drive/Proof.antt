@@ -1,14 +1,14 @@
 -- `runs::drive` meets its contract. The loop's invariant: so many places from the first on are laid, and the source stands where they end.
-use Prim.Native.Nat.{_+_, _≤_, _<_, _-_, _%_}
+use Prim.Native.Nat.{ℕ, _+_, _≤_, _<_, _-_, _%_}
 use mathlib.Core.Path.{_≡_, refl, sym, ap, _∙_}
 use native.Mathlib.Nat.{mod-lt, add-zero}
 use native.Mathlib.Omega.{arith}
-use lib.ListN.{length, length-take, length-drop}
+use lib.ListN.{length, take, drop, length-take, length-drop}
 use denote.Ref.{now}
 use borrow.Rule.Slice.PartMut.{putMid}
 use Rattle.words.proofs.Lists.{driven-empty, driven-past, driven-laid, laid, laid-none, length-laid, round-more, begins-again}
 use Rattle.words.specs.Lists.{round}
-use Rattle.runs.proofs.Laws.{run, copied}
+use Rattle.runs.proofs.Laws.{run}
 use Rattle.runs.proofs.drive.Statement.{statement}
 use Rattle.runs.proofs.drive.Tie as tie
 
@@ -106,8 +106,7 @@ loop-again c =
     let here : l .here ≡ (a .at + l .done) % length s = l .inv .4 (omega (arith, w .some, w .room)) in
     let m : l .here + r - l .here ≡ r = omega arith in
     let n : a .from + l .done + r - (a .from + l .done) ≡ r = omega arith in
-    let room : a .from + l .done + r ≤ length (l .output) = omega (arith, l .inv .1, w .room) in
-    let came = copied s (l .output) _ (l .here) (a .from + l .done) r _ _ m n (w .inside) room (c .before .before .copy .ensures .1) in
+    let came = c .before .before .copy .ensures ∙ ap (λ (k : ℕ). take k (drop (l .here) s)) m in
     let more : putMid (a .from + l .done) (a .from + l .done + r - (a .from + l .done)) (l .output) (c .before .before .copy .last .1 .0) ≡ laid o (a .from) (l .done + r) (round s (a .at)) =
     rw (came, n, l .inv .0) (round-more o s (a .at) (a .from) (l .done) (l .here) r (w .room) (w .inside) here) in (
       more,
