@@ -116,7 +116,7 @@ uint64_t yawlspar_power_up(uint8_t *record, size_t record_len, uint64_t blocks, 
  *   4  if output_len is not input_len;
  *   5  if the bytes hold no record, the record is not sound, or wp_high is neither 0 nor 1;
  *   20 to 28  if the part ignored the transaction: the output is FFh all over.
- * Where the bytes hold no record there is no size to judge, and the number is 5 whatever else is wrong.
+ * Where the bytes hold no record there is no size to judge: the number is then 2, 3, 4 or 5.
  * YAWLSPAR_PLACE is the first driven place of the output, or input_len where nothing is driven.
  */
 uint64_t yawlspar_transact(uint8_t *record, size_t record_len, const uint8_t *array, size_t array_len,
@@ -137,8 +137,8 @@ uint64_t yawlspar_transact(uint8_t *record, size_t record_len, const uint8_t *ar
  *   2  if rows_len is not 1,024;
  *   5  if the bytes hold no record, or the record is not sound;
  *   6  if ticks is above 4,096.
- * Where the bytes hold no record the number is 5 whatever else is wrong. YAWLSPAR_TICKS is how many of
- * the ticks did work.
+ * Where the bytes hold no record there is no size to judge: the number is then 2 or 5. YAWLSPAR_TICKS is
+ * how many of the ticks did work.
  */
 uint64_t yawlspar_tick(uint8_t *record, size_t record_len, uint8_t *array, size_t array_len,
                        uint8_t *rows, size_t rows_len, uint64_t ticks);

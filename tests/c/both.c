@@ -315,16 +315,20 @@ static uint64_t expect_power_up(const struct call *call)
     return (uint64_t)number;
 }
 
-/* A level that is neither 0 nor 1 is a 5, and the numbers 1 to 4 are lower. */
-static uint64_t expect_bad_level(const struct call *call)
+/* The number of a transaction that is a 5: the numbers 2 to 4 are lower, and need no record. */
+static uint64_t expect_five(const struct call *call)
 {
-    if (call->array != (size_t)part.size * REF_BLOCK)
-        return 1;
     if (call->rows != REF_ROWS)
         return 2;
     if (call->input == 0 || call->input > REF_MOST)
         return 3;
     return call->output != call->input ? 4 : 5;
+}
+
+/* A level that is neither 0 nor 1 is a 5, and the record's size is judged first. */
+static uint64_t expect_bad_level(const struct call *call)
+{
+    return call->array != (size_t)part.size * REF_BLOCK ? 1 : expect_five(call);
 }
 
 static uint64_t expect_transact(const struct call *call)
@@ -333,7 +337,7 @@ static uint64_t expect_transact(const struct call *call)
     int number;
 
     if (!holds_record(call))
-        return 5;
+        return expect_five(call);
     if (call->wp_high > 1)
         return expect_bad_level(call);
     number = ref_transact(&part, reference.array, call->array, reference.rows, call->rows, call->wp_high == 1,
@@ -347,7 +351,7 @@ static uint64_t expect_tick(const struct call *call)
     int number;
 
     if (!holds_record(call))
-        return 5;
+        return call->rows != REF_ROWS ? 2 : 5;
     number = ref_tick(&part, reference.array, call->array, reference.rows, call->rows, ticks, &worked);
     return (uint64_t)number + 256 * (uint64_t)worked;
 }

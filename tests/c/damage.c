@@ -98,17 +98,15 @@ static void ticks_may_answer(const struct call *call, uint64_t result)
         fail(call, "the ticks that did work, at most", number == 0 ? call->ticks : 0, YAWLSPAR_TICKS(result));
 }
 
-/* With a bad length besides, the answer is the lower of the two numbers. Bytes that hold no record answer 5. */
+/* With a bad length besides, the answer is the lower of the two numbers, for bytes that hold no record too. */
 static void in_order(const struct call *call, uint64_t alone, uint64_t lower)
 {
     uint64_t number = YAWLSPAR_NUMBER(try_call(call));
 
     if (alone == 1 && number != 1)
         fail(call, "the number of a record whose size is bad", 1, number);
-    if (alone == 5 && number != lower && number != 5)
-        fail(call, "the number of a record that is not sound", lower, number);
-    if (alone != 1 && alone != 5 && number != lower)
-        fail(call, "the number of a sound record with a bad length", lower, number);
+    if (alone != 1 && number != lower)
+        fail(call, "the number of a record with a bad length", lower, number);
 }
 
 /* ---- The calls that each changed record gets ---- */

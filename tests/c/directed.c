@@ -164,7 +164,7 @@ static void other_arrays(struct call call)
     number_is(&call, 1);
 }
 
-/* Bytes of another length hold no record: that is 5, whatever else is wrong. */
+/* Bytes of another length hold no record: that is 5, where 2, 3 and 4 do not apply. There is no size to judge. */
 static void transact_without_record(void)
 {
     size_t i;
@@ -175,10 +175,14 @@ static void transact_without_record(void)
         call.record = no_records[i];
         number_is(&call, 5);
         call.array = 1;
-        call.rows = 1;
-        call.input = 0;
         call.wp_high = 2;
         number_is(&call, 5);
+        call.output = call.input + 1;
+        number_is(&call, 4);
+        call.input = 0;
+        number_is(&call, 3);
+        call.rows = 1;
+        number_is(&call, 2);
     }
 }
 
@@ -231,8 +235,9 @@ static void tick_without_record(void)
         call.ticks = 4097;
         number_is(&call, 5);
         call.array = 1;
-        call.rows = 1;
         number_is(&call, 5);
+        call.rows = 1;
+        number_is(&call, 2);
     }
 }
 

@@ -1,13 +1,13 @@
 -- Chained calls from C are there for every list of them; and where the record's bytes hold no record, they change nothing.
 use Prim.Native.Nat.{ℕ}
-use mathlib.Core.Path.{_≡_, refl, ap, _∙_}
+use mathlib.Core.Path.{_≡_, refl, sym, ap, _∙_}
 use mathlib.Core.Bool.{false}
 use mathlib.Core.List.{List, [], _∷_}
 use lib.ListN.{length}
-use Rattle.types.specs.declared.Memory.{Memory}
 use Rattle.types.specs.declared.Memory.the-variants.{Array, Rows}
-use Rattle.record_bytes.specs.Read.{Held, recordIn}
+use Rattle.record_bytes.specs.Read.{recordIn}
 use Rattle.yawlspar.specs.Face.{transactAnswer, transactBytes, transactOutput, tickAnswer, tickBytes, tickMemory}
+use Rattle.yawlspar.proofs.Face.{unheld-bytes, unheld-tick-bytes, unheld-memory}
 use Rattle.driver.specs.Driven as c
 use Rattle.driver.specs.Driven.{CCall, Driven}
 
@@ -29,33 +29,16 @@ driven-exists (c.tick n ∷ ds) bs xs rs =
     let l = driven-exists ds (tickBytes h (length xs) (length rs) n bs) (tickMemory Array h (length xs) (length rs) n xs) (tickMemory Rows h (length xs) (length rs) n rs) in
     record { bytes = l .bytes; array = l .array; rows = l .rows; chain = c.passes (tickAnswer h (length xs) (length rs) n) refl refl refl refl (l .chain) }
 
--- no call from C changes a byte where the record's bytes hold no record; each answers 5
-module _ (h : Held) (e : h .ok ≡ false) where
-  pub unheld-answers : (a r wp n : ℕ) (i : List ℕ) (o : ℕ) → (transactAnswer h a r wp i o ≡ 5) × (tickAnswer h a r n ≡ 5)
-  unfolding transactAnswer tickAnswer
-  unheld-answers a r wp n i o = rw e (refl, refl)
-
-  unheld-transacted : (a r wp : ℕ) (i : List ℕ) (o : ℕ) (bs : List ℕ) → transactBytes h a r wp i o bs ≡ bs
-  unfolding transactBytes
-  unheld-transacted a r wp i o bs = rw e
-
-  unheld-ticked : (a r n : ℕ) (bs : List ℕ) → tickBytes h a r n bs ≡ bs
-  unfolding tickBytes
-  unheld-ticked a r n bs = rw e
-
-  unheld-memory : (m : Memory) (a r n : ℕ) (xs : List ℕ) → tickMemory m h a r n xs ≡ xs
-  unfolding tickMemory
-  unheld-memory m a r n xs = rw e
-
+-- no call from C changes a byte where the record's bytes hold no record
 pub unheld-kept : {bs xs rs cs ys ts : List ℕ} {ds : List CCall} → Driven bs xs rs ds cs ys ts → recordIn bs .ok ≡ false → (cs ≡ bs) × (ys ≡ xs) × (ts ≡ rs)
 unheld-kept c.ended e = (refl, refl, refl)
 unheld-kept {bs} {xs} {rs} (c.transacts {wp = wp} {i = i} {o = o} answer o′ ea eb eo rest) e =
-    let b = eb ∙ unheld-transacted (recordIn bs) e (length xs) (length rs) wp i (length o) bs in
+    let b = eb ∙ sym (unheld-bytes (recordIn bs) e (length xs) (length rs) wp i (length o) bs) in
     let l = unheld-kept rest (ap (λ (x : List ℕ). recordIn x .ok) b ∙ e) in
     (l .0 ∙ b, l .1, l .2)
 unheld-kept {bs} {xs} {rs} (c.passes {n = n} answer ea eb ex er rest) e =
-    let b = eb ∙ unheld-ticked (recordIn bs) e (length xs) (length rs) n bs in
-    let x = ex ∙ unheld-memory (recordIn bs) e Array (length xs) (length rs) n xs in
-    let y = er ∙ unheld-memory (recordIn bs) e Rows (length xs) (length rs) n rs in
+    let b = eb ∙ sym (unheld-tick-bytes (recordIn bs) e (length xs) (length rs) n bs) in
+    let x = ex ∙ sym (unheld-memory (recordIn bs) e Array (length xs) (length rs) n xs) in
+    let y = er ∙ sym (unheld-memory (recordIn bs) e Rows (length xs) (length rs) n rs) in
     let l = unheld-kept rest (ap (λ (x : List ℕ). recordIn x .ok) b ∙ e) in
     (l .0 ∙ b, l .1 ∙ x, l .2 ∙ y)

@@ -17,6 +17,7 @@ use Rattle.words.specs.Logic.{_and_}
 use Rattle.words.proofs.Tests.{and-l, and-r, unless-zero, orElse-zero, orElse-on, orElse-first}
 use Rattle.paper.specs.Sizes.{pageBytes}
 use Rattle.paper.specs.Soundness.{sound}
+use Rattle.paper.specs.Numbers.{laterRefusal, laterTickNumber}
 use Rattle.paper.specs.Calls.{outcomeOf, outputAfter, ticked, tickedMemory}
 use Rattle.paper.proofs.Sizes.{size-range}
 use Rattle.paper.proofs.Soundness.{recordOf}
@@ -32,7 +33,7 @@ use Rattle.yawlspar.specs.Face.{packed, givenNumber, upOf, upNumber, pow
 
 -- no record held
 module _ (h : Held) (e : h .ok ≡ false) where
-  pub unheld-answer : (a r wp : ℕ) (i : List ℕ) (o : ℕ) → 5 ≡ transactAnswer h a r wp i o
+  pub unheld-answer : (a r wp : ℕ) (i : List ℕ) (o : ℕ) → packed (laterRefusal false r (length i) o) 0 ≡ transactAnswer h a r wp i o
   unfolding transactAnswer
   unheld-answer a r wp i o = rw e
 
@@ -44,7 +45,7 @@ module _ (h : Held) (e : h .ok ≡ false) where
   unfolding transactOutput
   unheld-output xs rs wp i o = rw e
 
-  pub unheld-tick-answer : (a r n : ℕ) → 5 ≡ tickAnswer h a r n
+  pub unheld-tick-answer : (a r n : ℕ) → packed (laterTickNumber false r n) 0 ≡ tickAnswer h a r n
   unfolding tickAnswer
   unheld-tick-answer a r n = rw e
 

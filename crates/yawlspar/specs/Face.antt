@@ -1,7 +1,7 @@
 -- The three calls as C makes them: on the record that bytes hold, with one number as the answer.
 use Prim.Native.Nat.{ℕ, _+_, _*_}
 use mathlib.Core.List.{List}
-use mathlib.Core.Bool.{Bool, cond}
+use mathlib.Core.Bool.{Bool, false, cond}
 use lib.Dec.{eqb, leb}
 use lib.ListN.{length}
 use Rattle.types.specs.declared.Memory.{Memory}
@@ -13,6 +13,7 @@ use Rattle.words.specs.Logic.{_and_, unless, _orElse_, whenZero}
 use Rattle.paper.specs.Sizes.{sizeOk}
 use Rattle.paper.specs.Registers.{withBytes}
 use Rattle.paper.specs.Soundness.{sound}
+use Rattle.paper.specs.Numbers.{laterRefusal, laterTickNumber}
 use Rattle.paper.specs.Commands.{changed}
 use Rattle.paper.specs.Calls.{noStored, poweredUp, refused, outcomeOf, outputAfter, ticked, tickedMemory}
 use Rattle.record_bytes.specs.Layout.{recordLength, recordBytes}
@@ -57,12 +58,12 @@ powerUpBytes n m t c d status function bs =
 abbrev pub bytesAfter : Held → Record → List ℕ → List ℕ
 bytesAfter h next bs = cond (h .ok) (recordBytes next) bs
 
--- a transaction on what bytes hold, with WP# low for 0 and high for 1: 5 where they hold no record; another level counts as an unsound record does
+-- a transaction on what bytes hold, with WP# low for 0 and high for 1; another level counts as an unsound record does. Where they hold no record there is no size for 1 to judge, and it is 2, 3, 4 or 5
 abbrev pub heldOutcome : Held → ℕ → ℕ → ℕ → List ℕ → ℕ → Outcome
 heldOutcome h a r wp i o =
     cond (h .ok)
     (outcomeOf (h .state .part) (h .state .phase) (sound (h .state) and leb wp 1) a r (eqb wp 1) i o)
-    (refused 5)
+    (refused (laterRefusal false r (length i) o))
 
 -- its number and first driven place
 unfoldable pub transactAnswer : Held → ℕ → ℕ → ℕ → List ℕ → ℕ → ℕ
@@ -79,10 +80,12 @@ transactOutput h xs rs wp i o =
     (outputAfter (h .state .part) (h .state .phase) (sound (h .state) and leb wp 1) xs rs (eqb wp 1) i o)
     o
 
--- so many ticks on what bytes hold: 5 where they hold no record
+-- so many ticks on what bytes hold: where they hold no record, 2 or 5
 abbrev pub heldTicks : Held → ℕ → ℕ → ℕ → Ticked
 heldTicks h a r n =
-    cond (h .ok) (ticked (h .state) a r n) (record { next = h .state; number = 5; done = 0 })
+    cond (h .ok)
+    (ticked (h .state) a r n)
+    (record { next = h .state; number = laterTickNumber false r n; done = 0 })
 
 -- their number, and how many did work
 unfoldable pub tickAnswer : Held → ℕ → ℕ → ℕ → ℕ

@@ -96,7 +96,7 @@ pub extern "C" fn yawlspar_power_up(
 }
 
 // A transaction. WP# is low for 0 and high for 1. The number and the first driven place; refused, with 1 to 5,
-// every buffer is as it was.
+// every buffer is as it was. Where the bytes hold no record, 1 is not judged: there is no size.
 #[no_mangle]
 pub extern "C" fn yawlspar_transact(
     bytes: &mut [u8],
@@ -112,7 +112,8 @@ pub extern "C" fn yawlspar_transact(
 {
     let found = record_bytes::reading::read_part(bytes);
     if !found.ok {
-        return 5;
+        let unread = refusals::later_refusal(false, rows.len(), input.len(), output.len());
+        return pack(unread, 0);
     }
     let part = found.part;
     let phase = found.phase;
@@ -126,7 +127,8 @@ pub extern "C" fn yawlspar_transact(
     pack(outcome.number, outcome.first)
 }
 
-// So many ticks. The number and the ticks that did work; refused, with 1, 2, 5 or 6, every buffer is as it was.
+// So many ticks. The number and the ticks that did work; refused, with 1, 2, 5 or 6, every buffer is as it was. Where
+// the bytes hold no record, 1 is not judged.
 #[no_mangle]
 pub extern "C" fn yawlspar_tick(
     bytes: &mut [u8],
@@ -141,7 +143,8 @@ pub extern "C" fn yawlspar_tick(
 {
     let found = record_bytes::reading::read_any(bytes);
     if !found.ok {
-        return 5;
+        let unread = refusals::later_tick_number(false, rows.len(), count as usize);
+        return pack(unread, 0);
     }
     let part = found.part;
     let phase = found.phase;

@@ -14,14 +14,21 @@ use Rattle.yawlspar.proofs.yawlspar_tick.Tie as tie
 read-any-requires : tie.Need-read-any-requires
 read-any-requires c κs = search needs
 
+later-tick-number-requires : tie.Need-later-tick-number-requires
+later-tick-number-requires c κs = search needs
+
+pack-requires : tie.Need-pack-requires
+pack-requires c κs = omega arith
+
 same-length : tie.Need-same-length
 same-length c = search needs
 
 returns : tie.Need-returns
 returns c =
-    let h = recordIn (now (c .before .before .before .before .before .before .before .args .bytes)) in
-    let n = ap (λ (x : Found). x .ok) (sym (c .before .before .read-any .ensures)) ∙ not-true _ (c .if1 .taken) in
-    (unheld-tick-answer h n _ _ _, (unheld-tick-bytes h n _ _ _ _, (unheld-memory h n _ _ _ _ _, unheld-memory h n _ _ _ _ _)))
+    let h = recordIn (now (c .before .before .before .before .before .before .before .before .before .args .bytes)) in
+    let n = ap (λ (x : Found). x .ok) (sym (c .before .before .before .before .read-any .ensures)) ∙ not-true _ (c .before .before .if1 .taken) in
+    let l = c .before .later-tick-number .ensures in
+    (c .pack .ensures ∙ rw l (unheld-tick-answer h n _ _ _), (unheld-tick-bytes h n _ _ _ _, (unheld-memory h n _ _ _ _ _, unheld-memory h n _ _ _ _ _)))
 
 sub-page : tie.Need-sub-page
 sub-page c = search needs
@@ -43,8 +50,8 @@ slice-aggregate-write-change c = search needs
 write-change-requires : tie.Need-write-change-requires
 write-change-requires c κs = search needs
 
-pack-requires : tie.Need-pack-requires
-pack-requires c κs =
+pack-requires-2 : tie.Need-pack-requires-2
+pack-requires-2 c κs =
     let f = c .before .before .before .before .before .before .before .before .before .before .before .before .before .before .before .before .before .read-any in
     let e = ap (λ (x : Found). x .ok) (sym (f .ensures)) ∙ not-false _ (c .before .before .before .before .before .before .before .before .before .before .before .before .before .before .before .if1 .left) in
     told-done (now (c .before .before .before .before .before .before .before .before .before .before .before .before .before .before .before .before .before .before .before .before .before .before .args .bytes)) e (f .result) (f .ensures) _ _ _ _ (c .before .before .before .before .before .before .before .before .before .tick-part .ensures .0)
@@ -64,13 +71,15 @@ returns-2 c =
     let f = c .before .before .before .before .before .before .before .before .before .before .before .before .before .before .before .before .before .before .read-any in
     let e = ap (λ (x : Found). x .ok) (sym (f .ensures)) ∙ not-false _ (c .before .before .before .before .before .before .before .before .before .before .before .before .before .before .before .before .if1 .left) in
     let u = c .before .before .before .before .before .before .before .before .before .before .tick-part .ensures in
-    (c .pack .ensures ∙ tick-answer bs e (f .result) (f .ensures) _ _ _ _ (u .0), (c .before .before .before .write-change .ensures ∙ tick-bytes bs e (f .result) (f .ensures) _ _ _ _ (u .0), (tick-memory bs e (f .result) (f .ensures) _ _ _ _ _ _ (u .1 .0), tick-memory bs e (f .result) (f .ensures) _ _ _ _ _ _ (u .1 .1))))
+    (c .pack2 .ensures ∙ tick-answer bs e (f .result) (f .ensures) _ _ _ _ (u .0), (c .before .before .before .write-change .ensures ∙ tick-bytes bs e (f .result) (f .ensures) _ _ _ _ (u .0), (tick-memory bs e (f .result) (f .ensures) _ _ _ _ _ _ (u .1 .0), tick-memory bs e (f .result) (f .ensures) _ _ _ _ _ _ (u .1 .1))))
 
 pub yawlspar-tick-spec : {M : Type 1} → statement M
 yawlspar-tick-spec =
     tie.close
     (tie.spec
     read-any-requires
+    later-tick-number-requires
+    pack-requires
     same-length
     returns
     sub-page
@@ -79,7 +88,7 @@ yawlspar-tick-spec =
     tick-part-requires
     slice-aggregate-write-change
     write-change-requires
-    pack-requires
+    pack-requires-2
     same-length-2
     same-length-3
     same-length-4

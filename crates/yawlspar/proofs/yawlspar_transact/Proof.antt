@@ -15,14 +15,21 @@ use Rattle.yawlspar.proofs.yawlspar_transact.Tie as tie
 read-part-requires : tie.Need-read-part-requires
 read-part-requires c κs = search needs
 
+later-refusal-requires : tie.Need-later-refusal-requires
+later-refusal-requires c κs = search needs
+
+pack-requires : tie.Need-pack-requires
+pack-requires c κs = omega arith
+
 same-length : tie.Need-same-length
 same-length c = search needs
 
 returns : tie.Need-returns
 returns c =
-    let h = recordIn (now (c .before .before .before .before .before .before .before .before .before .args .bytes)) in
-    let n = ap (λ (x : Found). x .ok) (sym (c .before .before .read-part .ensures)) ∙ not-true _ (c .if1 .taken) in
-    (unheld-answer h n _ _ _ _ _, (unheld-bytes h n _ _ _ _ _ _, unheld-output h n _ _ _ _ _))
+    let h = recordIn (now (c .before .before .before .before .before .before .before .before .before .before .before .args .bytes)) in
+    let n = ap (λ (x : Found). x .ok) (sym (c .before .before .before .before .read-part .ensures)) ∙ not-true _ (c .before .before .if1 .taken) in
+    let l = c .before .later-refusal .ensures in
+    (c .pack .ensures ∙ rw l (unheld-answer h n _ _ _ _ _), (unheld-bytes h n _ _ _ _ _ _, unheld-output h n _ _ _ _ _))
 
 sub-is-sound-in : tie.Need-sub-is-sound-in
 sub-is-sound-in c = search needs
@@ -47,8 +54,8 @@ transact-part-requires c κs = search needs
 write-change-requires : tie.Need-write-change-requires
 write-change-requires c κs = search needs
 
-pack-requires : tie.Need-pack-requires
-pack-requires c κs = rw (c .before .before .before .before .before .before .transact-part .ensures .0) (first-few _ _ _ _ _ _ _ _)
+pack-requires-2 : tie.Need-pack-requires-2
+pack-requires-2 c κs = rw (c .before .before .before .before .before .before .transact-part .ensures .0) (first-few _ _ _ _ _ _ _ _)
 
 same-length-2 : tie.Need-same-length-2
 same-length-2 c = search needs
@@ -64,13 +71,15 @@ returns-2 c =
     let s = c .before .before .before .before .before .before .before .before .before .before .is-sound-in .ensures in
     let t = c .before .before .before .before .before .before .before .before .before .both .ensures in
     let u = c .before .before .before .before .before .before .before .transact-part .ensures in
-    (c .pack .ensures ∙ told-answer bs e (f .result) (f .ensures) _ _ _ s t _ _ _ _ _ (u .0), (c .before .before .before .write-change .ensures ∙ told-bytes bs e (f .result) (f .ensures) _ _ _ s t _ _ _ _ _ (u .0), told-output bs e (f .result) (f .ensures) _ _ _ s t _ _ _ _ _ (u .1)))
+    (c .pack2 .ensures ∙ told-answer bs e (f .result) (f .ensures) _ _ _ s t _ _ _ _ _ (u .0), (c .before .before .before .write-change .ensures ∙ told-bytes bs e (f .result) (f .ensures) _ _ _ s t _ _ _ _ _ (u .0), told-output bs e (f .result) (f .ensures) _ _ _ s t _ _ _ _ _ (u .1)))
 
 pub yawlspar-transact-spec : {M : Type 1} → statement M
 yawlspar-transact-spec =
     tie.close
     (tie.spec
     read-part-requires
+    later-refusal-requires
+    pack-requires
     same-length
     returns
     sub-is-sound-in
@@ -80,7 +89,7 @@ yawlspar-transact-spec =
     both-requires
     transact-part-requires
     write-change-requires
-    pack-requires
+    pack-requires-2
     same-length-2
     same-length-3
     returns-2)
