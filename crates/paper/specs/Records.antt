@@ -32,35 +32,35 @@ statusLow f wel = 2 * bit wel + wip f
 abbrev pub functionLow : Phase → ℕ
 functionLow f = 8 * esus f + 4 * psus f
 
--- the registers with their stored bits, in a phase and with a latch; the bits that these define go by them
+-- the registers in a phase and with a latch: WIP, WEL, ESUS and PSUS go by these, all other bits are the stored ones
 abbrev pub registersIn : Phase → Bool → Stored → Stored
 registersIn f wel s =
     withBytes (held Status (s .status) + statusLow f wel) (held Function (s .function) + functionLow f) s
 
--- a part in a phase, with the stored bits of some registers, and with a latch; size, identity and marks stay
+-- the part made for a phase, of registers s and a latch: WEL is the latch, and the registers are s in that phase and with that latch. Size, identity, armed and asleep stay
 abbrev pub made : Part → Stored → Phase → Bool → Part
 made p s f wel =
     record { blocks = p .blocks; identity = p .identity; stored = registersIn f wel s; wel = wel; armed = p .armed; asleep = p .asleep }
 
--- the part in another phase with another latch; the registers' stored bits stay too
+-- the part made for another phase and another latch, of its own registers: WEL changes, and the bits WIP, WEL, ESUS and PSUS
 abbrev pub settled : Part → Phase → Bool → Part
 settled p f wel = made p (p .stored) f wel
 
--- an awake, unarmed part with WEL 0, for an idle phase
+-- the part made anew for an idle phase: of n blocks, with an identity and the stored bits of s, WEL 0, unarmed, awake
 abbrev pub freshPart : ℕ → Identity → Stored → Part
 freshPart n id s =
     record { blocks = n; identity = id; stored = registersIn Idle false s; wel = false; armed = false; asleep = false }
 
--- an idle, awake, unarmed record with WEL 0 and page data zero
+-- the record of such a part: idle, page data zero
 abbrev pub fresh : ℕ → Identity → Stored → Record
 fresh n id s = record { part = freshPart n id s; phase = Idle; page = noData }
 
--- the part the same but for the armed mark
+-- the part with another armed mark; all else stays
 abbrev pub marked : Part → Bool → Part
 marked p armed =
     record { blocks = p .blocks; identity = p .identity; stored = p .stored; wel = p .wel; armed = armed; asleep = p .asleep }
 
--- the part the same but for the asleep mark
+-- the part with another asleep mark; all else stays
 abbrev pub resting : Part → Bool → Part
 resting p asleep =
     record { blocks = p .blocks; identity = p .identity; stored = p .stored; wel = p .wel; armed = p .armed; asleep = asleep }
