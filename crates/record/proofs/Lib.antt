@@ -1,3 +1,1 @@
-pub mod IdleSound
-pub mod PhaseOk
 pub mod Tight

@@ -6,9 +6,7 @@ use Rattle.record.proofs.settle.Reads as settle
 use Rattle.record.proofs.fresh_part.Reads as fresh-part
 use Rattle.record.proofs.no_stored.Reads as no-stored
 use Rattle.record.proofs.zero_record.Reads as zero-record
-use Rattle.record.proofs.is_sound_in.Reads as is-sound-in
-use Rattle.record.proofs.is_sound_any.Reads as is-sound-any
-use Rattle.record.proofs.is_sound.Reads as is-sound
+use Rattle.record.proofs.bits_ok.Reads as bits-ok
 use Rattle.record.proofs.power_up.Reads as power-up
 
 pub no-data-one : OneResult no-data.Learnt
@@ -29,14 +27,8 @@ no-stored-one κ a x y s t p q = agree p q
 pub zero-record-one : OneResult zero-record.Learnt
 zero-record-one κ a x y s t p q = agree p q
 
-pub is-sound-in-one : OneResult is-sound-in.Learnt
-is-sound-in-one κ a x y s t p q = agree p q
-
-pub is-sound-any-one : OneResult is-sound-any.Learnt
-is-sound-any-one κ a x y s t p q = agree p q
-
-pub is-sound-one : OneResult is-sound.Learnt
-is-sound-one κ a x y s t p q = agree p q
+pub bits-ok-one : OneResult bits-ok.Learnt
+bits-ok-one κ a x y s t p q = agree p q
 
 pub power-up-one : OneResult power-up.Learnt
 power-up-one κ a x y s t p q = agree p q

@@ -226,7 +226,7 @@ fn tick_number(part: Part, phase: Phase, page: &[u8], array: usize, rows: usize,
     ensures { λ r. ⌜ r ≡ numberIn part phase (now (page .entry)) array rows ticks ⌝ }
 {
     let whole = page.len() == types::PAGE_BYTES;
-    let sound = words::both(whole, record::is_sound_any(part, phase, page));
+    let sound = words::both(whole, soundness::is_sound_any(part, phase, page));
     refusals::tick_number(part.blocks, sound, array, rows, ticks)
 }
 

@@ -188,7 +188,7 @@ pub fn transact(
 {
     let part = state.part;
     let phase = state.phase;
-    let sound = record::is_sound(state);
+    let sound = soundness::is_sound(state);
     let outcome = transact_part(part, phase, sound, array, rows, wp, input, output);
     let change = outcome.change;
     let next = effects::apply(change, input, state);

@@ -1,8 +1,8 @@
--- `record::is_sound_part` meets its contract: it joins the five tests as the definition does.
+-- `soundness::is_sound_part` meets its contract: it joins the five tests as the definition does.
 use Rattle.paper.specs.Soundness.{partSound}
 use borrow.Author.Needs.{needs}
-use Rattle.record.proofs.is_sound_part.Statement.{statement}
-use Rattle.record.proofs.is_sound_part.Tie as tie
+use Rattle.soundness.proofs.is_sound_part.Statement.{statement}
+use Rattle.soundness.proofs.is_sound_part.Tie as tie
 
 cast-size-ok : tie.Need-cast-size-ok
 cast-size-ok c = search needs

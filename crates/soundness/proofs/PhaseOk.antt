@@ -7,7 +7,7 @@ use Rattle.types.specs.declared.Stored.{Stored}
 use Rattle.words.specs.Logic.{_and_, _or_}
 use Rattle.paper.specs.Phases.{isSuspended}
 use Rattle.paper.specs.Soundness.{phaseOk}
-use Rattle.record.specs.Judged.{workIn, workOk}
+use Rattle.soundness.specs.Judged.{workIn, workOk}
 
 pub phase-ok-as : (f : Phase) (n : ℕ) (s : Stored) → workOk (workIn f) (isSuspended f) n s ≡ phaseOk f n s
 unfolding _and_ _or_

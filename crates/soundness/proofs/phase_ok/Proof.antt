@@ -1,9 +1,9 @@
--- `record::phase_ok` meets its contract: what the phase is at can be.
+-- `soundness::phase_ok` meets its contract: what the phase is at can be.
 use mathlib.Core.Path.{_∙_}
-use Rattle.record.proofs.PhaseOk.{phase-ok-as}
+use Rattle.soundness.proofs.PhaseOk.{phase-ok-as}
 use borrow.Author.Needs.{needs}
-use Rattle.record.proofs.phase_ok.Statement.{statement}
-use Rattle.record.proofs.phase_ok.Tie as tie
+use Rattle.soundness.proofs.phase_ok.Statement.{statement}
+use Rattle.soundness.proofs.phase_ok.Tie as tie
 
 work-in-requires : tie.Need-work-in-requires
 work-in-requires c κs = search needs

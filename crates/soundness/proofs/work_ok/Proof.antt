@@ -1,7 +1,7 @@
--- `record::work_ok` meets its contract: each arm is a clause of the definition.
+-- `soundness::work_ok` meets its contract: each arm is a clause of the definition.
 use borrow.Author.Needs.{needs}
-use Rattle.record.proofs.work_ok.Statement.{statement}
-use Rattle.record.proofs.work_ok.Tie as tie
+use Rattle.soundness.proofs.work_ok.Statement.{statement}
+use Rattle.soundness.proofs.work_ok.Tie as tie
 
 enum-told : tie.Need-enum-told
 enum-told c = search needs

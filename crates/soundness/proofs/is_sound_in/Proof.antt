@@ -1,4 +1,4 @@
--- `record::is_sound_in` meets its contract: an idle part has fewer tests, any other is asked all.
+-- `soundness::is_sound_in` meets its contract: an idle part has fewer tests, any other is asked all.
 use Rattle.paper.proofs.Soundness.{recordOf}
 use Rattle.paper.proofs.Phases.{idle-is}
 use Rattle.paper.specs.Soundness.{pageOk, sound}
@@ -6,8 +6,8 @@ use Rattle.types.specs.declared.Phase.{Phase}
 use denote.Ref.{now}
 use mathlib.Core.Path.{sym, ap, _∙_}
 use borrow.Author.Needs.{needs}
-use Rattle.record.proofs.is_sound_in.Statement.{statement}
-use Rattle.record.proofs.is_sound_in.Tie as tie
+use Rattle.soundness.proofs.is_sound_in.Statement.{statement}
+use Rattle.soundness.proofs.is_sound_in.Tie as tie
 
 is-idle-requires : tie.Need-is-idle-requires
 is-idle-requires c κs = search needs

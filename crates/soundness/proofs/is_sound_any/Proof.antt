@@ -1,8 +1,8 @@
--- `record::is_sound_any` meets its contract: part and phase are asked all, and then page data.
+-- `soundness::is_sound_any` meets its contract: part and phase are asked all, and then page data.
 use Rattle.paper.specs.Soundness.{pageOk, sound}
 use borrow.Author.Needs.{needs}
-use Rattle.record.proofs.is_sound_any.Statement.{statement}
-use Rattle.record.proofs.is_sound_any.Tie as tie
+use Rattle.soundness.proofs.is_sound_any.Statement.{statement}
+use Rattle.soundness.proofs.is_sound_any.Tie as tie
 
 kept-in-requires : tie.Need-kept-in-requires
 kept-in-requires c κs = search needs

@@ -1,10 +1,10 @@
--- `record::is_sound_idle` meets its contract: the tests that are left where the phase is idle.
-use Rattle.record.proofs.IdleSound.{idle-sound-as}
+-- `soundness::is_sound_idle` meets its contract: the tests that are left where the phase is idle.
+use Rattle.soundness.proofs.IdleSound.{idle-sound-as}
 use denote.Ref.{now}
 use mathlib.Core.Path.{sym}
 use borrow.Author.Needs.{needs}
-use Rattle.record.proofs.is_sound_idle.Statement.{statement}
-use Rattle.record.proofs.is_sound_idle.Tie as tie
+use Rattle.soundness.proofs.is_sound_idle.Statement.{statement}
+use Rattle.soundness.proofs.is_sound_idle.Tie as tie
 
 cast-size-ok : tie.Need-cast-size-ok
 cast-size-ok c = search needs

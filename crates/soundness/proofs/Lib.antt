@@ -1,0 +1,3 @@
+pub mod IdleSound
+pub mod PhaseOk
+pub mod Tight
