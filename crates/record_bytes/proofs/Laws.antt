@@ -17,7 +17,7 @@ use Rattle.paper.proofs.Addresses.{high-first-none, high-first-more}
 use Rattle.address.specs.Bytes.{highFirstBytes}
 use Rattle.cells.specs.declared.Cells.{Cells}
 use Rattle.cells.specs.Phases.{cellsOf}
-use Rattle.record_bytes.specs.Layout.{partLength, phaseLength, headerLength, recordLength, partBytes, phaseBytes, header}
+use Rattle.record_bytes.specs.Layout.{partLength, phaseLength, headerLength, recordLength, storedBytes, partBytes, phaseBytes, header}
 
 -- of at most eight bytes the first eight are all
 pub take-few : (k : ℕ) (l : List ℕ) → k ≤ 8 → take 8 (take k l) ≡ take k l
@@ -112,7 +112,7 @@ idle-bytes (Suspended o) e = absurd (false≢true e)
 pub part-as : (p : Part) (w a z : ℕ) → w ≡ bit (p .wel) → a ≡ bit (p .armed) → z ≡ bit (p .asleep)
     → p .blocks / 256 % 256 ∷ p .blocks % 256
     ∷ p .identity .maker ∷ p .identity .kind ∷ p .identity .capacity ∷ p .identity .device
-    ∷ p .stored .status ∷ p .stored .function ∷ w ∷ a ∷ z ∷ []
+    ∷ (storedBytes (p .stored) ++ (w ∷ a ∷ z ∷ []))
     ≡ partBytes p
 unfolding partBytes
 part-as p w a z ew ea ez = rw (ew, ea, ez)

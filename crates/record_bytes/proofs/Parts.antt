@@ -20,7 +20,7 @@ use Rattle.cells.specs.declared.Cells.{Cells}
 use Rattle.cells.specs.Phases.{cellsOf, phaseOf}
 use Rattle.record_bytes.specs.declared.Found.{Found}
 use Rattle.record_bytes.specs.Layout.{welAt, armedAt, asleepAt, phaseAt, kindAt, valueAt, baseAt, countAt, doneAt, headerLength, recordLength, partBytes, phaseBytes, header}
-use Rattle.record_bytes.specs.Read.{numberAt, marksIn, sameCells, sameBytes, cellsIn, partIn, phaseIn, fieldsIn, holds, nothing, recordIn, found}
+use Rattle.record_bytes.specs.Read.{numberAt, marksIn, sameCells, sameBytes, cellsIn, storedOf, partIn, phaseIn, fieldsIn, holds, nothing, recordIn, found}
 use Rattle.record_bytes.proofs.Laws.{two-bytes}
 use Rattle.record_bytes.proofs.Same.{same-append, same-number}
 use Rattle.record_bytes.proofs.Back.{taken}
@@ -31,6 +31,10 @@ mark-same zero = refl
 mark-same (suc zero) = refl
 mark-same (suc (suc b)) =
     rw (ne-eqb (suc (suc b)) 1 (λ q. omega (arith, q)), ne-eqb 0 (suc (suc b)) (λ q. omega (arith, q)), lt-leb (suc (suc b)) 1 (omega arith))
+
+-- a byte is itself
+self : (b : ℕ) → eqb b b ≡ true
+self b = eq-eqb b b refl
 
 -- three tests and one more
 regroup : (a b c d : Bool) → (a and b and c and d) ≡ ((a and b and c) and d)
@@ -43,7 +47,7 @@ regroup false b c d = refl
 -- a part with its fields in the bytes f 0, f 1, ..
 abbrev partOf : (ℕ → ℕ) → Part
 partOf f =
-    record { blocks = f 0 * 256 + f 1; identity = record { maker = f 2; kind = f 3; capacity = f 4; device = f 5 }; stored = record { status = f 6; function = f 7 }; wel = eqb (f welAt) 1; armed = eqb (f armedAt) 1; asleep = eqb (f asleepAt) 1 }
+    record { blocks = f 0 * 256 + f 1; identity = record { maker = f 2; kind = f 3; capacity = f 4; device = f 5 }; stored = storedOf f; wel = eqb (f welAt) 1; armed = eqb (f armedAt) 1; asleep = eqb (f asleepAt) 1 }
 
 -- the base, the count and the ticks done, in bytes
 abbrev numbersOf : Cells → List ℕ
@@ -54,8 +58,8 @@ same-front : (f : ℕ → ℕ) (s : Cells) (rest : List ℕ) → f 0 < 256 → f
     → sameBytes (header (partOf f) s) (upTo baseAt f ++ rest) ≡ ((leb (f welAt) 1 and leb (f armedAt) 1 and leb (f asleepAt) 1) and eqb (s .phase) (f phaseAt) and eqb (s .kind) (f kindAt) and eqb (s .value) (f valueAt) and sameBytes (numbersOf s) rest)
 unfolding partBytes phaseBytes _and_
 same-front f s rest h l =
-    rw (eq-eqb ((f 0 * 256 + f 1) / 256 % 256) (f 0) (omega arith), eq-eqb ((f 0 * 256 + f 1) % 256) (f 1) (omega arith), eq-eqb (f 2) (f 2) refl, eq-eqb (f 3) (f 3) refl, eq-eqb (f 4) (f 4) refl, eq-eqb (f 5) (f 5) refl, eq-eqb (f 6) (f 6) refl, eq-eqb (f 7) (f 7) refl, mark-same (f welAt), mark-same (f armedAt), mark-same (f asleepAt))
-    (regroup (leb (f welAt) 1) (leb (f armedAt) 1) (leb (f asleepAt) 1) _)
+    rw (eq-eqb ((f 0 * 256 + f 1) / 256 % 256) (f 0) (omega arith), eq-eqb ((f 0 * 256 + f 1) % 256) (f 1) (omega arith), mark-same (f welAt), mark-same (f armedAt), mark-same (f asleepAt))
+    (simp self (regroup (leb (f welAt) 1) (leb (f armedAt) 1) (leb (f asleepAt) 1) _))
 
 -- bytes of a record's length
 module _ (bs : List ℕ) (l : length bs ≡ recordLength) (low : (j : ℕ) → getD bs j 0 < 256) where

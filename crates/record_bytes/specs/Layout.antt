@@ -4,6 +4,7 @@ use mathlib.Core.Bool.{cond}
 use mathlib.Core.List.{List, [], _∷_, _++_}
 use lib.Dec.{eqb}
 use lib.ListN.{length, drop, set}
+use Rattle.types.specs.declared.Stored.{Stored}
 use Rattle.types.specs.declared.Part.{Part}
 use Rattle.types.specs.declared.Record.{Record}
 use Rattle.types.specs.declared.Change.{Change}
@@ -15,9 +16,19 @@ use Rattle.address.specs.Bytes.{highFirstBytes}
 use Rattle.cells.specs.declared.Cells.{Cells}
 use Rattle.cells.specs.Phases.{cellsOf}
 
--- where WEL and the marks stand: behind blocks, identity and registers
+-- the registers, of which a field has a byte each
+abbrev pub storedBytes : Stored → List ℕ
+storedBytes s = s .status ∷ s .function ∷ []
+
+abbrev pub storedLength : ℕ
+storedLength = 2
+
+-- they stand behind blocks and identity, and behind them WEL and the marks
+abbrev pub storedAt : ℕ
+storedAt = 6
+
 abbrev pub marksAt : ℕ
-marksAt = 8
+marksAt = storedAt + storedLength
 
 abbrev pub welAt : ℕ
 welAt = marksAt
@@ -67,7 +78,8 @@ unfoldable pub partBytes : Part → List ℕ
 partBytes p =
     highFirstBytes 2 (p .blocks)
     ++ (p .identity .maker ∷ p .identity .kind ∷ p .identity .capacity ∷ p .identity .device ∷ [])
-    ++ (p .stored .status ∷ p .stored .function ∷ bit (p .wel) ∷ bit (p .armed) ∷ bit (p .asleep) ∷ [])
+    ++ storedBytes (p .stored)
+    ++ (bit (p .wel) ∷ bit (p .armed) ∷ bit (p .asleep) ∷ [])
 
 -- what it does
 unfoldable pub phaseBytes : Cells → List ℕ

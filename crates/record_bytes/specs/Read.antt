@@ -1,11 +1,12 @@
 -- The record that bytes hold.
-use Prim.Native.Nat.{ℕ, _^_, _<_}
+use Prim.Native.Nat.{ℕ, _+_, _^_, _<_}
 use mathlib.Core.Path.{_≡_}
 use mathlib.Core.Bool.{Bool, true, false, cond}
 use mathlib.Core.List.{List, [], _∷_}
 use lib.Dec.{eqb, leb}
 use lib.ListN.{length, getD, take, drop}
 use Rattle.types.specs.declared.Phase.{Phase}
+use Rattle.types.specs.declared.Stored.{Stored}
 use Rattle.types.specs.declared.Part.{Part}
 use Rattle.types.specs.declared.Record.{Record}
 use Rattle.words.specs.Logic.{_and_}
@@ -15,7 +16,7 @@ use Rattle.paper.specs.Calls.{zeroRecord}
 use Rattle.cells.specs.declared.Cells.{Cells}
 use Rattle.cells.specs.Phases.{cells, cellsOf, phaseOf}
 use Rattle.record_bytes.specs.declared.Found.{Found}
-use Rattle.record_bytes.specs.Layout.{welAt, armedAt, asleepAt, phaseAt, kindAt, valueAt, baseAt, countAt, doneAt, headerLength, recordLength, header}
+use Rattle.record_bytes.specs.Layout.{storedAt, welAt, armedAt, asleepAt, phaseAt, kindAt, valueAt, baseAt, countAt, doneAt, headerLength, recordLength, header}
 
 -- the number that k bytes from a place on are
 abbrev pub numberAt : List ℕ → ℕ → ℕ → ℕ
@@ -25,10 +26,14 @@ numberAt bs at k = highFirst (take k (drop at bs))
 unfoldable pub cellsIn : List ℕ → Cells
 cellsIn bs = cells (getD bs phaseAt 0) (getD bs kindAt 0) (getD bs valueAt 0) (numberAt bs baseAt 8) (numberAt bs countAt 8) (numberAt bs doneAt 8)
 
+-- the registers that stand in the bytes f 0, f 1, ..
+abbrev pub storedOf : (ℕ → ℕ) → Stored
+storedOf f = record { status = f storedAt; function = f (storedAt + 1) }
+
 -- the fields of a part at their places, whatever stands there
 unfoldable pub partIn : List ℕ → Part
 partIn bs =
-    record { blocks = numberAt bs 0 2; identity = record { maker = getD bs 2 0; kind = getD bs 3 0; capacity = getD bs 4 0; device = getD bs 5 0 }; stored = record { status = getD bs 6 0; function = getD bs 7 0 }; wel = eqb (getD bs welAt 0) 1; armed = eqb (getD bs armedAt 0) 1; asleep = eqb (getD bs asleepAt 0) 1 }
+    record { blocks = numberAt bs 0 2; identity = record { maker = getD bs 2 0; kind = getD bs 3 0; capacity = getD bs 4 0; device = getD bs 5 0 }; stored = storedOf (λ j. getD bs j 0); wel = eqb (getD bs welAt 0) 1; armed = eqb (getD bs armedAt 0) 1; asleep = eqb (getD bs asleepAt 0) 1 }
 
 -- the phase so
 abbrev pub phaseIn : List ℕ → Phase

@@ -1,8 +1,8 @@
 // The record that bytes hold.
 ghost use mathlib.Core.Path.{_≡_};
-ghost use lib.ListN.{length};
+ghost use lib.ListN.{length, getD};
 ghost use Rattle.record_bytes.specs.Layout.{recordLength};
-ghost use Rattle.record_bytes.specs.Read.{sameCells, marksIn, cellsIn, partIn, nothing, recordIn, found, Fits};
+ghost use Rattle.record_bytes.specs.Read.{sameCells, marksIn, cellsIn, storedOf, partIn, nothing, recordIn, found, Fits};
 use crate::Found;
 use crate::places;
 use cells::Cells;
@@ -30,6 +30,17 @@ fn cells_in(bytes: &[u8]) -> Cells
     }
 }
 
+// The registers at their places.
+fn stored_in(bytes: &[u8]) -> Stored
+    requires { ⌜ length (now bytes) ≡ recordLength ⌝ }
+    ensures { λ r. ⌜ r ≡ storedOf (λ j. getD (now (bytes .entry)) j 0) ⌝ }
+{
+    Stored {
+        status: bytes[places::STATUS],
+        function: bytes[places::FUNCTION],
+    }
+}
+
 // The fields of a part at their places, whatever stands there.
 fn part_in(bytes: &[u8]) -> Part
     requires { ⌜ length (now bytes) ≡ recordLength ⌝ }
@@ -43,10 +54,7 @@ fn part_in(bytes: &[u8]) -> Part
         capacity: bytes[places::CAPACITY],
         device: bytes[places::DEVICE],
     };
-    let stored = Stored {
-        status: bytes[places::STATUS],
-        function: bytes[places::FUNCTION],
-    };
+    let stored = stored_in(bytes);
     Part {
         blocks: high * 256 + low,
         identity: identity,

@@ -1,9 +1,9 @@
 -- `record_bytes::reading::part_in` meets its contract: every field is read at its place; two bytes are below 65,536.
 use native.Mathlib.Omega.{arith}
 use denote.Ref.{now}
-use borrow.Author.Needs.{needs}
 use Rattle.record_bytes.specs.Read.{partIn}
 use Rattle.record_bytes.proofs.Laws.{two-bytes}
+use borrow.Author.Needs.{needs}
 use Rattle.record_bytes.proofs.reading.part_in.Statement.{statement}
 use Rattle.record_bytes.proofs.reading.part_in.Tie as tie
 
@@ -11,7 +11,7 @@ shared-slice-read-high : tie.Need-shared-slice-read-high
 shared-slice-read-high c = search needs
 
 cast-high : tie.Need-cast-high
-cast-high c = omega (arith, c .shared-slice-known .given 0)
+cast-high c = omega (arith, c .shared-slice-known2 .given 0)
 
 add-low : tie.Need-add-low
 add-low c = search needs
@@ -20,7 +20,7 @@ shared-slice-read-low : tie.Need-shared-slice-read-low
 shared-slice-read-low c = search needs
 
 cast-low : tie.Need-cast-low
-cast-low c = omega (arith, c .shared-slice-known2 .given 1)
+cast-low c = omega (arith, c .shared-slice-known3 .given 1)
 
 shared-slice-read-t7 : tie.Need-shared-slice-read-t7
 shared-slice-read-t7 c = search needs
@@ -34,30 +34,27 @@ shared-slice-read-t14 c = search needs
 shared-slice-read-t16 : tie.Need-shared-slice-read-t16
 shared-slice-read-t16 c = search needs
 
+stored-in-requires : tie.Need-stored-in-requires
+stored-in-requires c κs = search needs
+
+mul-t17 : tie.Need-mul-t17
+mul-t17 c = omega (arith, c .before .before .before .before .before .before .before .shared-slice-known .given 0)
+
+add-t18 : tie.Need-add-t18
+add-t18 c = omega (arith, c .before .before .before .before .before .before .before .shared-slice-known .given 0, c .before .before .before .before .before .before .before .shared-slice-known .given 1)
+
 shared-slice-read-t7-2 : tie.Need-shared-slice-read-t7-2
 shared-slice-read-t7-2 c = search needs
 
 shared-slice-read-t16-2 : tie.Need-shared-slice-read-t16-2
 shared-slice-read-t16-2 c = search needs
 
-mul-t19 : tie.Need-mul-t19
-mul-t19 c = omega (arith, c .before .before .before .before .before .before .before .shared-slice-known .given 0)
-
-add-t20 : tie.Need-add-t20
-add-t20 c = omega (arith, c .before .before .before .before .before .before .before .shared-slice-known .given 0, c .before .before .before .before .before .before .shared-slice-known2 .given 1)
-
 shared-slice-read-t14-2 : tie.Need-shared-slice-read-t14-2
 shared-slice-read-t14-2 c = search needs
 
-shared-slice-read-t16-3 : tie.Need-shared-slice-read-t16-3
-shared-slice-read-t16-3 c = search needs
-
-shared-slice-read-t7-3 : tie.Need-shared-slice-read-t7-3
-shared-slice-read-t7-3 c = search needs
-
 returns : tie.Need-returns
 unfolding partIn
-returns c = rw (two-bytes (now (c .before .before .before .before .before .before .before .before .before .before .before .args .bytes)) (omega (arith, c .before .before .before .before .before .before .before .before .before .before .before .pre)))
+returns c = let s = c .before .before .before .before .before .before .before .before .before .before .before in rw (two-bytes (now (s .args .bytes)) (omega (arith, s .pre)), c .before .before .before .stored-in .ensures)
 
 pub part-in-spec : {M : Type 1} → statement M
 part-in-spec =
@@ -72,11 +69,10 @@ part-in-spec =
     shared-slice-read-t12
     shared-slice-read-t14
     shared-slice-read-t16
+    stored-in-requires
+    mul-t17
+    add-t18
     shared-slice-read-t7-2
     shared-slice-read-t16-2
-    mul-t19
-    add-t20
     shared-slice-read-t14-2
-    shared-slice-read-t16-3
-    shared-slice-read-t7-3
     returns)
