@@ -4,7 +4,7 @@ use mathlib.Core.Path.{_≡_, refl, sym, ap, _∙_}
 use mathlib.Core.Bool.{true, false≢true}
 use mathlib.Core.List.{List, [], _∷_, _++_, append-nil, append-assoc}
 use native.Mathlib.Omega.{arith}
-use lib.ListN.{length, take, drop, getD, replicate, length-take, length-drop, drop-of-length-le}
+use lib.ListN.{length, take, drop, getD, replicate, set, length-take, length-drop, drop-of-length-le}
 use lib.Seq.{take-all, take-length, take-at, drop-at, drop-drop}
 use Rattle.types.specs.declared.Phase.{Phase}
 use Rattle.types.specs.declared.Phase.the-variants.{Idle, Busy, Suspended}
@@ -117,19 +117,40 @@ pub part-as : (p : Part) (w a z : ℕ) → w ≡ bit (p .wel) → a ≡ bit (p .
 unfolding partBytes
 part-as p w a z ew ea ez = rw (ew, ea, ez)
 
--- eight bytes of a list, one by one
-abbrev eight : List ℕ → List ℕ → List ℕ
-eight b rest =
-    getD b 0 0 ∷ getD b 1 0 ∷ getD b 2 0 ∷ getD b 3 0 ∷ getD b 4 0 ∷ getD b 5 0 ∷ getD b 6 0 ∷ getD b 7 0 ∷ rest
+-- zeros with the phase, the kind and the value written in their places, and then the numbers
+module _ (s : Cells) (z : List ℕ) (ez : z ≡ replicate phaseLength 0) where
+  abbrev two : List ℕ
+  two = set (set z 0 (s .phase)) 1 (s .kind)
 
-eight-of : (n : ℕ) (b rest : List ℕ) → b ≡ highFirstBytes 8 n → eight b rest ≡ highFirstBytes 8 n ++ rest
-eight-of n b rest e = ap (λ (l : List ℕ). eight l rest) e
+  abbrev first : List ℕ
+  first = set two 2 (s .value)
 
--- cells, byte by byte
-pub cells-as : (s : Cells) (b k d : List ℕ) → b ≡ highFirstBytes 8 (s .base) → k ≡ highFirstBytes 8 (s .count) → d ≡ highFirstBytes 8 (s .done)
-    → s .phase ∷ s .kind ∷ s .value ∷ eight b (eight k (eight d [])) ≡ phaseBytes s
-unfolding phaseBytes
-cells-as s b k d eb ek ed =
-    ap (λ (t : List ℕ). s .phase ∷ s .kind ∷ s .value ∷ t) (eight-of (s .base) b (eight k (eight d [])) eb
-    ∙ ap (λ (t : List ℕ). highFirstBytes 8 (s .base) ++ t) (eight-of (s .count) k (eight d []) ek
-    ∙ ap (λ (t : List ℕ). highFirstBytes 8 (s .count) ++ t) (eight-of (s .done) d [] ed)))
+  abbrev more : ℕ → List ℕ → List ℕ → List ℕ
+  more at xs n = take at xs ++ (n ++ drop 8 (drop at xs))
+
+  pub two-length : length two ≡ phaseLength
+  two-length = rw ez
+
+  pub first-length : length first ≡ phaseLength
+  first-length = rw ez
+
+  pub base-room : take 8 (drop 3 first) ≡ replicate 8 0
+  base-room = rw ez
+
+  module _ (b : List ℕ) (eb : b ≡ highFirstBytes 8 (s .base)) where
+    pub base-length : length (more 3 first b) ≡ phaseLength
+    base-length = rw (ez, eb)
+
+    pub count-room : take 8 (drop 11 (more 3 first b)) ≡ replicate 8 0
+    count-room = rw (ez, eb)
+
+    module _ (k : List ℕ) (ek : k ≡ highFirstBytes 8 (s .count)) where
+      pub count-length : length (more 11 (more 3 first b) k) ≡ phaseLength
+      count-length = rw (ez, eb, ek)
+
+      pub done-room : take 8 (drop 19 (more 11 (more 3 first b) k)) ≡ replicate 8 0
+      done-room = rw (ez, eb, ek)
+
+      pub cells-laid : (d : List ℕ) → d ≡ highFirstBytes 8 (s .done) → more 19 (more 11 (more 3 first b) k) d ≡ phaseBytes s
+      unfolding phaseBytes
+      cells-laid d ed = rw (ez, eb, ek, ed)

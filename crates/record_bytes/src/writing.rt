@@ -1,9 +1,10 @@
 // A record, and what a call makes of it, written as bytes.
 ghost use mathlib.Core.Path.{_≡_};
-ghost use mathlib.Core.List.{_++_};
-ghost use lib.ListN.{length, drop};
+ghost use mathlib.Core.List.{[], _++_};
+ghost use lib.ListN.{length, drop, replicate};
 ghost use Rattle.paper.specs.Sizes.{pageBytes};
 ghost use Rattle.paper.specs.Commands.{pageAfter};
+ghost use Rattle.address.specs.Bytes.{highFirstBytes};
 ghost use Rattle.cells.specs.Phases.{cellsOf};
 ghost use Rattle.record_bytes.specs.Layout.{partLength, phaseLength, headerLength, recordLength, partBytes, phaseBytes, header, written, changeWritten};
 use crate::places;
@@ -37,44 +38,14 @@ fn part_bytes(part: Part) -> [u8; places::PHASE]
     ]
 }
 
-// What a part does, in bytes.
-fn phase_bytes(phase: Phase) -> [u8; places::PAGE - places::PHASE]
-    ensures { λ r. ⌜ r ≡ phaseBytes (cellsOf phase) ⌝ }
-{
-    let cells = cells::cells_of(phase);
-    let base = address::high_first_bytes(cells.base);
-    let count = address::high_first_bytes(cells.count);
-    let done = address::high_first_bytes(cells.done);
-    [
-        cells.phase,
-        cells.kind,
-        cells.value,
-        base[0],
-        base[1],
-        base[2],
-        base[3],
-        base[4],
-        base[5],
-        base[6],
-        base[7],
-        count[0],
-        count[1],
-        count[2],
-        count[3],
-        count[4],
-        count[5],
-        count[6],
-        count[7],
-        done[0],
-        done[1],
-        done[2],
-        done[3],
-        done[4],
-        done[5],
-        done[6],
-        done[7],
-    ]
-}
+// Where base, count and ticks done stand among the bytes of a phase.
+const BASE: usize = places::BASE - places::PHASE;
+
+const COUNT: usize = places::COUNT - places::PHASE;
+
+const DONE: usize = places::DONE - places::PHASE;
+
+const END: usize = places::PAGE - places::PHASE;
 
 // What a part is, written over the first of a record's bytes.
 fn write_part(part: Part, bytes: &mut [u8])
@@ -85,16 +56,34 @@ fn write_part(part: Part, bytes: &mut [u8])
     bytes::copy(&front, bytes);
 }
 
+// A number written over eight zeros. What is zero is there already.
+fn write_number(number: usize, bytes: &mut [u8])
+    requires { ⌜ now bytes ≡ replicate 8 0 ⌝ }
+    ensures { λ _. ⌜ now (bytes .exit) ≡ highFirstBytes 8 number ⌝ }
+{
+    if number == 0 {
+        return;
+    }
+    let eight = address::high_first_bytes(number);
+    bytes::copy(&eight, bytes);
+}
+
 // What a part does, written where it stands in a header.
 fn write_cells(phase: Phase, bytes: &mut [u8])
     requires { ⌜ length (now bytes) ≡ phaseLength ⌝ }
     ensures { λ _. ⌜ now (bytes .exit) ≡ phaseBytes (cellsOf phase) ⌝ }
 {
-    let cells = phase_bytes(phase);
-    bytes::copy(&cells, bytes);
+    let cells = cells::cells_of(phase);
+    runs::fill(bytes, 0);
+    bytes[0] = cells.phase;
+    bytes[1] = cells.kind;
+    bytes[2] = cells.value;
+    write_number(cells.base, &mut bytes[BASE..COUNT]);
+    write_number(cells.count, &mut bytes[COUNT..DONE]);
+    write_number(cells.done, &mut bytes[DONE..END]);
 }
 
-// The same, zeros where the part is idle, so that no byte of them is worked out.
+// The same: zeros where the part is idle, with no cell worked out.
 fn write_phase(phase: Phase, bytes: &mut [u8])
     requires { ⌜ length (now bytes) ≡ phaseLength ⌝ }
     ensures { λ _. ⌜ now (bytes .exit) ≡ phaseBytes (cellsOf phase) ⌝ }
@@ -125,8 +114,7 @@ pub fn write_record(state: Record, bytes: &mut [u8])
     let part = state.part;
     let phase = state.phase;
     let page = state.page;
-    write_part(part, bytes);
-    write_cells(phase, &mut bytes[places::PHASE..places::PAGE]);
+    write_header(part, phase, bytes);
     bytes::copy(&page, &mut bytes[places::PAGE..places::END]);
 }
 
@@ -145,7 +133,7 @@ fn write_page(becomes: Data, input: &[u8], page: &mut [u8])
     }
 }
 
-// What a call makes of a record, written over the record's bytes. A buffer of another length is left as it is.
+// What a transaction makes of a record, written over the record's bytes. A buffer of another length is left as it is.
 pub fn write_change(change: Change, input: &[u8], bytes: &mut [u8])
     ensures { λ _. ⌜ now (bytes .exit) ≡ changeWritten change (now (input .entry)) (now (bytes .entry)) ⌝ }
 {
@@ -160,6 +148,28 @@ pub fn write_change(change: Change, input: &[u8], bytes: &mut [u8])
         Change::Became(part, phase, becomes) => {
             write_header(part, phase, bytes);
             write_page(becomes, input, &mut bytes[places::PAGE..places::END]);
+        }
+    }
+}
+
+// What ticks make of a record, which send nothing, written so. Each of the two has one caller in the archive for C, so
+// that it is compiled in place there.
+pub fn write_after(change: Change, bytes: &mut [u8])
+    ensures { λ _. ⌜ now (bytes .exit) ≡ changeWritten change [] (now (bytes .entry)) ⌝ }
+{
+    let n = bytes.len();
+    if n != places::END {
+        return;
+    }
+    match change {
+        Change::Same => {}
+        Change::Marked(mark) => {
+            bytes[places::ARMED] = words::bit_of(mark);
+        }
+        Change::Became(part, phase, page) => {
+            write_header(part, phase, bytes);
+            let nothing_sent = [0u8; 0];
+            write_page(page, &nothing_sent, &mut bytes[places::PAGE..places::END]);
         }
     }
 }

@@ -8,6 +8,7 @@ use native.Mathlib.Omega.{arith}
 use lib.ListN.{length, take, drop, length-take, length-drop}
 use borrow.Author.Tests.{eqb-true, leb-true, eq-eqb, ne-eqb}
 use Rattle.types.specs.declared.Memory.{Memory}
+use Rattle.types.specs.declared.Stored.{Stored}
 use Rattle.types.specs.declared.Record.{Record}
 use Rattle.types.specs.declared.Outcome.{Outcome}
 use Rattle.types.specs.declared.Ticked.{Ticked}
@@ -17,8 +18,9 @@ use Rattle.words.specs.Logic.{_and_}
 use Rattle.words.proofs.Tests.{and-l, and-r, unless-zero, orElse-zero, orElse-on, orElse-first}
 use Rattle.paper.specs.Sizes.{pageBytes}
 use Rattle.paper.specs.Soundness.{sound}
+use Rattle.paper.specs.Registers.{withBytes}
 use Rattle.paper.specs.Numbers.{laterRefusal, laterTickNumber}
-use Rattle.paper.specs.Calls.{outcomeOf, outputAfter, ticked, tickedMemory}
+use Rattle.paper.specs.Calls.{noStored, poweredUp, outcomeOf, outputAfter, ticked, tickedMemory}
 use Rattle.paper.proofs.Sizes.{size-range}
 use Rattle.paper.proofs.Soundness.{recordOf}
 use Rattle.ticks.specs.Waited.{waitedOf, waitedMemory, tickedBy}
@@ -137,6 +139,11 @@ given l n m t c d status function e =
     let q4 = and-r _ _ q3 in
     let q5 = and-r _ _ q4 in
     record { whole = eqb-true _ _ (and-l _ _ w); few = size-range n (unless-zero _ 0 (z .0)) .1; maker = leb-true _ _ (and-l _ _ q1); kind = leb-true _ _ (and-l _ _ q2); capacity = leb-true _ _ (and-l _ _ q3); device = leb-true _ _ (and-l _ _ q4); status-byte = leb-true _ _ (and-l _ _ q5); function-byte = leb-true _ _ (and-r _ _ q5) }
+
+-- power-up with a status and a function in registers that have nothing else
+pub up-with : (n m t c d status function : ℕ) (s : Stored) → s ≡ noStored → poweredUp n (record { maker = m; kind = t; capacity = c; device = d }) (withBytes status function s) ≡ upOf n m t c d status function
+up-with n m t c d status function s e =
+    ap (λ (x : Stored). poweredUp n (record { maker = m; kind = t; capacity = c; device = d }) (withBytes status function x)) e
 
 module _ (n m t c d status function : ℕ) (bs : List ℕ) (k : ℕ) (g : k ≡ givenNumber (length bs) n m t c d status function) where
   pub given-number : (k ≡ 0 → ⊥) → k ≡ upNumber (length bs) n m t c d status function

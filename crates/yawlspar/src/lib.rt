@@ -151,7 +151,6 @@ pub extern "C" fn yawlspar_tick(
     let page = &bytes[places::PAGE..places::END];
     let waited = ticks::tick_part(part, phase, page, array, rows, count as usize);
     let change = waited.change;
-    let nothing_sent = [0u8; 0];
-    record_bytes::writing::write_change(change, &nothing_sent, bytes);
+    record_bytes::writing::write_after(change, bytes);
     pack(waited.number, waited.done)
 }

@@ -4,7 +4,7 @@ use native.Mathlib.Omega.{arith}
 use denote.Ref.{now}
 use borrow.Author.Needs.{needs}
 use Rattle.record_bytes.proofs.Back.{written-in}
-use Rattle.yawlspar.proofs.Face.{given, given-number, own-number, own-bytes, no-bytes}
+use Rattle.yawlspar.proofs.Face.{given, up-with, given-number, own-number, own-bytes, no-bytes}
 use Rattle.yawlspar.proofs.yawlspar_power_up.Statement.{statement}
 use Rattle.yawlspar.proofs.yawlspar_power_up.Tie as tie
 
@@ -56,7 +56,8 @@ returns-2 c =
     let a = c .before .before .before .before .before .before .before .before .args in
     let g = c .before .before .before .before .before .before .given-number in
     let u = c .before .before .before .power-up in
-    let e = own-number (a .blocks) (a .maker) (a .kind) (a .capacity) (a .device) (a .status) (a .function) (now (a .bytes)) (g .result) (g .ensures) (u .result) (c .before .before .before .before .before .if1 .left) (u .ensures) in
+    let w = u .ensures ∙ up-with (a .blocks) (a .maker) (a .kind) (a .capacity) (a .device) (a .status) (a .function) _ (c .before .before .before .before .no-stored .ensures) in
+    let e = own-number (a .blocks) (a .maker) (a .kind) (a .capacity) (a .device) (a .status) (a .function) (now (a .bytes)) (g .result) (g .ensures) (u .result) (c .before .before .before .before .before .if1 .left) w in
     (omega (arith, e), no-bytes (a .blocks) (a .maker) (a .kind) (a .capacity) (a .device) (a .status) (a .function) (now (a .bytes)) (g .result) (g .ensures) _ e (c .before .if2 .taken))
 
 write-record-requires : tie.Need-write-record-requires
@@ -70,10 +71,11 @@ returns-3 c =
     let a = c .before .before .before .before .before .before .before .before .before .before .before .before .args in
     let g = c .before .before .before .before .before .before .before .before .before .before .given-number in
     let u = c .before .before .before .before .before .before .before .power-up in
+    let w = u .ensures ∙ up-with (a .blocks) (a .maker) (a .kind) (a .capacity) (a .device) (a .status) (a .function) _ (c .before .before .before .before .before .before .before .before .no-stored .ensures) in
     let z = c .before .before .before .before .before .before .before .before .before .if1 .left in
     let o = c .before .before .before .before .before .if2 .left in
-    let e = own-number (a .blocks) (a .maker) (a .kind) (a .capacity) (a .device) (a .status) (a .function) (now (a .bytes)) (g .result) (g .ensures) (u .result) z (u .ensures) in
-    (omega (arith, e, o), c .before .before .write-record .ensures ∙ written-in _ _ (given _ _ _ _ _ _ _ _ (sym (g .ensures) ∙ z) .whole) ∙ own-bytes (a .blocks) (a .maker) (a .kind) (a .capacity) (a .device) (a .status) (a .function) (now (a .bytes)) (g .result) (g .ensures) (u .result) z (u .ensures) o)
+    let e = own-number (a .blocks) (a .maker) (a .kind) (a .capacity) (a .device) (a .status) (a .function) (now (a .bytes)) (g .result) (g .ensures) (u .result) z w in
+    (omega (arith, e, o), c .before .before .write-record .ensures ∙ written-in _ _ (given _ _ _ _ _ _ _ _ (sym (g .ensures) ∙ z) .whole) ∙ own-bytes (a .blocks) (a .maker) (a .kind) (a .capacity) (a .device) (a .status) (a .function) (now (a .bytes)) (g .result) (g .ensures) (u .result) z w o)
 
 pub yawlspar-power-up-spec : {M : Type 1} → statement M
 yawlspar-power-up-spec =

@@ -1,31 +1,91 @@
--- `record_bytes::writing::write_cells` meets its contract: the bytes of the phase are copied over as many.
-use mathlib.Core.Path.{_∙_, ap}
-use lib.ListN.{length}
+-- `record_bytes::writing::write_cells` meets its contract: over zeros each cell is written in its place.
+use Prim.Native.Nat.{ℕ}
+use mathlib.Core.Path.{_∙_, sym, ap}
 use native.Mathlib.Omega.{arith}
-use denote.Ref.{now}
-use Rattle.record_bytes.proofs.Laws.{copied-whole, phase-length}
+use lib.ListN.{length, replicate}
+use Rattle.record_bytes.specs.Layout.{phaseBytes}
+use Rattle.record_bytes.proofs.Laws.{phase-length, two-length, first-length, base-length, count-length, base-room, count-room, done-room, cells-laid}
 use borrow.Author.Needs.{needs}
 use Rattle.record_bytes.proofs.writing.write_cells.Statement.{statement}
 use Rattle.record_bytes.proofs.writing.write_cells.Tie as tie
 
-phase-bytes-requires : tie.Need-phase-bytes-requires
-phase-bytes-requires c κs = search needs
+cells-of-requires : tie.Need-cells-of-requires
+cells-of-requires c κs = search needs
 
-slice-aggregate-copy : tie.Need-slice-aggregate-copy
-slice-aggregate-copy c = search needs
+fill-requires : tie.Need-fill-requires
+fill-requires c κs = search needs
 
-copy-requires : tie.Need-copy-requires
-copy-requires c κs = search needs
+slice-write-bytes : tie.Need-slice-write-bytes
+slice-write-bytes c = search needs
+
+slice-write-bytes-2 : tie.Need-slice-write-bytes-2
+slice-write-bytes-2 c = search needs
+
+slice-write-bytes-3 : tie.Need-slice-write-bytes-3
+slice-write-bytes-3 c = omega (arith, two-length (c .before .before .before .before .cells-of .result) _ (c .before .before .fill .ensures ∙ ap (λ (n : ℕ). replicate n 0) (c .before .before .before .before .before .before .pre)))
+
+sub-write-number : tie.Need-sub-write-number
+sub-write-number c = search needs
+
+part-write-number-start : tie.Need-part-write-number-start
+part-write-number-start c = search needs
+
+part-write-number-end : tie.Need-part-write-number-end
+part-write-number-end c = omega (arith, first-length (c .before .before .before .before .cells-of .result) _ (c .before .before .fill .ensures ∙ ap (λ (n : ℕ). replicate n 0) (c .before .before .before .before .before .before .pre)))
+
+write-number-requires : tie.Need-write-number-requires
+write-number-requires c κs = base-room (c .before .before .before .before .before .cells-of .result) _ (c .before .before .before .fill .ensures ∙ ap (λ (n : ℕ). replicate n 0) (c .before .before .before .before .before .before .before .pre))
+
+sub-write-number-2 : tie.Need-sub-write-number-2
+sub-write-number-2 c = search needs
+
+part-write-number-start-2 : tie.Need-part-write-number-start-2
+part-write-number-start-2 c = search needs
+
+part-write-number-end-2 : tie.Need-part-write-number-end-2
+part-write-number-end-2 c = omega (arith, base-length (c .before .before .before .before .before .before .before .before .cells-of .result) _ (c .before .before .before .before .before .before .fill .ensures ∙ ap (λ (n : ℕ). replicate n 0) (c .before .before .before .before .before .before .before .before .before .before .pre)) _ (c .before .before .write-number .ensures))
+
+write-number-requires-2 : tie.Need-write-number-requires-2
+write-number-requires-2 c κs = count-room (c .before .before .before .before .before .before .before .before .before .cells-of .result) _ (c .before .before .before .before .before .before .before .fill .ensures ∙ ap (λ (n : ℕ). replicate n 0) (c .before .before .before .before .before .before .before .before .before .before .before .pre)) _ (c .before .before .before .write-number .ensures)
+
+sub-write-number-3 : tie.Need-sub-write-number-3
+sub-write-number-3 c = search needs
+
+part-write-number-start-3 : tie.Need-part-write-number-start-3
+part-write-number-start-3 c = search needs
+
+part-write-number-end-3 : tie.Need-part-write-number-end-3
+part-write-number-end-3 c = omega (arith, count-length (c .before .before .before .before .before .before .before .before .before .before .before .before .cells-of .result) _ (c .before .before .before .before .before .before .before .before .before .before .fill .ensures ∙ ap (λ (n : ℕ). replicate n 0) (c .before .before .before .before .before .before .before .before .before .before .before .before .before .before .pre)) _ (c .before .before .before .before .before .before .write-number .ensures) _ (c .before .before .write-number2 .ensures))
+
+write-number-requires-3 : tie.Need-write-number-requires-3
+write-number-requires-3 c κs = done-room (c .before .before .before .before .before .before .before .before .before .before .before .before .before .cells-of .result) _ (c .before .before .before .before .before .before .before .before .before .before .before .fill .ensures ∙ ap (λ (n : ℕ). replicate n 0) (c .before .before .before .before .before .before .before .before .before .before .before .before .before .before .before .pre)) _ (c .before .before .before .before .before .before .before .write-number .ensures) _ (c .before .before .before .write-number2 .ensures)
 
 same-length : tie.Need-same-length
-same-length c = search needs
+same-length c = ap length (cells-laid (c .before .before .before .before .before .before .before .before .before .before .before .before .before .before .before .before .cells-of .result) _ (c .before .before .before .before .before .before .before .before .before .before .before .before .before .before .fill .ensures ∙ ap (λ (n : ℕ). replicate n 0) (c .before .before .before .before .before .before .before .before .before .before .before .before .before .before .before .before .before .before .pre)) _ (c .before .before .before .before .before .before .before .before .before .before .write-number .ensures) _ (c .before .before .before .before .before .before .write-number2 .ensures) _ (c .before .before .write-number3 .ensures)) ∙ phase-length _ ∙ sym (c .before .before .before .before .before .before .before .before .before .before .before .before .before .before .before .before .before .before .pre)
 
 returns : tie.Need-returns
-returns c =
-    let p = c .before .before .before .before .before .phase-bytes in
-    c .before .before .copy .ensures .1 ∙ copied-whole (p .result) (now (c .before .before .before .before .before .before .before .args .bytes)) (omega (arith, c .before .before .before .before .before .before .before .pre, ap length (p .ensures) ∙ phase-length _)) ∙ p .ensures
+returns c = cells-laid (c .before .before .before .before .before .before .before .before .before .before .before .before .before .before .before .before .cells-of .result) _ (c .before .before .before .before .before .before .before .before .before .before .before .before .before .before .fill .ensures ∙ ap (λ (n : ℕ). replicate n 0) (c .before .before .before .before .before .before .before .before .before .before .before .before .before .before .before .before .before .before .pre)) _ (c .before .before .before .before .before .before .before .before .before .before .write-number .ensures) _ (c .before .before .before .before .before .before .write-number2 .ensures) _ (c .before .before .write-number3 .ensures) ∙ ap phaseBytes (c .before .before .before .before .before .before .before .before .before .before .before .before .before .before .before .before .cells-of .ensures)
 
 pub write-cells-spec : {M : Type 1} → statement M
 write-cells-spec =
     tie.close
-    (tie.spec phase-bytes-requires slice-aggregate-copy copy-requires same-length returns)
+    (tie.spec
+    cells-of-requires
+    fill-requires
+    slice-write-bytes
+    slice-write-bytes-2
+    slice-write-bytes-3
+    sub-write-number
+    part-write-number-start
+    part-write-number-end
+    write-number-requires
+    sub-write-number-2
+    part-write-number-start-2
+    part-write-number-end-2
+    write-number-requires-2
+    sub-write-number-3
+    part-write-number-start-3
+    part-write-number-end-3
+    write-number-requires-3
+    same-length
+    returns)

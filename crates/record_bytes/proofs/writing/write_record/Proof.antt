@@ -1,13 +1,13 @@
--- `record_bytes::writing::write_record` meets its contract: part, phase and page data are written one behind the other and fill the buffer.
+-- `record_bytes::writing::write_record` meets its contract: header and page data are written one behind the other and fill the buffer.
 use mathlib.Core.Path.{_≡_, _∙_}
 use lib.ListN.{length}
 use native.Mathlib.Omega.{arith}
 use denote.Ref.{now}
 use borrow.Author.Tests.{eq-eqb, ne-eqb}
+use borrow.Author.Needs.{needs}
 use Rattle.paper.specs.Sizes.{pageBytes}
 use Rattle.record_bytes.specs.Layout.{written, recordBytes}
-use Rattle.record_bytes.proofs.Laws.{phase-laid, page-room, page-laid, copied-whole}
-use borrow.Author.Needs.{needs}
+use Rattle.record_bytes.proofs.Laws.{page-room, page-laid, copied-whole}
 use Rattle.record_bytes.proofs.writing.write_record.Statement.{statement}
 use Rattle.record_bytes.proofs.writing.write_record.Tie as tie
 
@@ -15,20 +15,8 @@ returns : tie.Need-returns
 unfolding written
 returns c = rw (ne-eqb _ _ (c .if1 .taken))
 
-write-part-requires : tie.Need-write-part-requires
-write-part-requires c κs = search needs
-
-sub-write-cells : tie.Need-sub-write-cells
-sub-write-cells c = search needs
-
-part-write-cells-start : tie.Need-part-write-cells-start
-part-write-cells-start c = search needs
-
-part-write-cells-end : tie.Need-part-write-cells-end
-part-write-cells-end c = search needs
-
-write-cells-requires : tie.Need-write-cells-requires
-write-cells-requires c κs = search needs
+write-header-requires : tie.Need-write-header-requires
+write-header-requires c κs = search needs
 
 slice-aggregate-copy : tie.Need-slice-aggregate-copy
 slice-aggregate-copy c = search needs
@@ -44,11 +32,9 @@ part-copy-end c = search needs
 
 copy-requires : tie.Need-copy-requires
 copy-requires c κs =
-    let s = c .before .before .before .before .before .before .before .before .before .before .before .before .before .before in
-    let l = c .before .before .before .before .before .before .before .before .before .before .before .before .if1 .left in
-    let h = phase-laid (now (s .args .bytes)) _ _ l (c .before .before .before .before .before .before .before .before .write-part .ensures) _ _ (c .before .before .before .before .write-cells .ensures) in
+    let s = c .before .before .before .before .before .before .before .before .before .before in
     let ld : length (s .args .state .page) ≡ pageBytes = search needs in
-    omega (arith, ld, page-room (now (s .args .bytes)) _ _ _ l h)
+    omega (arith, ld, page-room (now (s .args .bytes)) _ _ _ (c .before .before .before .before .before .before .before .before .if1 .left) (c .before .before .before .before .write-header .ensures))
 
 same-length : tie.Need-same-length
 same-length c = search needs
@@ -56,9 +42,9 @@ same-length c = search needs
 returns-2 : tie.Need-returns-2
 unfolding written recordBytes
 returns-2 c =
-    let s = c .before .before .before .before .before .before .before .before .before .before .before .before .before .before .before .before .before in
-    let l = c .before .before .before .before .before .before .before .before .before .before .before .before .before .before .before .if1 .left in
-    let h = phase-laid (now (s .args .bytes)) _ _ l (c .before .before .before .before .before .before .before .before .before .before .before .write-part .ensures) _ _ (c .before .before .before .before .before .before .before .write-cells .ensures) in
+    let s = c .before .before .before .before .before .before .before .before .before .before .before .before .before in
+    let l = c .before .before .before .before .before .before .before .before .before .before .before .if1 .left in
+    let h = c .before .before .before .before .before .before .before .write-header .ensures in
     let ld : length (s .args .state .page) ≡ pageBytes = search needs in
     rw (eq-eqb _ _ l) (page-laid (now (s .args .bytes)) _ _ _ l h _ (s .args .state .page) (c .before .before .copy .ensures .1 ∙ copied-whole (s .args .state .page) _ (omega (arith, ld, page-room (now (s .args .bytes)) _ _ _ l h))))
 
@@ -67,11 +53,7 @@ write-record-spec =
     tie.close
     (tie.spec
     returns
-    write-part-requires
-    sub-write-cells
-    part-write-cells-start
-    part-write-cells-end
-    write-cells-requires
+    write-header-requires
     slice-aggregate-copy
     sub-copy
     part-copy-start

@@ -1,0 +1,89 @@
+-- `record_bytes::writing::write_after` meets its contract, as `write_change` does.
+use denote.Ref.{now}
+use borrow.Author.Tests.{eq-eqb, ne-eqb}
+use Rattle.record_bytes.specs.Layout.{changeWritten}
+use Rattle.record_bytes.proofs.Laws.{page-room, page-there, page-laid}
+use borrow.Author.Needs.{needs}
+use Rattle.record_bytes.proofs.writing.write_after.Statement.{statement}
+use Rattle.record_bytes.proofs.writing.write_after.Tie as tie
+
+returns : tie.Need-returns
+unfolding changeWritten
+returns c = rw (ne-eqb _ _ (c .if1 .taken))
+
+enum-told : tie.Need-enum-told
+enum-told c = search needs
+
+enum-known-change : tie.Need-enum-known-change
+enum-known-change c = search needs
+
+bit-of-requires : tie.Need-bit-of-requires
+bit-of-requires c κs = search needs
+
+slice-write-bytes : tie.Need-slice-write-bytes
+slice-write-bytes c = search needs
+
+enum-known-change-2 : tie.Need-enum-known-change-2
+enum-known-change-2 c = search needs
+
+write-header-requires : tie.Need-write-header-requires
+write-header-requires c κs = search needs
+
+slice-aggregate-write-page : tie.Need-slice-aggregate-write-page
+slice-aggregate-write-page c = search needs
+
+sub-write-page : tie.Need-sub-write-page
+sub-write-page c = search needs
+
+part-write-page-start : tie.Need-part-write-page-start
+part-write-page-start c = search needs
+
+part-write-page-end : tie.Need-part-write-page-end
+part-write-page-end c = search needs
+
+write-page-requires : tie.Need-write-page-requires
+write-page-requires c κs = page-room (now (c .before .before .before .before .before .before .before .before .before .before .before .args .bytes)) _ _ _ (c .before .before .before .before .before .before .before .before .before .if1 .left) (c .before .before .before .before .write-header .ensures)
+
+returns-2 : tie.Need-returns-2
+unfolding changeWritten
+returns-2 c = rw (c .enum-told .given .1, eq-eqb _ _ (c .before .before .if1 .left))
+
+same-length : tie.Need-same-length
+same-length c = search needs
+
+returns-3 : tie.Need-returns-3
+unfolding changeWritten
+returns-3 c = rw (c .before .before .change .given .1, eq-eqb _ _ (c .before .before .before .before .if1 .left), c .bit-of .ensures)
+
+same-length-2 : tie.Need-same-length-2
+same-length-2 c = search needs
+
+returns-4 : tie.Need-returns-4
+unfolding changeWritten
+returns-4 c =
+    let bs = now (c .before .before .before .before .before .before .before .before .before .before .before .before .before .before .args .bytes) in
+    let l = c .before .before .before .before .before .before .before .before .before .before .before .before .if1 .left in
+    let h = c .before .before .before .before .before .before .before .write-header .ensures in
+    rw (c .before .before .before .before .before .before .before .before .before .before .change2 .given .1, eq-eqb _ _ l) (page-laid bs _ _ _ l h _ _ (rw (page-there bs _ _ _ l h) at (c .before .before .write-page .ensures)))
+
+pub write-after-spec : {M : Type 1} → statement M
+write-after-spec =
+    tie.close
+    (tie.spec
+    returns
+    enum-told
+    enum-known-change
+    bit-of-requires
+    slice-write-bytes
+    enum-known-change-2
+    write-header-requires
+    slice-aggregate-write-page
+    sub-write-page
+    part-write-page-start
+    part-write-page-end
+    write-page-requires
+    returns-2
+    same-length
+    returns-3
+    same-length-2
+    returns-4)
