@@ -12,6 +12,7 @@ use Rattle.types.specs.declared.Change.the-variants.{Same, Marked, Became}
 use Rattle.words.specs.Logic.{bit}
 use Rattle.paper.specs.Sizes.{pageBytes}
 use Rattle.paper.specs.Commands.{pageAfter}
+use Rattle.paper.specs.Calls.{noStored}
 use Rattle.address.specs.Bytes.{highFirstBytes}
 use Rattle.cells.specs.declared.Cells.{Cells}
 use Rattle.cells.specs.Phases.{cellsOf}
@@ -21,7 +22,7 @@ abbrev pub storedBytes : Stored → List ℕ
 storedBytes s = s .status ∷ s .function ∷ []
 
 abbrev pub storedLength : ℕ
-storedLength = 2
+storedLength = length (storedBytes noStored)
 
 -- they stand behind blocks and identity, and behind them WEL and the marks
 abbrev pub storedAt : ℕ
