@@ -17,7 +17,7 @@ use Rattle.paper.specs.Erase.{erasedByte}
 use Rattle.paper.specs.Reads.{undriven, undrivenByte}
 use Rattle.paper.specs.Calls.{noStored, poweredUp, transacted, transactedOutput}
 use Rattle.paper.specs.Board.{Board, boardOf, sentTo, drivenBy, afterSent}
-use Rattle.paper.specs.Bench.{LF, space, letterK, before, linesOf, pairs, lineOf, benchIdentity, benchBoard, lineText, lineAfter, textOf, boardAfter}
+use Rattle.paper.specs.Bench.{LF, space, inputLimit, pairLimit, letterK, before, linesOf, pairs, lineOf, benchIdentity, benchBoard, lineText, lineAfter, textOf, boardAfter}
 use Rattle.words.proofs.Lists.{take-min, drop-min}
 use Rattle.lines.proofs.Numerals.{pairs-whole}
 use Rattle.lines.proofs.Lines.{pairs-count, Says, line-says}
@@ -133,8 +133,8 @@ bench-board n up xs rs e f g = rw (e, f, g)
 -- what bench leaves and prints goes by the bytes that it reads
 abbrev Left : List ℕ → List ℕ → List ℕ → List ℕ → List ℕ → ℕ → Type 0
 Left read xs rs o o′ at =
-    (xs ≡ boardAfter 64 (linesOf read) (benchBoard 1) .array) × ((rs ≡ boardAfter 64 (linesOf read) (benchBoard 1) .rows) × Prints o 0 (textOf 64 (linesOf read) (benchBoard 1)) o′ at)
+    (xs ≡ boardAfter pairLimit (linesOf read) (benchBoard 1) .array) × ((rs ≡ boardAfter pairLimit (linesOf read) (benchBoard 1) .rows) × Prints o 0 (textOf pairLimit (linesOf read) (benchBoard 1)) o′ at)
 
-pub bench-read : (read input xs rs o o′ : List ℕ) (at k : ℕ) → k ≡ min 65536 (length input) → read ≡ take k input → Left read xs rs o o′ at → Left (take 65536 input) xs rs o o′ at
+pub bench-read : (read input xs rs o o′ : List ℕ) (at k : ℕ) → k ≡ min inputLimit (length input) → read ≡ take k input → Left read xs rs o o′ at → Left (take inputLimit input) xs rs o o′ at
 bench-read read input xs rs o o′ at k e f h =
-    subst (λ (l : List ℕ). Left l xs rs o o′ at) (f ∙ ap (λ (n : ℕ). take n input) e ∙ take-min 65536 input) h
+    subst (λ (l : List ℕ). Left l xs rs o o′ at) (f ∙ ap (λ (n : ℕ). take n input) e ∙ take-min inputLimit input) h

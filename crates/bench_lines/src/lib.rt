@@ -13,6 +13,11 @@ use types::Identity;
 use types::Line;
 use types::Record;
 
+// Bench reads up to 65,536 bytes, in lines of at most 64 pairs.
+const INPUT_MOST: usize = 65536;
+
+const PAIRS_MOST: usize = 64;
+
 // What lines leave: the record, and the place after what was printed.
 struct Ran {
     next: Record,
@@ -124,10 +129,10 @@ fn after(end: usize, n: usize) -> usize
 }
 
 // Room for the bytes of a transaction.
-fn room() -> [u8; 4096]
-    ensures { λ r. ⌜ 4096 ≡ length r ⌝ }
+fn room() -> [u8; types::TRANSACTION_MOST]
+    ensures { λ r. ⌜ transactionLimit ≡ length r ⌝ }
 {
-    [0; 4096]
+    [0; types::TRANSACTION_MOST]
 }
 
 // All lines of an input, of at most so many pairs, on a part and its memory. What is printed goes into the output
@@ -225,8 +230,8 @@ pub fn bench(array: &mut [u8], rows: &mut [u8], input: &[u8], output: &mut [u8])
             printed: 0,
         };
     }
-    let end = words::lesser(65536, input.len());
-    let printed = on_part(1, array, rows, 64, &input[0..end], output);
+    let end = words::lesser(INPUT_MOST, input.len());
+    let printed = on_part(1, array, rows, PAIRS_MOST, &input[0..end], output);
     Benched {
         number: 0,
         printed: printed,

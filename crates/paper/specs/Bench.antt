@@ -168,9 +168,16 @@ abbrev pub benchBoard : ℕ → Board
 benchBoard n =
     record { state = poweredUp n benchIdentity noStored .next; array = replicate (arrayBytes n) erasedByte; rows = replicate rowsBytes erasedByte }
 
--- bench reads up to 65,536 bytes on the 1-block part, in lines of 1 to 64 pairs: what it prints, and the part after it
+-- bench reads up to 65,536 bytes, in lines of 1 to 64 pairs
+abbrev pub inputLimit : ℕ
+inputLimit = 65536
+
+abbrev pub pairLimit : ℕ
+pairLimit = 64
+
+-- it runs them on the 1-block part: what it prints, and the part after it
 abbrev pub benchText : List ℕ → List ℕ
-benchText input = textOf 64 (linesOf (take 65536 input)) (benchBoard 1)
+benchText input = textOf pairLimit (linesOf (take inputLimit input)) (benchBoard 1)
 
 abbrev pub benchAfter : List ℕ → Board
-benchAfter input = boardAfter 64 (linesOf (take 65536 input)) (benchBoard 1)
+benchAfter input = boardAfter pairLimit (linesOf (take inputLimit input)) (benchBoard 1)

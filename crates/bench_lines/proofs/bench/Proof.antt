@@ -2,6 +2,7 @@
 use Rattle.bench_lines.proofs.Course.{bench-read}
 use Rattle.bench_lines.proofs.Lent.{lent-lengths}
 use Rattle.printing.proofs.Text.{prints-empty}
+use Rattle.paper.specs.Bench.{inputLimit}
 use Prim.Native.Nat.{_-_, min}
 use lib.ListN.{length}
 use mathlib.Core.Path.{_≡_, refl, sym, _∙_}
@@ -52,7 +53,7 @@ returns-2 c =
     let input = now (c .before .before .before .before .before .before .before .before .before .before .before .before .before .before .before .before .before .before .args .input) in
     let n = c .before .before .before .before .before .before .before .before .before .before .before .before .before .lent-number .ensures in
     let z = eq-eqb _ _ (c .before .before .before .before .before .before .before .before .before .before .before .before .if1 .left) in
-    let k : c .before .before .before .before .before .before .before .before .before .before .before .lesser .result - 0 ≡ min 65536 (length input) = omega (arith, c .before .before .before .before .before .before .before .before .before .before .before .lesser .ensures) in
+    let k : c .before .before .before .before .before .before .before .before .before .before .before .lesser .result - 0 ≡ min inputLimit (length input) = omega (arith, c .before .before .before .before .before .before .before .before .before .before .before .lesser .ensures) in
     let l = bench-read _ input _ _ _ _ _ (c .before .before .before .before .before .before .before .before .before .before .before .lesser .result - 0) k refl (c .before .before .before .before .before .before .on-part .ensures) in
     (sym (c .before .before .before .before .before .before .before .before .before .before .before .before .if1 .left) ∙ n, (rw (← n, z) (l .0), (rw (← n, z) (l .1 .0), rw (← n, z) (l .1 .1))))
 
