@@ -18,6 +18,7 @@ use Rattle.words.specs.Logic.{_and_, _or_, unless, _orElse_}
 use Rattle.paper.specs.Sizes.{sizeOk, arrayBytes, rowsBytes}
 use Rattle.paper.specs.Address.{addressIn, highFirst}
 use Rattle.paper.specs.Protection.{blocksAsked, protectedBlocks, protected}
+use Rattle.paper.specs.Registers.{withBytes}
 use Rattle.paper.specs.Program.{noData, pageData, pagePlace, programOf, narrowed}
 use Rattle.paper.specs.Operations.{narrow}
 use Rattle.paper.specs.Soundness.{operationOk, bitsOk, pageOk, partSound, sound}
@@ -41,7 +42,7 @@ identity = record { maker = 0x11; kind = 0x22; capacity = 0x33; device = 0x44 }
 -- the part's record with this status and function, this latch, armed or not, in this phase and with this page data
 abbrev pub recordAt : ℕ → ℕ → Bool → Bool → Phase → List ℕ → Record
 recordAt status function wel armed f page =
-    record { part = record { blocks = 1; identity = identity; stored = record { status = status; function = function }; wel = wel; armed = armed; asleep = false }; phase = f; page = page }
+    record { part = record { blocks = 1; identity = identity; stored = withBytes status function noStored; wel = wel; armed = armed; asleep = false }; phase = f; page = page }
 
 -- A5h, 5Ah and 3Ch programmed at 000010h, with k ticks done
 abbrev pub program : ℕ → Operation
