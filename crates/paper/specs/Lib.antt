@@ -13,6 +13,7 @@ pub mod Registers
 pub mod Operations
 pub mod Commands
 pub mod Ticks
+pub mod BlockTable
 pub mod Protection
 pub mod Suspend
 pub mod History

@@ -25,6 +25,12 @@ pub struct Blocks {
     pub count: usize,
 }
 
+// A cell of the block table: the first protected block, and how many there are from it.
+pub struct Cell(pub usize, pub usize);
+
+// A row of the block table, its cells in the order in which the sizes are printed: 8, 4 and 2 Mbit, and then 1 block.
+pub struct BlockRow(pub Cell, pub Cell, pub Cell, pub Cell);
+
 // What an erase takes: SER, BER32, BER64, CER or the row erase.
 pub enum EraseUnit {
     Sector,

@@ -1,0 +1,60 @@
+-- The block table: which blocks each code protects, in the layout of table 6.4 of source document 000.
+use Prim.Native.Nat.{ℕ}
+use mathlib.Core.List.{List, [], _∷_}
+use mathlib.Core.Bool.{cond}
+use lib.Dec.{eqb}
+use Rattle.types.specs.declared.Cell.{Cell}
+use Rattle.types.specs.declared.BlockRow.{BlockRow}
+
+infixl 80 _is_
+-- a code and its row
+pub record CodeRow : Type 0 where
+  pub code : ℕ
+  pub cells : BlockRow
+
+abbrev pub _is_ : ℕ → BlockRow → CodeRow
+c is r = record { code = c; cells = r }
+
+-- The sixteen rows, BP3 BP2 BP1 BP0 = 0000 downward to 1111, with a column for each size in the printed order, and then that of the 1-block size, which no source prints.
+-- A cell is the first protected block and how many there are from it; (0, 0) is printed as None. Where print and table differ the cell is named behind its row, and 01's rule
+-- decides it: blank (nothing is printed), shifted (printed one column to the left), garbled ("All Blocks" can be guessed), stray (a mark that is no cell).
+--             8 Mbit    4 Mbit    2 Mbit    1 block
+abbrev pub blockTable : List CodeRow
+blockTable =
+    0b0000 is ((00, 00), (00, 00), (00, 00), (00, 00))
+    ∷ 0b0001 is ((15, 01), (07, 01), (03, 01), (00, 01))  -- 4 Mbit blank, 2 Mbit shifted
+    ∷ 0b0010 is ((14, 02), (06, 02), (02, 02), (00, 01))
+    ∷ 0b0011 is ((12, 04), (04, 04), (00, 04), (00, 01))  -- 4 Mbit blank, 2 Mbit blank
+    ∷ 0b0100 is ((08, 08), (00, 08), (00, 04), (00, 01))  -- 4 Mbit blank, 2 Mbit blank
+    ∷ 0b0101 is ((00, 16), (00, 08), (00, 04), (00, 01))  -- 8 Mbit blank, 4 Mbit blank, 2 Mbit blank
+    ∷ 0b0110 is ((00, 16), (00, 08), (00, 04), (00, 01))  -- 8 Mbit blank, 4 Mbit blank, 2 Mbit blank
+    ∷ 0b0111 is ((00, 16), (00, 08), (00, 04), (00, 01))  -- 8 Mbit blank, 4 Mbit blank, 2 Mbit blank
+    ∷ 0b1000 is ((00, 16), (00, 08), (00, 04), (00, 01))  -- 8 Mbit garbled, 4 Mbit garbled, 2 Mbit garbled
+    ∷ 0b1001 is ((00, 16), (00, 08), (00, 04), (00, 01))  -- 8 Mbit stray, 4 Mbit blank, 2 Mbit blank
+    ∷ 0b1010 is ((00, 16), (00, 08), (00, 04), (00, 01))  -- 8 Mbit blank, 4 Mbit blank, 2 Mbit blank
+    ∷ 0b1011 is ((00, 08), (00, 08), (00, 04), (00, 01))  -- 4 Mbit blank, 2 Mbit blank
+    ∷ 0b1100 is ((00, 04), (00, 04), (00, 04), (00, 01))  -- 2 Mbit blank
+    ∷ 0b1101 is ((00, 02), (00, 02), (00, 02), (00, 01))
+    ∷ 0b1110 is ((00, 01), (00, 01), (00, 01), (00, 01))
+    ∷ 0b1111 is ((00, 00), (00, 00), (00, 00), (00, 00))
+    ∷ []
+
+-- no block, and a row of four times none
+abbrev pub none : Cell
+none = (0, 0)
+
+abbrev pub noRow : BlockRow
+noRow = (none, none, none, none)
+
+-- the cells of the first row that has the code; a number that is no code has none
+abbrev pub rowIn : List CodeRow → ℕ → BlockRow
+rowIn [] c = noRow
+rowIn (r ∷ rs) c = cond (eqb c (r .code)) (r .cells) (rowIn rs c)
+
+unfoldable pub blockRow : ℕ → BlockRow
+blockRow c = rowIn blockTable c
+
+-- the cell of a row in the column of a size; a number of blocks that is no size has none
+unfoldable pub cellOf : ℕ → BlockRow → Cell
+cellOf n r =
+    cond (eqb n 16) (r .0) (cond (eqb n 8) (r .1) (cond (eqb n 4) (r .2) (cond (eqb n 1) (r .3) none)))
