@@ -19,7 +19,8 @@ use Rattle.paper.specs.Numbers.{powerUpNumber}
 use Rattle.paper.specs.Calls.{poweredUp}
 use Rattle.paper.specs.Address.{addressIn}
 use Rattle.paper.specs.Records.{fresh}
-use Rattle.paper.specs.Protection.{codeOf, blocksAsked, protectedBlocks, protected, protectedAt, locked}
+use Rattle.paper.specs.BlockTable.{blockRow, cellOf}
+use Rattle.paper.specs.Protection.{codeOf, protectedBlocks, protected, protectedAt, locked}
 use Rattle.paper.proofs.Kept.{fresh-sound}
 use Rattle.history.proofs.Shielded.{none-protected, none-asked}
 use Rattle.cases.proofs.Paper.{send, Ready, coded, powered, enabledPart, filled, Free, Part16, Case1, Case2, Case3, Case6, Case7, Case11, Cases}
@@ -77,15 +78,15 @@ unfolding addressIn
 inside-16 i = omega arith
 
 case-1 : Case1
-unfolding protected protectedBlocks blocksAsked _and_ _or_
+unfolding protected protectedBlocks blockRow cellOf _and_ _or_
 case-1 = (refl, refl)
 
 case-2 : Case2
-unfolding protected protectedBlocks blocksAsked _and_ _or_
+unfolding protected protectedBlocks blockRow cellOf _and_ _or_
 case-2 = (refl, refl)
 
 case-3 : Case3
-unfolding protected protectedBlocks blocksAsked _and_ _or_
+unfolding protected protectedBlocks blockRow cellOf _and_ _or_
 case-3 a h = rw (le-leb 0 (a / blockBytes) (omega arith), lt-ltb (a / blockBytes) 4 (omega arith))
 
 -- the part after 06h with code 0 and no lock, and its arrays

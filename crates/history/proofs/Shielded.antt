@@ -20,7 +20,7 @@ use Rattle.types.specs.declared.Record.{Record}
 use Rattle.words.specs.Logic.{_and_, _or_}
 use Rattle.words.proofs.Tests.{and-l, and-r}
 use Rattle.paper.specs.Sizes.{arrayBytes, rowsBytes, pageBytes, blockBytes, sameMemory}
-use Rattle.paper.specs.Protection.{codeOf, blocksAsked, protectsTop, protectedBlocks, protected, locked}
+use Rattle.paper.specs.Protection.{codeOf, blocksAsked, protectedBlocks, protected, locked}
 use Rattle.paper.specs.Program.{pageBase, pagePlace, narrowedByte}
 use Rattle.paper.specs.Erase.{memoryOf, unitBytes, unitBase, erasedByte}
 use Rattle.paper.specs.Phases.{running, workIs, anyOperation, isBusy}
@@ -29,6 +29,7 @@ use Rattle.paper.specs.Soundness.{sound}
 use Rattle.paper.specs.Ticks.{finished, advanced, worked, tickedAt, recordAfter, touchAt, touchOf}
 use Rattle.paper.specs.Calls.{ticked}
 use Rattle.paper.specs.History.{Call, transaction, ticks, recordAfterCall, tickTouches, callTouches, history, byteAfter, byteAfterAll, shielded, shieldedThroughout}
+use Rattle.paper.proofs.Protected.{none-counted}
 use Rattle.paper.proofs.Phases.{rest-idle}
 use Rattle.paper.proofs.Soundness.{InOrder, running-in-order}
 use Rattle.paper.proofs.Kept.{run-sound}
@@ -45,10 +46,9 @@ none-in f k false e = refl
 
 -- a code that asks for no block protects none
 pub none-protected : (c n k : ℕ) → blocksAsked c ≡ 0 → protected c n k ≡ false
-unfolding protected protectedBlocks
+unfolding protected
 none-protected c n k e =
-    let z : min n (blocksAsked c) ≡ 0 = omega arith in
-    rw z (none-in (cond (protectsTop c) (n - 0) 0) k (leb (cond (protectsTop c) (n - 0) 0) k) refl)
+    rw (none-counted c n e) (none-in (protectedBlocks c n .first) k (leb (protectedBlocks c n .first) k) refl)
 
 -- 0 and 15 do
 pub none-asked : (blocksAsked 0 ≡ 0) × (blocksAsked 15 ≡ 0)

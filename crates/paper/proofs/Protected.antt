@@ -120,12 +120,17 @@ no-rule c n l =
     let z : min n 0 ≡ 0 = omega arith in
     rw (ne-eqb c 0 (λ e. omega arith), le-leb 15 c (omega arith), le-leb 1 c (omega arith), lt-leb c 7 (omega arith)) (ap (λ (k : ℕ). blocksOf (0, k)) z)
 
+pub table-no-code : (c n : ℕ) → 16 ≤ c → protectedBlocks c n ≡ blocksOf none
+unfolding protectedBlocks
+table-no-code c n l =
+    ap (λ (r : BlockRow). blocksOf (cellOf n r)) (no-code c l) ∙ ap blocksOf (no-cell n)
+
 code-or-not : (c n : ℕ) (t : Bool) → ltb c 16 ≡ t → Column n → protectedBlocks c n ≡ ruleBlocks c n
 unfolding protectedBlocks
 code-or-not c n true e h = same-blocks _ _ (below (agrees n) 16 c h (ltb-true c 16 e))
 code-or-not c n false e h =
     let l : 16 ≤ c = ltb-false c 16 e in
-    ap (λ (r : BlockRow). blocksOf (cellOf n r)) (no-code c l) ∙ ap blocksOf (no-cell n) ∙ sym (no-rule c n l)
+    table-no-code c n l ∙ sym (no-rule c n l)
 
 -- on every size and every number, be it a code or not, the table says what the rule says
 pub table-is-rule : (c n : ℕ) → sizeOk n ≡ true → protectedBlocks c n ≡ ruleBlocks c n

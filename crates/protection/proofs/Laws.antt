@@ -1,13 +1,30 @@
--- A one that is shifted, and the bits of a byte above its eighth.
-use Prim.Native.Nat.{ℕ, _+_, _*_, _/_, _%_, _^_, _<_, _≤_}
-use mathlib.Core.Path.{_≡_}
-use native.Mathlib.Nat.{one-mul, mod-eq-of-lt, div-eq-of-lt}
+-- A block between the first protected one and the last, and the bits of a byte above its eighth.
+use Prim.Native.Nat.{ℕ, _+_, _/_, _%_, _^_, _<_, _≤_}
+use mathlib.Core.Path.{_≡_, refl}
+use mathlib.Core.Bool.{Bool, true, false}
+use native.Mathlib.Nat.{div-eq-of-lt}
 use native.Mathlib.Omega.{arith}
-use lib.Pow.{pow-lt, pow-mono}
+use lib.Dec.{leb, ltb}
+use lib.Pow.{pow-mono}
+use borrow.Author.Tests.{ltb-true, ltb-false, leb-true, le-leb, lt-ltb, le-ltb}
+use Rattle.words.specs.Logic.{_and_}
 
--- a one that is shifted by fewer places than the width
-pub one-shl : (w k : ℕ) → k < w → 1 * 2 ^ k % 2 ^ w ≡ 2 ^ k
-one-shl w k h = rw one-mul (mod-eq-of-lt (pow-lt h))
+-- a difference w of k and f that wraps is below n where k is one of the n numbers from f on
+module _ (w f n k : ℕ) (e : (w + f) % 2 ^ 64 ≡ k) (h : w < 2 ^ 64) (l : f + n < 2 ^ 64) where
+  outside : (t : Bool) → leb f k ≡ t → n ≤ w → false ≡ (t and ltb k (f + n))
+  unfolding _and_
+  outside true u g = rw (le-ltb k (f + n) (omega (arith, leb-true f k u)))
+  outside false u g = refl
+
+  inside-or-not : (t : Bool) → ltb w n ≡ t → t ≡ (leb f k and ltb k (f + n))
+  unfolding _and_
+  inside-or-not true t =
+      let g : w < n = ltb-true w n t in
+      rw (le-leb f k (omega arith), lt-ltb k (f + n) (omega arith))
+  inside-or-not false t = outside (leb f k) refl (ltb-false w n t)
+
+  pub inside : ltb w n ≡ (leb f k and ltb k (f + n))
+  inside = inside-or-not (ltb w n) refl
 
 -- a byte has no bit above its eighth
 pub no-bit : (x k : ℕ) → x < 256 → 4 ≤ k → x / 2 ^ (4 + k) ≡ 0

@@ -1,52 +1,81 @@
 // Protection: which blocks a code protects, which rows are locked, and when the pin bars a status write.
 ghost use mathlib.Core.Path.{_≡_};
-ghost use Rattle.paper.specs.Protection.{blocksAsked, protectedBlocks, protected, locked, barred};
+ghost use Rattle.paper.specs.BlockTable.{blockRow, cellOf};
+ghost use Rattle.paper.specs.Protection.{protectedBlocks, protected, locked, barred};
+use types::BlockRow;
 use types::Blocks;
+use types::Cell;
 
-// How many blocks a code asks for.
-fn blocks_asked(code: u8) -> usize
-    ensures { λ r. ⌜ r ≡ blocksAsked code ⌝ }
+// The sixteen rows of the block table, BP3 BP2 BP1 BP0 = 0000 downward to 1111, in the layout of table 6.4 of source
+// document 000: a column for each size in the printed order, and then that of the 1-block size, which no source prints.
+// A cell is the first protected block and how many there are from it; Cell(00, 00) is printed as None. Where print and
+// table differ the cell is named behind its row, and 01's rule decides it: blank (nothing is printed), shifted (printed
+// one column to the left), garbled ("All Blocks" can be guessed), stray (a mark that is no cell).
+fn block_row(code: u8) -> BlockRow
+    ensures { λ r. ⌜ r ≡ blockRow code ⌝ }
 {
-    if code == 0 {
-        return 0;
+    match code {
+        //                 8 Mbit        4 Mbit        2 Mbit        1 block
+        0b0000 => BlockRow(Cell(00, 00), Cell(00, 00), Cell(00, 00), Cell(00, 00)),
+        0b0001 => BlockRow(Cell(15, 01), Cell(07, 01), Cell(03, 01), Cell(00, 01)), // 4 Mbit blank, 2 Mbit shifted
+        0b0010 => BlockRow(Cell(14, 02), Cell(06, 02), Cell(02, 02), Cell(00, 01)),
+        0b0011 => BlockRow(Cell(12, 04), Cell(04, 04), Cell(00, 04), Cell(00, 01)), // 4 Mbit blank, 2 Mbit blank
+        0b0100 => BlockRow(Cell(08, 08), Cell(00, 08), Cell(00, 04), Cell(00, 01)), // 4 Mbit blank, 2 Mbit blank
+        0b0101 => BlockRow(Cell(00, 16), Cell(00, 08), Cell(00, 04), Cell(00, 01)), // 8 Mbit blank, 4 Mbit blank, 2 Mbit blank
+        0b0110 => BlockRow(Cell(00, 16), Cell(00, 08), Cell(00, 04), Cell(00, 01)), // 8 Mbit blank, 4 Mbit blank, 2 Mbit blank
+        0b0111 => BlockRow(Cell(00, 16), Cell(00, 08), Cell(00, 04), Cell(00, 01)), // 8 Mbit blank, 4 Mbit blank, 2 Mbit blank
+        0b1000 => BlockRow(Cell(00, 16), Cell(00, 08), Cell(00, 04), Cell(00, 01)), // 8 Mbit garbled, 4 Mbit garbled, 2 Mbit garbled
+        0b1001 => BlockRow(Cell(00, 16), Cell(00, 08), Cell(00, 04), Cell(00, 01)), // 8 Mbit stray, 4 Mbit blank, 2 Mbit blank
+        0b1010 => BlockRow(Cell(00, 16), Cell(00, 08), Cell(00, 04), Cell(00, 01)), // 8 Mbit blank, 4 Mbit blank, 2 Mbit blank
+        0b1011 => BlockRow(Cell(00, 08), Cell(00, 08), Cell(00, 04), Cell(00, 01)), // 4 Mbit blank, 2 Mbit blank
+        0b1100 => BlockRow(Cell(00, 04), Cell(00, 04), Cell(00, 04), Cell(00, 01)), // 2 Mbit blank
+        0b1101 => BlockRow(Cell(00, 02), Cell(00, 02), Cell(00, 02), Cell(00, 01)),
+        0b1110 => BlockRow(Cell(00, 01), Cell(00, 01), Cell(00, 01), Cell(00, 01)),
+        0b1111 => BlockRow(Cell(00, 00), Cell(00, 00), Cell(00, 00), Cell(00, 00)),
+        _ => BlockRow(Cell(00, 00), Cell(00, 00), Cell(00, 00), Cell(00, 00)), // no code
     }
-    if 15 <= code {
-        return 0;
-    }
-    if code <= 7 {
-        return 1 << (code - 1);
-    }
-    1 << (14 - code)
 }
 
-// The first protected block of a part and how many there are from it, 0 and 0 for none.
+// The cell of a row in the column of a size; a number of blocks that is no size has none. (16 stands apart, since a match
+// on four powers of two is compiled to twice as many instructions.)
+fn cell_of(blocks: u16, row: BlockRow) -> Cell
+    ensures { λ r. ⌜ r ≡ cellOf blocks row ⌝ }
+{
+    if 16 <= blocks {
+        if blocks == 16 {
+            return row.0;
+        }
+        return Cell(0, 0);
+    }
+    match blocks {
+        8 => row.1,
+        4 => row.2,
+        1 => row.3,
+        _ => Cell(0, 0),
+    }
+}
+
+// The first protected block of a part and how many there are from it, 0 and 0 for none. A number above 15 is no code.
 pub fn protected_blocks(code: u8, blocks: u16) -> Blocks
     ensures { λ r. ⌜ r ≡ protectedBlocks code blocks ⌝ }
 {
-    let all = blocks as usize;
-    let count = words::lesser(all, blocks_asked(code));
-    let above = 1 <= code;
-    let below = code <= 7;
-    if words::both(above, below) {
-        return Blocks {
-            first: all - count,
-            count: count,
-        };
+    if 16 <= code {
+        return Blocks { first: 0, count: 0 };
     }
+    let cell = cell_of(blocks, block_row(code));
     Blocks {
-        first: 0,
-        count: count,
+        first: cell.0,
+        count: cell.1,
     }
 }
 
-// Whether a block of a part is protected under a code. A block that the part does not have is not.
+// Whether a block of a part is protected under a code. A block that the part does not have is not. (The difference wraps
+// for a block below the first, and is then above every count.)
 pub fn is_protected(code: u8, blocks: u16, block: usize) -> bool
     ensures { λ r. ⌜ r ≡ protected code blocks block ⌝ }
 {
     let held = protected_blocks(code, blocks);
-    let above = held.first <= block;
-    let below = block < held.first + held.count;
-    words::both(above, below)
+    std::num::wrapping_sub_usize(block, held.first) < held.count
 }
 
 // Whether a row is locked under a function register. A row that the part does not have is not.

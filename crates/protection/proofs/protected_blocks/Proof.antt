@@ -1,30 +1,24 @@
--- `protection::protected_blocks` meets its contract: the count is the definition's, and the code decides which end it is.
+-- `protection::protected_blocks` meets its contract: it takes the cell of the code's row in the size's column, and none for a number that is no code.
 use borrow.Author.Needs.{needs}
 use Rattle.paper.specs.Protection.{protectedBlocks}
+use Rattle.paper.proofs.Protected.{table-no-code}
 use Rattle.protection.proofs.protected_blocks.Statement.{statement}
 use Rattle.protection.proofs.protected_blocks.Tie as tie
 
-blocks-asked-requires : tie.Need-blocks-asked-requires
-blocks-asked-requires c κs = search needs
-
-lesser-requires : tie.Need-lesser-requires
-lesser-requires c κs = search needs
-
-both-requires : tie.Need-both-requires
-both-requires c κs = search needs
-
-sub-t9 : tie.Need-sub-t9
-sub-t9 c = search needs
-
 returns : tie.Need-returns
-unfolding protectedBlocks
-returns c = rw (c .before .before .lesser .ensures, c .before .before .before .blocks-asked .ensures, ← c .before .both .ensures, c .if1 .taken)
+returns c =
+    let a = c .before .args in
+    rw (table-no-code (a .code) (a .blocks) (c .if1 .taken))
+
+block-row-requires : tie.Need-block-row-requires
+block-row-requires c κs = search needs
+
+cell-of-requires : tie.Need-cell-of-requires
+cell-of-requires c κs = search needs
 
 returns-2 : tie.Need-returns-2
 unfolding protectedBlocks
-returns-2 c = rw (c .before .before .lesser .ensures, c .before .before .before .blocks-asked .ensures, ← c .before .both .ensures, c .if1 .left)
+returns-2 c = rw (c .cell-of .ensures, c .before .block-row .ensures)
 
 pub protected-blocks-spec : {M : Type 1} → statement M
-protected-blocks-spec =
-    tie.close
-    (tie.spec blocks-asked-requires lesser-requires both-requires sub-t9 returns returns-2)
+protected-blocks-spec = tie.close (tie.spec returns block-row-requires cell-of-requires returns-2)
