@@ -18,9 +18,9 @@ c is r = record { code = c; cells = r }
 -- The sixteen rows, BP3 BP2 BP1 BP0 = 0000 downward to 1111, with a column for each size in the printed order, and then that of the 1-block size, which no source prints.
 -- A cell is the first protected block and how many there are from it; (0, 0) is printed as None. Where print and table differ the cell is named behind its row, and 01's rule
 -- decides it: blank (nothing is printed), shifted (printed one column to the left), garbled ("All Blocks" can be guessed), stray (a mark that is no cell).
---             8 Mbit    4 Mbit    2 Mbit    1 block
 abbrev pub blockTable : List CodeRow
 blockTable =
+    --           8 Mbit    4 Mbit    2 Mbit    1 block
     0b0000 is ((00, 00), (00, 00), (00, 00), (00, 00))
     ∷ 0b0001 is ((15, 01), (07, 01), (03, 01), (00, 01))  -- 4 Mbit blank, 2 Mbit shifted
     ∷ 0b0010 is ((14, 02), (06, 02), (02, 02), (00, 01))

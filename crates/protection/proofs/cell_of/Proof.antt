@@ -1,7 +1,7 @@
 -- `protection::cell_of` meets its contract: each size has its column, and a number of blocks that is no size fails all four tests.
 use Prim.Native.Nat.{_≤_, _<_}
 use native.Mathlib.Omega.{arith}
-use borrow.Author.Tests.{eq-eqb, ne-eqb}
+use borrow.Author.Tests.{ne-eqb}
 use Rattle.paper.specs.BlockTable.{cellOf}
 use Rattle.protection.proofs.cell_of.Statement.{statement}
 use Rattle.protection.proofs.cell_of.Tie as tie
