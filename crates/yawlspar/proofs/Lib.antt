@@ -1,4 +1,5 @@
 pub mod Laws
 pub mod Face
 pub mod Refused
+pub mod Question
 pub mod Tight

@@ -2,22 +2,34 @@
 ghost use mathlib.Core.Path.{_≡_};
 ghost use Rattle.paper.specs.CBench.{protectionNumber, protectedAnswer, placeAnswer};
 
+// The highest code, and the blocks of the largest size.
+const CODE_MOST: u64 = 15;
+
+const BLOCKS_MOST: u64 = 16;
+
 // The protection question's number: 0; 1 for a bad size; 5 for a code above 15; the lower first.
 #[no_mangle]
 pub extern "C" fn yawlspar_protection_number(code: u64, blocks: u64, address: u64) -> u64
     ensures { λ r. ⌜ r ≡ protectionNumber code blocks ⌝ }
 {
     let size = sizes::size_ok(blocks);
-    let known = code <= 15;
+    let known = code <= CODE_MOST;
     words::number_or(size, 1, words::number_or(known, 5, 0)) as u64
 }
 
-// 1 where the address, taken modulo the size, is protected, else 0, also when refused.
+// 1 where the address, taken modulo the size, is protected, else 0, also when refused: what is no size has no column in
+// the block table.
 #[no_mangle]
 pub extern "C" fn yawlspar_protected(code: u64, blocks: u64, address: u64) -> u64
     ensures { λ r. ⌜ r ≡ protectedAnswer code blocks address ⌝ }
 {
-    if yawlspar_protection_number(code, blocks, address) != 0 {
+    if CODE_MOST < code {
+        return 0;
+    }
+    if blocks == 0 {
+        return 0;
+    }
+    if BLOCKS_MOST < blocks {
         return 0;
     }
     let place = address % (blocks * 65536);

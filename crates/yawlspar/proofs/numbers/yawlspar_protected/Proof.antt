@@ -1,53 +1,62 @@
--- `yawlspar::numbers::yawlspar_protected` meets its contract: where the number is 0 the size and the code fit, and the block decides.
-use mathlib.Core.Path.{sym, _∙_}
+-- `yawlspar::numbers::yawlspar_protected` meets its contract: a number that is no code, and more or fewer blocks than a size has, are refused; else the block decides, and what is no size has none.
 use native.Mathlib.Omega.{arith}
-use borrow.Author.Tests.{eq-eqb, ne-eqb}
 use borrow.Author.Needs.{needs}
-use Rattle.paper.proofs.CBench.{answerable}
-use Rattle.paper.specs.CBench.{protectedAnswer}
+use Rattle.paper.proofs.CBench.{Answerable}
+use Rattle.yawlspar.proofs.Question.{unanswered, answered}
 use Rattle.yawlspar.proofs.numbers.yawlspar_protected.Statement.{statement}
 use Rattle.yawlspar.proofs.numbers.yawlspar_protected.Tie as tie
 
-yawlspar-protection-number-requires : tie.Need-yawlspar-protection-number-requires
-yawlspar-protection-number-requires c κs = search needs
-
 returns : tie.Need-returns
-unfolding protectedAnswer
-returns c = rw (← c .before .yawlspar-protection-number .ensures, ne-eqb _ _ (c .if1 .taken))
+returns c =
+    let s = c .before .args in
+    unanswered (s .code) (s .blocks) (s .address) (λ (a : Answerable (s .code) (s .blocks)). omega (arith, c .if1 .taken, a .known))
+
+returns-2 : tie.Need-returns-2
+returns-2 c =
+    let s = c .before .before .args in
+    unanswered (s .code) (s .blocks) (s .address) (λ (a : Answerable (s .code) (s .blocks)). omega (arith, c .if2 .taken, a .some))
+
+returns-3 : tie.Need-returns-3
+returns-3 c =
+    let s = c .before .before .before .args in
+    unanswered (s .code) (s .blocks) (s .address) (λ (a : Answerable (s .code) (s .blocks)). omega (arith, c .if3 .taken, a .few))
 
 mul-place : tie.Need-mul-place
-mul-place c = omega (arith, answerable _ _ (sym (c .before .yawlspar-protection-number .ensures) ∙ c .if1 .left))
+mul-place c = search needs
 
 rem-place : tie.Need-rem-place
-rem-place c = omega (arith, answerable _ _ (sym (c .before .yawlspar-protection-number .ensures) ∙ c .if1 .left))
+rem-place c = search needs
 
 cast-is-protected : tie.Need-cast-is-protected
-cast-is-protected c = omega (arith, answerable _ _ (sym (c .before .yawlspar-protection-number .ensures) ∙ c .if1 .left))
+cast-is-protected c = search needs
 
 cast-is-protected-2 : tie.Need-cast-is-protected-2
-cast-is-protected-2 c = omega (arith, answerable _ _ (sym (c .before .yawlspar-protection-number .ensures) ∙ c .if1 .left))
+cast-is-protected-2 c = search needs
 
 is-protected-requires : tie.Need-is-protected-requires
 is-protected-requires c κs = search needs
 
-returns-2 : tie.Need-returns-2
-unfolding protectedAnswer
-returns-2 c = rw (← c .before .before .before .yawlspar-protection-number .ensures, eq-eqb _ _ (c .before .before .if1 .left), ← c .before .is-protected .ensures, c .if2 .taken)
+returns-4 : tie.Need-returns-4
+returns-4 c =
+    let s = c .before .before .before .before .before .args in
+    rw (← answered (s .code) (s .blocks) (s .address) (omega (arith, c .before .before .before .before .if1 .left)), ← c .before .is-protected .ensures, c .if4 .taken)
 
-returns-3 : tie.Need-returns-3
-unfolding protectedAnswer
-returns-3 c = rw (← c .before .before .before .yawlspar-protection-number .ensures, eq-eqb _ _ (c .before .before .if1 .left), ← c .before .is-protected .ensures, c .if2 .left)
+returns-5 : tie.Need-returns-5
+returns-5 c =
+    let s = c .before .before .before .before .before .args in
+    rw (← answered (s .code) (s .blocks) (s .address) (omega (arith, c .before .before .before .before .if1 .left)), ← c .before .is-protected .ensures, c .if4 .left)
 
 pub yawlspar-protected-spec : {M : Type 1} → statement M
 yawlspar-protected-spec =
     tie.close
     (tie.spec
-    yawlspar-protection-number-requires
     returns
+    returns-2
+    returns-3
     mul-place
     rem-place
     cast-is-protected
     cast-is-protected-2
     is-protected-requires
-    returns-2
-    returns-3)
+    returns-4
+    returns-5)
