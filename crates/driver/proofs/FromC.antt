@@ -14,12 +14,12 @@ use Rattle.paper.specs.Calls.{poweredUp}
 use Rattle.paper.proofs.Kept.{power-up-sound, powered-fresh}
 use Rattle.record_bytes.specs.Layout.{recordBytes}
 use Rattle.record_bytes.specs.Read.{held, recordIn}
-use Rattle.yawlspar.specs.Face.{upNumber, powerUpAnswer, powerUpBytes}
+use Rattle.yawlspar.specs.Face.{identityOf, registersOf, upNumber, powerUpAnswer, powerUpBytes}
 use Rattle.history.specs.Run.{Run}
 use Rattle.history.specs.Course.{course}
 use Rattle.history.proofs.Course.{course-told}
 use Rattle.history.proofs.FromPowerUp.{FromPowerUp, history-told}
-use Rattle.driver.specs.Driven.{CCall, callsOf, Driven, heard, packedSteps, identityOf, registersOf}
+use Rattle.driver.specs.Driven.{CCall, callsOf, Driven, heard, packedSteps}
 use Rattle.driver.proofs.Fitting.{Page, none-page}
 use Rattle.driver.proofs.Holding.{Holding, own-bytes-hold}
 use Rattle.driver.proofs.Runs.{driven-run, driven-heard}

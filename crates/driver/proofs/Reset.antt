@@ -15,14 +15,14 @@ use Rattle.paper.specs.Calls.{poweredUp, transacted}
 use Rattle.paper.specs.History.{Call, recordAfterCall, recordAfterCalls}
 use Rattle.record_bytes.specs.Layout.{recordBytes}
 use Rattle.record_bytes.proofs.Back.{exact}
-use Rattle.yawlspar.specs.Face.{packed, powerUpAnswer, powerUpBytes}
+use Rattle.yawlspar.specs.Face.{packed, identityOf, registersOf, powerUpAnswer, powerUpBytes}
 use Rattle.history.specs.Run.{Run}
 use Rattle.history.specs.Course.{Step, sent, waited, courseOf, endOf}
 use Rattle.history.proofs.Course.{course-told, course-append, run-ends}
 use Rattle.history.proofs.FromPowerUp.{history-told}
 use Rattle.reset.specs.Closing.{wake, reset, allAside, untilArmed, untilReset, closing, poweredAs}
 use Rattle.reset.proofs.Run.{FreshRun, reset-last, reset-after-run}
-use Rattle.driver.specs.Driven.{CCall, transact, callOf, callsOf, Driven, heard, packedSteps, identityOf, registersOf, closingFromC}
+use Rattle.driver.specs.Driven.{CCall, transact, callOf, callsOf, Driven, heard, packedSteps, closingFromC}
 use Rattle.driver.proofs.FromC.{FromC, driven-told}
 
 -- some calls from C, then others

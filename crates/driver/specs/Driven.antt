@@ -6,10 +6,6 @@ use mathlib.Core.List.{List, [], _∷_, _++_}
 use lib.Dec.{eqb, leb}
 use lib.ListN.{length}
 use Rattle.types.specs.declared.Memory.the-variants.{Array, Rows}
-use Rattle.types.specs.declared.Identity.{Identity}
-use Rattle.types.specs.declared.Stored.{Stored}
-use Rattle.paper.specs.Registers.{withBytes}
-use Rattle.paper.specs.Calls.{noStored}
 use Rattle.paper.specs.History.{Call, transaction, ticks}
 use Rattle.history.specs.Course.{Step, sent, waited}
 use Rattle.record_bytes.specs.Read.{recordIn}
@@ -47,13 +43,6 @@ abbrev pub packedSteps : List Step → List ℕ
 packedSteps [] = []
 packedSteps (sent a ∷ ss) = packed (a .number) (a .first) ∷ packedSteps ss
 packedSteps (waited t us ∷ ss) = packed (t .number) (t .done) ∷ packedSteps ss
-
--- the identity and the registers that yawlspar_power_up is given
-abbrev pub identityOf : ℕ → ℕ → ℕ → ℕ → Identity
-identityOf m t c d = record { maker = m; kind = t; capacity = c; device = d }
-
-abbrev pub registersOf : ℕ → ℕ → Stored
-registersOf status function = withBytes status function noStored
 
 -- ABh, then the calls b, 66h, the calls c and 99h, as one-byte transactions with the levels l1, l2 and l3, into buffers that hold x, y and z
 abbrev pub closingFromC : ℕ → ℕ → ℕ → ℕ → ℕ → ℕ → List CCall → List CCall → List CCall

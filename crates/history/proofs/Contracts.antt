@@ -1,21 +1,14 @@
 -- A run is made of calls: what the contracts of `transact`, `tick` and `power_up` allow are its steps and its start. A tick call reports at most the ticks asked.
 use Prim.Native.Nat.{ℕ, _≤_}
 use mathlib.Core.Path.{_≡_}
-use mathlib.Core.Bool.{Bool, true, false, cond}
 use mathlib.Core.List.{List, _∷_}
-use native.Mathlib.Omega.{arith}
-use lib.Dec.{eqb}
 use lib.ListN.{length}
 use denote.Ref.{now}
 use Rattle.types.specs.declared.Record.{Record}
-use Rattle.types.specs.declared.Ticked.{Ticked}
 use Rattle.words.proofs.Allowed.{Follows}
-use Rattle.paper.specs.Soundness.{sound}
-use Rattle.paper.specs.Numbers.{tickNumber}
-use Rattle.paper.specs.Ticks.{recordAfter, workingTicks}
-use Rattle.paper.specs.Calls.{poweredUp, ticked}
+use Rattle.paper.specs.Calls.{poweredUp}
 use Rattle.paper.specs.History.{Call, transaction, ticks}
-use Rattle.paper.proofs.Kept.{works-at-most}
+use Rattle.paper.proofs.CallKept.{done-at-most}
 use Rattle.history.specs.Run.{Run, sends, waits}
 use Rattle.record.proofs.power_up.Reads as power-up
 use Rattle.ticks.proofs.tick.Reads as tick
@@ -38,17 +31,6 @@ pub power-up-start : Follows power-up.Learnt (λ κ a x s. x ≡ poweredUp (a .0
 power-up-start κ a x s l = l
 
 -- the ticks that a tick call reports are at most those asked, whether it is refused or not
-module _ (p : Record) (a r n : ℕ) where
-  done-as : (number : ℕ) (t : Bool)
-      → cond {A = Ticked} t (record { next = recordAfter n p; number = 0; done = workingTicks n p }) (record { next = p; number = number; done = 0 }) .done ≤ n
-  done-as number true = works-at-most n p
-  done-as number false = omega arith
-
-  pub done-at-most : (t : Ticked) → t ≡ ticked p a r n → t .done ≤ n
-  unfolding ticked
-  done-at-most t h =
-      let number = tickNumber (p .part .blocks) (sound p) a r n in
-      rw h (done-as number (eqb number 0))
-
 pub tick-done-at-most : Follows tick.Learnt (λ κ a x s. x .done ≤ a .1 .1 .1 .0)
-tick-done-at-most κ a x s l = done-at-most (a .0) (length (now (a .1 .0))) (length (now (a .1 .1 .0))) (a .1 .1 .1 .0) x (l .0)
+tick-done-at-most κ a x s l =
+    rw (l .0) (done-at-most (a .0) (length (now (a .1 .0))) (length (now (a .1 .1 .0))) (a .1 .1 .1 .0) .0)

@@ -1,18 +1,21 @@
 -- What every call keeps, whether it is refused, ignored or executed: a sound record stays sound, and a part keeps its size.
-use Prim.Native.Nat.{ℕ}
+use Prim.Native.Nat.{ℕ, _≤_}
 use mathlib.Core.Path.{_≡_, refl, _∙_}
 use mathlib.Core.Bool.{Bool, true, false, cond}
 use mathlib.Core.List.{List, [], _∷_}
+use native.Mathlib.Omega.{arith}
 use lib.Dec.{eqb}
+use borrow.Author.Tests.{eqb-true}
 use Rattle.types.specs.declared.Record.{Record}
 use Rattle.types.specs.declared.Ticked.{Ticked}
-use Rattle.paper.specs.Sizes.{arrayBytes, rowsBytes}
+use Rattle.paper.specs.Sizes.{arrayBytes, rowsBytes, tickLimit}
 use Rattle.paper.specs.Soundness.{sound}
 use Rattle.paper.specs.Numbers.{tickNumber}
 use Rattle.paper.specs.Ticks.{recordAfter, workingTicks}
 use Rattle.paper.specs.Calls.{ticked}
 use Rattle.paper.specs.History.{Call, transaction, ticks, recordAfterCall, recordAfterCalls}
-use Rattle.paper.proofs.Kept.{run-sound, run-size}
+use Rattle.paper.proofs.Numbers.{ticks-taken}
+use Rattle.paper.proofs.Kept.{works-at-most, run-sound, run-size}
 use Rattle.paper.proofs.TransactionKept.{transaction-sound, transaction-size}
 
 -- what holds of the record before, and of the one after n ticks, holds of the record after a tick call
@@ -27,6 +30,18 @@ module _ (P : Record → Type 0) (p : Record) (n : ℕ) (same : P p) (ran : P (r
   after-tick-call a r =
       let number = tickNumber (p .part .blocks) (sound p) a r n in
       ran-or-not number (eqb number 0)
+
+-- the ticks that a tick call reports are at most those asked, and at most 4,096, whether it is refused or not
+done-as : (p : Record) (a r n : ℕ) (t : Bool) → eqb (tickNumber (p .part .blocks) (sound p) a r n) 0 ≡ t
+    → let d = cond {A = Ticked} t (record { next = recordAfter n p; number = 0; done = workingTicks n p }) (record { next = p; number = tickNumber (p .part .blocks) (sound p) a r n; done = 0 }) .done in
+    (d ≤ n) × (d ≤ tickLimit)
+done-as p a r n true e =
+    (works-at-most n p, omega (arith, works-at-most n p, ticks-taken _ _ _ _ _ (eqb-true _ _ e) .few))
+done-as p a r n false e = (omega arith, omega arith)
+
+pub done-at-most : (p : Record) (a r n : ℕ) → (ticked p a r n .done ≤ n) × (ticked p a r n .done ≤ tickLimit)
+unfolding ticked
+done-at-most p a r n = done-as p a r n (eqb (tickNumber (p .part .blocks) (sound p) a r n) 0) refl
 
 -- a call on the part's own memory
 pub call-sound : (c : Call) (p : Record) → sound p ≡ true → sound (recordAfterCall c p) ≡ true

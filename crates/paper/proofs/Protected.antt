@@ -13,7 +13,7 @@ use Rattle.types.specs.declared.BlockRow.{BlockRow}
 use Rattle.words.specs.Logic.{_and_, _or_}
 use Rattle.words.proofs.Tests.{and-l, and-r, or-cases}
 use Rattle.paper.specs.Sizes.{sizeOk}
-use Rattle.paper.specs.BlockTable.{CodeRow, none, noRow, blockTable, rowIn, blockRow, cellOf}
+use Rattle.paper.specs.BlockTable.{CodeRow, noBlocks, noRow, blockTable, rowIn, blockRow, cellOf}
 use Rattle.paper.specs.Protection.{blocksAsked, protectedCount, protectsTop, ruleBlocks, blocksOf, protectedBlocks}
 
 -- two cells are the same
@@ -61,7 +61,7 @@ unfolding blockRow
 no-code c l = without-row 16 c blockTable table-codes l
 
 -- a number of blocks that is no size has no column
-untested : (a b c d : Bool) (w x y z : Cell) → (a or b or c or d) ≡ false → cond d w (cond c x (cond b y (cond a z none))) ≡ none
+untested : (a b c d : Bool) (w x y z : Cell) → (a or b or c or d) ≡ false → cond d w (cond c x (cond b y (cond a z noBlocks))) ≡ noBlocks
 unfolding _or_
 untested true b c d w x y z h = absurd (false≢true (sym h))
 untested false true c d w x y z h = absurd (false≢true (sym h))
@@ -69,7 +69,7 @@ untested false false true d w x y z h = absurd (false≢true (sym h))
 untested false false false true w x y z h = absurd (false≢true (sym h))
 untested false false false false w x y z h = refl
 
-pub no-size : (n : ℕ) (r : BlockRow) → sizeOk n ≡ false → cellOf n r ≡ none
+pub no-size : (n : ℕ) (r : BlockRow) → sizeOk n ≡ false → cellOf n r ≡ noBlocks
 unfolding sizeOk cellOf
 no-size n r h =
     untested (eqb n 1) (eqb n 4) (eqb n 8) (eqb n 16) (r .0) (r .1) (r .2) (r .3) h
@@ -103,24 +103,24 @@ column n h =
     (or-cases _ _ h)
 
 -- a number that is no code: its row has no blocks in any column, and the rule gives it none
-four-none : (a b c d : Bool) → cond a none (cond b none (cond c none (cond d none none))) ≡ none
+four-none : (a b c d : Bool) → cond a noBlocks (cond b noBlocks (cond c noBlocks (cond d noBlocks noBlocks))) ≡ noBlocks
 four-none true b c d = refl
 four-none false true c d = refl
 four-none false false true d = refl
 four-none false false false true = refl
 four-none false false false false = refl
 
-no-cell : (n : ℕ) → cellOf n noRow ≡ none
+no-cell : (n : ℕ) → cellOf n noRow ≡ noBlocks
 unfolding cellOf
 no-cell n = four-none (eqb n 16) (eqb n 8) (eqb n 4) (eqb n 1)
 
-no-rule : (c n : ℕ) → 16 ≤ c → ruleBlocks c n ≡ blocksOf none
+no-rule : (c n : ℕ) → 16 ≤ c → ruleBlocks c n ≡ blocksOf noBlocks
 unfolding ruleBlocks blocksAsked _and_ _or_
 no-rule c n l =
     let z : min n 0 ≡ 0 = omega arith in
     rw (ne-eqb c 0 (λ e. omega arith), le-leb 15 c (omega arith), le-leb 1 c (omega arith), lt-leb c 7 (omega arith)) (ap (λ (k : ℕ). blocksOf (0, k)) z)
 
-pub table-no-code : (c n : ℕ) → 16 ≤ c → protectedBlocks c n ≡ blocksOf none
+pub table-no-code : (c n : ℕ) → 16 ≤ c → protectedBlocks c n ≡ blocksOf noBlocks
 unfolding protectedBlocks
 table-no-code c n l =
     ap (λ (r : BlockRow). blocksOf (cellOf n r)) (no-code c l) ∙ ap blocksOf (no-cell n)
@@ -137,7 +137,7 @@ pub table-is-rule : (c n : ℕ) → sizeOk n ≡ true → protectedBlocks c n �
 table-is-rule c n h = code-or-not c n (ltb c 16) refl (column n h)
 
 -- a number of blocks that is no size has no protected blocks
-pub table-no-size : (c n : ℕ) → sizeOk n ≡ false → protectedBlocks c n ≡ blocksOf none
+pub table-no-size : (c n : ℕ) → sizeOk n ≡ false → protectedBlocks c n ≡ blocksOf noBlocks
 unfolding protectedBlocks
 table-no-size c n h = ap blocksOf (no-size n (blockRow c) h)
 

@@ -40,11 +40,11 @@ blockTable =
     ∷ []
 
 -- no block, and a row of four times none
-abbrev pub none : Cell
-none = (0, 0)
+abbrev pub noBlocks : Cell
+noBlocks = (0, 0)
 
 abbrev pub noRow : BlockRow
-noRow = (none, none, none, none)
+noRow = (noBlocks, noBlocks, noBlocks, noBlocks)
 
 -- the cells of the first row that has the code; a number that is no code has none
 abbrev pub rowIn : List CodeRow → ℕ → BlockRow
@@ -57,4 +57,4 @@ blockRow c = rowIn blockTable c
 -- the cell of a row in the column of a size; a number of blocks that is no size has none
 unfoldable pub cellOf : ℕ → BlockRow → Cell
 cellOf n r =
-    cond (eqb n 16) (r .0) (cond (eqb n 8) (r .1) (cond (eqb n 4) (r .2) (cond (eqb n 1) (r .3) none)))
+    cond (eqb n 16) (r .0) (cond (eqb n 8) (r .1) (cond (eqb n 4) (r .2) (cond (eqb n 1) (r .3) noBlocks)))

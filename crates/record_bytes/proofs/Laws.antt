@@ -14,6 +14,7 @@ use Rattle.paper.specs.Sizes.{pageBytes}
 use Rattle.paper.specs.Address.{highFirst}
 use Rattle.paper.specs.Phases.{isIdle}
 use Rattle.paper.proofs.Addresses.{high-first-none, high-first-more}
+use Rattle.runs.proofs.Laws.{copied-whole}
 use Rattle.address.specs.Bytes.{highFirstBytes}
 use Rattle.cells.specs.declared.Cells.{Cells}
 use Rattle.cells.specs.Phases.{cellsOf}
@@ -26,10 +27,6 @@ take-few k l h = take-all 8 (take k l) (simp length-take (omega arith))
 -- the number that two bytes are
 pub two-bytes : (bs : List ℕ) → 2 ≤ length bs → getD bs 0 0 * 256 + getD bs 1 0 ≡ highFirst (take 2 bs)
 two-bytes bs h = omega (arith, high-first-more bs 1 (omega arith), high-first-more bs 0 (omega arith), high-first-none bs)
-
--- bytes that were copied over as many others are those bytes
-pub copied-whole : (s d : List ℕ) → length d ≤ length s → take (length s) s ++ drop (length s) d ≡ s
-copied-whole s d h = rw (take-length, drop-of-length-le d h) (append-nil s)
 
 -- bytes that were copied over the first n of others
 pub copied-over : (bs s : List ℕ) (n : ℕ) → length s ≡ n → take (length s) s ++ drop (length s) bs ≡ s ++ drop n bs

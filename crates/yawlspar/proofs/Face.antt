@@ -23,6 +23,7 @@ use Rattle.paper.specs.Numbers.{laterRefusal, laterTickNumber}
 use Rattle.paper.specs.Calls.{noStored, poweredUp, outcomeOf, outputAfter, ticked, tickedMemory}
 use Rattle.paper.proofs.Sizes.{size-range}
 use Rattle.paper.proofs.Soundness.{recordOf}
+use Rattle.paper.proofs.CallKept.{done-at-most}
 use Rattle.ticks.specs.Waited.{waitedOf, waitedMemory, tickedBy}
 use Rattle.ticks.proofs.Waited.{ticked-told, memory-told}
 use Rattle.record_bytes.specs.declared.Found.{Found}
@@ -30,7 +31,6 @@ use Rattle.record_bytes.specs.Layout.{headerLength, recordLength, recordBytes, 
 use Rattle.record_bytes.specs.Read.{Held, recordIn, found}
 use Rattle.record_bytes.proofs.Back.{held-length, held-state}
 use Rattle.record_bytes.proofs.Changed.{held-changed}
-use Rattle.yawlspar.proofs.Laws.{done-few}
 use Rattle.yawlspar.specs.Face.{packed, givenNumber, upOf, upNumber, powerUpBytes, heldOutcome, transactAnswer, transactBytes, transactOutput, tickAnswer, tickBytes, tickMemory}
 
 -- no record held
@@ -102,7 +102,7 @@ module _ (bs : List ℕ) (e : recordIn bs .ok ≡ true) (x : Found) (ex : x ≡ 
           ap (tickedBy u) (sym (held-state bs e)) ∙ rw (eu, ex) (ticked-told whole lent-length a r n) ∙ ap (λ (q : Record). ticked q a r n) (held-state bs e)
 
       pub told-done : u .done ≤ 4096
-      told-done = rw (ap (λ (y : Ticked). y .done) ticks-told) (done-few held a r n)
+      told-done = rw (ap (λ (y : Ticked). y .done) ticks-told) (done-at-most held a r n .1)
 
       pub tick-answer : packed (u .number) (u .done) ≡ tickAnswer (recordIn bs) a r n
       unfolding tickAnswer

@@ -1,4 +1,4 @@
--- The numbers above an answer's low byte are small: neither a first driven place nor a count of ticks passes 4,096.
+-- A first driven place does not pass 4,096.
 use Prim.Native.Nat.{ℕ, _≤_, min}
 use mathlib.Core.Path.{_≡_, refl}
 use mathlib.Core.Bool.{Bool, true, false, cond}
@@ -11,16 +11,11 @@ use Rattle.types.specs.declared.Phase.{Phase}
 use Rattle.types.specs.declared.Decoded.{Decoded}
 use Rattle.types.specs.declared.Decoded.the-variants.{Known, Unknown}
 use Rattle.types.specs.declared.Part.{Part}
-use Rattle.types.specs.declared.Record.{Record}
 use Rattle.types.specs.declared.Outcome.{Outcome}
-use Rattle.types.specs.declared.Ticked.{Ticked}
 use Rattle.paper.specs.Table.{decoded, columns, isRead}
-use Rattle.paper.specs.Soundness.{sound}
-use Rattle.paper.specs.Ticks.{recordAfter, workingTicks}
-use Rattle.paper.specs.Numbers.{transactionRefusal, tickNumber, ignoredNumber}
-use Rattle.paper.specs.Calls.{refused, outcomeTo, outcomeOf, ticked}
-use Rattle.paper.proofs.Numbers.{transaction-taken, ticks-taken}
-use Rattle.paper.proofs.Kept.{works-at-most}
+use Rattle.paper.specs.Numbers.{transactionRefusal, ignoredNumber}
+use Rattle.paper.specs.Calls.{refused, outcomeTo, outcomeOf}
+use Rattle.paper.proofs.Numbers.{transaction-taken}
 
 first-of : (t : Bool) (x y : Outcome) (n : ℕ) → x .first ≤ n → y .first ≤ n → cond t x y .first ≤ n
 first-of true x y n h k = h
@@ -43,12 +38,3 @@ module _ (p : Part) (f : Phase) (s : Bool) (a r : ℕ) (wp : Bool) (i : List ℕ
   pub first-few : outcomeOf p f s a r wp i o .first ≤ 4096
   unfolding outcomeOf
   first-few = first-as _ refl
-
-done-as : (p : Record) (a r n : ℕ) (t : Bool) (x : Ticked) → eqb (tickNumber (p .part .blocks) (sound p) a r n) 0 ≡ t → x .done ≡ 0
-    → cond t (record { next = recordAfter n p; number = 0; done = workingTicks n p }) x .done ≤ 4096
-done-as p a r n true x e z = omega (arith, works-at-most n p, ticks-taken _ _ _ _ _ (eqb-true _ _ e) .few)
-done-as p a r n false x e z = omega arith
-
-pub done-few : (p : Record) (a r n : ℕ) → ticked p a r n .done ≤ 4096
-unfolding ticked
-done-few p a r n = done-as p a r n _ _ refl refl

@@ -13,19 +13,19 @@ use Rattle.paper.proofs.Protected.{table-no-size}
 use Rattle.paper.proofs.CBench.{Answerable, answerable}
 
 -- refused: 0
-pub unanswered : (code n address : ℕ) → (Answerable code n → ⊥) → 0 ≡ protectedAnswer code n address
+pub answer-refused : (code n address : ℕ) → (Answerable code n → ⊥) → 0 ≡ protectedAnswer code n address
 unfolding protectedAnswer
-unanswered code n address h = rw (ne-eqb (protectionNumber code n) 0 (λ e. h (answerable code n e)))
+answer-refused code n address h = rw (ne-eqb (protectionNumber code n) 0 (λ e. h (answerable code n e)))
 
 no-size-free : (c n k : ℕ) → sizeOk n ≡ false → protected c n k ≡ false
 unfolding protected _and_
 no-size-free c n k h = rw (table-no-size c n h, le-leb 0 k (omega arith), le-ltb k 0 (omega arith))
 
 -- a code that is one, with any number of blocks
-answered-as : (code n address : ℕ) (t : Bool) → sizeOk n ≡ t → code ≤ 15 → bit (protectedAt code n (address % arrayBytes n)) ≡ protectedAnswer code n address
+answer-as : (code n address : ℕ) (t : Bool) → sizeOk n ≡ t → code ≤ 15 → bit (protectedAt code n (address % arrayBytes n)) ≡ protectedAnswer code n address
 unfolding protectedAnswer protectionNumber unless _orElse_
-answered-as code n address true e h = rw (e, le-leb code 15 h)
-answered-as code n address false e h = rw (e, no-size-free code n _ e)
+answer-as code n address true e h = rw (e, le-leb code 15 h)
+answer-as code n address false e h = rw (e, no-size-free code n _ e)
 
-pub answered : (code n address : ℕ) → code ≤ 15 → bit (protectedAt code n (address % arrayBytes n)) ≡ protectedAnswer code n address
-answered code n address h = answered-as code n address (sizeOk n) refl h
+pub answer-any-size : (code n address : ℕ) → code ≤ 15 → bit (protectedAt code n (address % arrayBytes n)) ≡ protectedAnswer code n address
+answer-any-size code n address h = answer-as code n address (sizeOk n) refl h

@@ -5,6 +5,8 @@ use mathlib.Core.Bool.{Bool, false, cond}
 use lib.Dec.{eqb, leb}
 use lib.ListN.{length}
 use Rattle.types.specs.declared.Memory.{Memory}
+use Rattle.types.specs.declared.Identity.{Identity}
+use Rattle.types.specs.declared.Stored.{Stored}
 use Rattle.types.specs.declared.Record.{Record}
 use Rattle.types.specs.declared.Outcome.{Outcome}
 use Rattle.types.specs.declared.Ticked.{Ticked}
@@ -34,10 +36,16 @@ givenNumber l n m t c d status function =
     orElse unless (eqb l recordLength
     and isByte m and isByte t and isByte c and isByte d and isByte status and isByte function) 5
 
+-- the identity and the registers that power-up is given
+abbrev pub identityOf : ℕ → ℕ → ℕ → ℕ → Identity
+identityOf m t c d = record { maker = m; kind = t; capacity = c; device = d }
+
+abbrev pub registersOf : ℕ → ℕ → Stored
+registersOf status function = withBytes status function noStored
+
 -- power-up of a part with the identity M, T, C, D and these registers
 abbrev pub upOf : ℕ → ℕ → ℕ → ℕ → ℕ → ℕ → ℕ → PoweredUp
-upOf n m t c d status function =
-    poweredUp n (record { maker = m; kind = t; capacity = c; device = d }) (withBytes status function noStored)
+upOf n m t c d status function = poweredUp n (identityOf m t c d) (registersOf status function)
 
 -- the number of the C call: the lower first, then power-up's own
 unfoldable pub upNumber : ℕ → ℕ → ℕ → ℕ → ℕ → ℕ → ℕ → ℕ → ℕ

@@ -5,7 +5,7 @@ use native.Mathlib.Omega.{arith}
 use denote.Ref.{now}
 use borrow.Author.Needs.{needs}
 use Rattle.paper.specs.Program.{noData}
-use Rattle.record_bytes.proofs.Laws.{copied-whole}
+use Rattle.runs.proofs.Laws.{copied-whole}
 use Rattle.record_bytes.proofs.writing.write_page.Statement.{statement}
 use Rattle.record_bytes.proofs.writing.write_page.Tie as tie
 

@@ -7,7 +7,8 @@ use borrow.Author.Tests.{eq-eqb, ne-eqb}
 use borrow.Author.Needs.{needs}
 use Rattle.paper.specs.Sizes.{pageBytes}
 use Rattle.record_bytes.specs.Layout.{written, recordBytes}
-use Rattle.record_bytes.proofs.Laws.{page-room, page-laid, copied-whole}
+use Rattle.runs.proofs.Laws.{copied-whole}
+use Rattle.record_bytes.proofs.Laws.{page-room, page-laid}
 use Rattle.record_bytes.proofs.writing.write_record.Statement.{statement}
 use Rattle.record_bytes.proofs.writing.write_record.Tie as tie
 

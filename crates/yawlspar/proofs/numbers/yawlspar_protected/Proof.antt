@@ -2,24 +2,24 @@
 use native.Mathlib.Omega.{arith}
 use borrow.Author.Needs.{needs}
 use Rattle.paper.proofs.CBench.{Answerable}
-use Rattle.yawlspar.proofs.Question.{unanswered, answered}
+use Rattle.yawlspar.proofs.Question.{answer-refused, answer-any-size}
 use Rattle.yawlspar.proofs.numbers.yawlspar_protected.Statement.{statement}
 use Rattle.yawlspar.proofs.numbers.yawlspar_protected.Tie as tie
 
 returns : tie.Need-returns
 returns c =
     let s = c .before .args in
-    unanswered (s .code) (s .blocks) (s .address) (λ (a : Answerable (s .code) (s .blocks)). omega (arith, c .if1 .taken, a .known))
+    answer-refused (s .code) (s .blocks) (s .address) (λ (a : Answerable (s .code) (s .blocks)). omega (arith, c .if1 .taken, a .known))
 
 returns-2 : tie.Need-returns-2
 returns-2 c =
     let s = c .before .before .args in
-    unanswered (s .code) (s .blocks) (s .address) (λ (a : Answerable (s .code) (s .blocks)). omega (arith, c .if2 .taken, a .some))
+    answer-refused (s .code) (s .blocks) (s .address) (λ (a : Answerable (s .code) (s .blocks)). omega (arith, c .if2 .taken, a .some))
 
 returns-3 : tie.Need-returns-3
 returns-3 c =
     let s = c .before .before .before .args in
-    unanswered (s .code) (s .blocks) (s .address) (λ (a : Answerable (s .code) (s .blocks)). omega (arith, c .if3 .taken, a .few))
+    answer-refused (s .code) (s .blocks) (s .address) (λ (a : Answerable (s .code) (s .blocks)). omega (arith, c .if3 .taken, a .few))
 
 mul-place : tie.Need-mul-place
 mul-place c = search needs
@@ -39,12 +39,12 @@ is-protected-requires c κs = search needs
 returns-4 : tie.Need-returns-4
 returns-4 c =
     let s = c .before .before .before .before .before .args in
-    rw (← answered (s .code) (s .blocks) (s .address) (omega (arith, c .before .before .before .before .if1 .left)), ← c .before .is-protected .ensures, c .if4 .taken)
+    rw (← answer-any-size (s .code) (s .blocks) (s .address) (omega (arith, c .before .before .before .before .if1 .left)), ← c .before .is-protected .ensures, c .if4 .taken)
 
 returns-5 : tie.Need-returns-5
 returns-5 c =
     let s = c .before .before .before .before .before .args in
-    rw (← answered (s .code) (s .blocks) (s .address) (omega (arith, c .before .before .before .before .if1 .left)), ← c .before .is-protected .ensures, c .if4 .left)
+    rw (← answer-any-size (s .code) (s .blocks) (s .address) (omega (arith, c .before .before .before .before .if1 .left)), ← c .before .is-protected .ensures, c .if4 .left)
 
 pub yawlspar-protected-spec : {M : Type 1} → statement M
 yawlspar-protected-spec =
