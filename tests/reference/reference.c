@@ -3,7 +3,7 @@
 
 /* ---- The part on the bench ---- */
 
-static bool size_is_good(uint32_t size)
+static bool size_is_good(uint64_t size)
 {
     return size == 1 || size == 4 || size == 8 || size == 16;
 }
@@ -19,25 +19,36 @@ static unsigned bp_code(uint8_t status)
     return (status >> 2) & 15u;
 }
 
-/* Protection: is the block of the address, which is inside the part, protected? */
-static bool address_protected(uint32_t size, uint8_t status, uint32_t address)
+/* Protection: the first block that the code protects, and how many it protects from it on. */
+int ref_protection(uint64_t code, uint64_t size, uint64_t *first, uint64_t *count)
 {
-    unsigned code = bp_code(status);
-    uint32_t block = address / REF_BLOCK;
-    uint32_t many;
+    uint64_t many;
 
+    *first = 0;
+    *count = 0;
+    if (!size_is_good(size))
+        return 1;
+    if (code > 15)
+        return 5;
     if (code == 0 || code == 15)
-        return false;
-    if (code <= 7) {
-        many = (uint32_t)1 << (code - 1);
-        if (many > size)
-            many = size;
-        return block >= size - many; /* the top blocks */
-    }
-    many = (uint32_t)1 << (14 - code);
+        return 0;
+    many = (uint64_t)1 << (code <= 7 ? code - 1 : 14 - code);
     if (many > size)
         many = size;
-    return block < many; /* the bottom blocks */
+    if (code <= 7)
+        *first = size - many; /* the top blocks; the bottom ones are from 0 on */
+    *count = many;
+    return 0;
+}
+
+/* Is the block of the address, which is inside the part, protected? Asked of good sizes only. */
+static bool address_protected(uint32_t size, uint8_t status, uint32_t address)
+{
+    uint32_t block = address / REF_BLOCK;
+    uint64_t first, count;
+
+    ref_protection(bp_code(status), size, &first, &count);
+    return block >= first && block < first + count;
 }
 
 /* IRL0 is function bit 4, IRL3 is function bit 7. */

@@ -1,5 +1,6 @@
-/* Yawlspar's reference model of the part on the bench, written from the specification 01-scope alone.
- * It shares no table, helper or header with the main model. */
+/* Yawlspar's reference model of the part on the bench, written from the specification alone: 01-scope, and
+ * the requests of 02-change-requests that have landed. It shares no table, helper or header with the main
+ * model. */
 #ifndef REFERENCE_H
 #define REFERENCE_H
 
@@ -66,5 +67,9 @@ int ref_transact(struct part *part, const uint8_t *array, size_t array_length, c
 /* *worked is how many ticks did work. */
 int ref_tick(struct part *part, uint8_t *array, size_t array_length, uint8_t *rows,
              size_t rows_length, uint32_t ticks, uint32_t *worked);
+
+/* The protection question, of a code and a size in blocks. *first is the first protected block, and *count
+ * is how many are protected from it on. Both are 0 for none, and when refused. */
+int ref_protection(uint64_t code, uint64_t size, uint64_t *first, uint64_t *count);
 
 #endif
