@@ -21,15 +21,24 @@ extern "C" {
 #endif
 
 /*
- * Says whether yawlspar_protected can answer for these arguments.
+ * The protection question: which blocks the block protection bits protect. For a code and a size it has one
+ * answer, the first protected block and the count of protected blocks from it, and a number that says whether
+ * it can be answered. The four functions below read that answer. Their arguments:
  *
  *   code     the block protection bits BP3..BP0 of the status register, as a number from 0 to 15,
- *            with BP0 as its lowest bit
+ *            with BP0 as its lowest bit: (status >> 2) & 15
  *   blocks   the size of the array in blocks of 65,536 bytes: 1, 4, 8 or 16
- *   address  any number; it does not matter to the result
+ *   address  any number
  *
- * The result is
- *   0  if the question can be answered;
+ * The rule, for an array of N blocks, which are numbered from 0:
+ *   code 0 or 15    no block is protected;
+ *   code c, 1..7    the top min(N, 2^(c-1)) blocks are protected;
+ *   code c, 8..14   the bottom min(N, 2^(14-c)) blocks are protected.
+ */
+
+/*
+ * Says whether the question can be answered. The address does not matter to it. The result is
+ *   0  if it can;
  *   1  if blocks is not 1, 4, 8 or 16;
  *   5  if blocks is one of these and code is above 15.
  * The size is judged first: where both are wrong, the result is 1.
@@ -37,18 +46,22 @@ extern "C" {
 uint64_t yawlspar_protection_number(uint64_t code, uint64_t blocks, uint64_t address);
 
 /*
- * Says whether the byte at an address lies in a block that the block protection bits protect.
+ * Give the first protected block, and how many blocks are protected from it on: block b is protected exactly
+ * where first <= b and b < first + count. Both are 0 where no block is protected, and where
+ * yawlspar_protection_number is not 0.
  *
- * The arguments are those of yawlspar_protection_number. The address is taken modulo the size, which
+ * first + count is at most blocks, and a count of 0 goes with a first of 0.
+ */
+uint64_t yawlspar_protected_first(uint64_t code, uint64_t blocks);
+uint64_t yawlspar_protected_count(uint64_t code, uint64_t blocks);
+
+/*
+ * Says whether the byte at an address lies in a protected block. The address is taken modulo the size, which
  * is blocks * 65536 bytes.
  *
- * The result is 1 if the block of that byte is protected, and 0 if it is not. It is 0 as well where
- * the question cannot be answered; yawlspar_protection_number tells the two cases apart.
- *
- * The rule, for an array of N blocks:
- *   code 0 or 15    no block is protected;
- *   code c, 1..7    the top min(N, 2^(c-1)) blocks are protected;
- *   code c, 8..14   the bottom min(N, 2^(14-c)) blocks are protected.
+ * The result is 1 if its block, address % (blocks * 65536) / 65536, is one of the protected blocks, and 0 if it
+ * is not. It is 0 as well where the question cannot be answered; yawlspar_protection_number tells the two
+ * cases apart.
  */
 uint64_t yawlspar_protected(uint64_t code, uint64_t blocks, uint64_t address);
 

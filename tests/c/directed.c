@@ -1,5 +1,6 @@
 /* Calls whose numbers are worked out by hand from the specification: 1 to 6 in each call that can give them,
- * the lowest where several apply, and the cases 12 and 13 that it works on paper. */
+ * the lowest where several apply, and the cases 12 and 13 that it works on paper. And 28, in the blocks that
+ * yawlspar_protected_first and yawlspar_protected_count name. */
 #include "both.h"
 
 extern void *memcpy(void *, const void *, unsigned long);
@@ -315,6 +316,40 @@ static void identity(void)
     output_is(5, 0x11);
 }
 
+/* ---- Which blocks ---- */
+
+/* A write command at an address, sent with WEL to a part with this status, has this number. */
+static void write_is(uint32_t blocks, uint32_t status, uint8_t command, uint32_t address, uint64_t number)
+{
+    const uint8_t bytes[] = {command, (uint8_t)(address >> 16), (uint8_t)(address >> 8), (uint8_t)address, 0x00};
+    size_t length = command == 0x02 ? 5 : 4;
+    struct call up = fitting(POWER_UP);
+
+    up.blocks = blocks;
+    up.status = status;
+    result_is(&up, 0, 0);
+    sent("\x06", 1, 0, 1);
+    sent(bytes, length, number, length);
+}
+
+/* Programs and erases are ignored with 28 in the protected blocks and in no other. */
+static void protected_blocks(uint32_t blocks)
+{
+    uint32_t code, block;
+
+    for (code = 0; code < 16; code++)
+        for (block = 0; block < blocks; block++) {
+            uint64_t first = yawlspar_protected_first(code, blocks), count = yawlspar_protected_count(code, blocks);
+            uint64_t number = block >= first && block < first + count ? 28 : 0;
+            uint32_t base = block * REF_BLOCK, last = base + REF_BLOCK - 1;
+
+            write_is(blocks, code * 4, 0x02, base, number);
+            write_is(blocks, code * 4, 0xD7, last, number);
+            write_is(blocks, code * 4, 0x52, last, number);
+            write_is(blocks, code * 4, 0xD8, base, number);
+        }
+}
+
 static void on_size(uint32_t blocks)
 {
     struct call no_record;
@@ -329,6 +364,7 @@ static void on_size(uint32_t blocks)
     transact_numbers();
     tick_numbers();
     identity();
+    protected_blocks(blocks);
     end_run();
 }
 

@@ -1,11 +1,14 @@
 /*
- * Compares the three functions of yawlspar.h with their rules, which are written out here in C.
+ * Compares the five functions of yawlspar.h that are on numbers alone with their rules, which are
+ * written out here in C. Those of the protection question are also compared with the block table,
+ * which is worked out by hand, with the reference model, and with one another.
  *
  * It prints the first differences, if there are any, and then one line with the number of
  * comparisons and of differences. The exit status is 0 if there is no difference, and else 1.
  */
 #include <stdint.h>
 
+#include "../reference/reference.h"
 #include "yawlspar.h"
 
 extern int printf(const char *format, ...) __attribute__((format(printf, 1, 2)));
@@ -46,6 +49,28 @@ static uint64_t protected_rule(uint64_t code, uint64_t blocks, uint64_t address)
     if (code <= 7)
         return block >= blocks - lesser(blocks, TWO_TO(code - 1));
     return block < lesser(blocks, TWO_TO(14 - code));
+}
+
+/* The first protected block, found by asking of each block in turn. */
+static uint64_t first_rule(uint64_t code, uint64_t blocks)
+{
+    if (number_rule(code, blocks) != 0)
+        return 0;
+    for (uint64_t block = 0; block < blocks; block++)
+        if (protected_rule(code, blocks, block * BLOCK))
+            return block;
+    return 0;
+}
+
+/* The protected blocks, counted one by one. */
+static uint64_t count_rule(uint64_t code, uint64_t blocks)
+{
+    uint64_t count = 0;
+    if (number_rule(code, blocks) != 0)
+        return 0;
+    for (uint64_t block = 0; block < blocks; block++)
+        count += protected_rule(code, blocks, block * BLOCK);
+    return count;
 }
 
 static uint64_t place_rule(uint64_t start, uint64_t index)
@@ -107,6 +132,26 @@ static void protected_is(uint64_t code, uint64_t blocks, uint64_t address, uint6
         show_three("yawlspar_protected", code, blocks, address, got, wanted);
 }
 
+static void show_two(const char *name, uint64_t code, uint64_t blocks, uint64_t got, uint64_t wanted)
+{
+    printf("%s(code %llu, blocks %llu): got %llu, wanted %llu\n", name, (unsigned long long)code,
+           (unsigned long long)blocks, (unsigned long long)got, (unsigned long long)wanted);
+}
+
+static void first_is(uint64_t code, uint64_t blocks, uint64_t wanted)
+{
+    uint64_t got = call_two(code, blocks, yawlspar_protected_first);
+    if (differ(got, wanted))
+        show_two("yawlspar_protected_first", code, blocks, got, wanted);
+}
+
+static void count_is(uint64_t code, uint64_t blocks, uint64_t wanted)
+{
+    uint64_t got = call_two(code, blocks, yawlspar_protected_count);
+    if (differ(got, wanted))
+        show_two("yawlspar_protected_count", code, blocks, got, wanted);
+}
+
 static void place_is(uint64_t start, uint64_t index, uint64_t wanted)
 {
     uint64_t got = call_two(start, index, yawlspar_page_place);
@@ -126,11 +171,55 @@ static const struct {
     {12, 4, 0x020000, 1},  {12, 4, 0x02FFFF, 1},  {12, 4, 0x030000, 1},  {12, 4, 0x03FFFF, 1},
 };
 
+/* The block table: the first protected block and the count, for each code on each of these sizes. */
+static const uint64_t table_blocks[] = {16, 8, 4, 1};
+static const struct {
+    uint64_t first, count;
+} table[16][COUNT(table_blocks)] = {
+    /*  0 */ {{0, 0}, {0, 0}, {0, 0}, {0, 0}},
+    /*  1 */ {{15, 1}, {7, 1}, {3, 1}, {0, 1}},
+    /*  2 */ {{14, 2}, {6, 2}, {2, 2}, {0, 1}},
+    /*  3 */ {{12, 4}, {4, 4}, {0, 4}, {0, 1}},
+    /*  4 */ {{8, 8}, {0, 8}, {0, 4}, {0, 1}},
+    /*  5 */ {{0, 16}, {0, 8}, {0, 4}, {0, 1}},
+    /*  6 */ {{0, 16}, {0, 8}, {0, 4}, {0, 1}},
+    /*  7 */ {{0, 16}, {0, 8}, {0, 4}, {0, 1}},
+    /*  8 */ {{0, 16}, {0, 8}, {0, 4}, {0, 1}},
+    /*  9 */ {{0, 16}, {0, 8}, {0, 4}, {0, 1}},
+    /* 10 */ {{0, 16}, {0, 8}, {0, 4}, {0, 1}},
+    /* 11 */ {{0, 8}, {0, 8}, {0, 4}, {0, 1}},
+    /* 12 */ {{0, 4}, {0, 4}, {0, 4}, {0, 1}},
+    /* 13 */ {{0, 2}, {0, 2}, {0, 2}, {0, 1}},
+    /* 14 */ {{0, 1}, {0, 1}, {0, 1}, {0, 1}},
+    /* 15 */ {{0, 0}, {0, 0}, {0, 0}, {0, 0}},
+};
+
+/* A bad size, a bad code, and both. Many of them would be good if they were cut to 4, 8 or 32 bits. */
+static const struct {
+    uint64_t code, blocks, number;
+} refused[] = {
+    {1, 0, 1},   {1, 2, 1},    {14, 17, 1},           {1, 256 + 4, 1},  {14, TWO_TO(32) + 16, 1},
+    {17, 16, 5}, {30, 1, 5},   {256 + 1, 4, 5},       {256 + 1, 1, 5},  {TWO_TO(32) + 8, 8, 5},
+    {16, 2, 1},  {17, 260, 1}, {256 + 1, 256 + 1, 1}, {TOP, TOP, 1},
+};
+
 static void fixed_cases(void)
 {
     for (uint64_t i = 0; i < COUNT(fixed); i++) {
         number_is(fixed[i].code, fixed[i].blocks, fixed[i].address, 0);
         protected_is(fixed[i].code, fixed[i].blocks, fixed[i].address, fixed[i].wanted);
+    }
+    for (uint64_t code = 0; code < 16; code++)
+        for (uint64_t i = 0; i < COUNT(table_blocks); i++) {
+            number_is(code, table_blocks[i], 0, 0);
+            first_is(code, table_blocks[i], table[code][i].first);
+            count_is(code, table_blocks[i], table[code][i].count);
+        }
+    for (uint64_t i = 0; i < COUNT(refused); i++) {
+        number_is(refused[i].code, refused[i].blocks, 0, refused[i].number);
+        protected_is(refused[i].code, refused[i].blocks, 0, 0);
+        first_is(refused[i].code, refused[i].blocks, 0);
+        count_is(refused[i].code, refused[i].blocks, 0);
     }
 }
 
@@ -176,6 +265,76 @@ static void protection(void)
                     }
 }
 
+/* ---- First and count. They take no address: each code and size is tried once. */
+
+/* By the rules, and by the reference model. */
+static void first_and_count(uint64_t code, uint64_t blocks)
+{
+    uint64_t first, count;
+    first_is(code, blocks, first_rule(code, blocks));
+    count_is(code, blocks, count_rule(code, blocks));
+    number_is(code, blocks, 0, (uint64_t)ref_protection(code, blocks, &first, &count));
+    first_is(code, blocks, first);
+    count_is(code, blocks, count);
+}
+
+/* The laws that callers rely on. They are checked on what the functions answer, without the rules. */
+
+static void law(const char *text, int holds, uint64_t code, uint64_t blocks, uint64_t first, uint64_t count)
+{
+    if (differ(holds != 0, 1))
+        printf("code %llu, blocks %llu, first %llu, count %llu: it is not so that %s\n",
+               (unsigned long long)code, (unsigned long long)blocks, (unsigned long long)first,
+               (unsigned long long)count, text);
+}
+
+static void law_of_address(uint64_t code, uint64_t blocks, uint64_t address, uint64_t wanted)
+{
+    uint64_t got = call_three(code, blocks, address, yawlspar_protected);
+    if (differ(got, wanted))
+        show_three("by first and count, yawlspar_protected", code, blocks, address, got, wanted);
+}
+
+/* A block is tried in the part itself and at so many times the size beyond it, at last among the last
+   addresses of 64 bits. It is protected exactly where it is one of the count from the first. */
+static const uint64_t times[] = {0, 1, TWO_TO(31), TOP};
+
+static void law_of_block(uint64_t code, uint64_t blocks, uint64_t block, uint64_t first, uint64_t count)
+{
+    uint64_t wanted = first <= block && block - first < count;
+    for (uint64_t i = 0; i < COUNT(times); i++) {
+        uint64_t start = (times[i] * blocks + block) * BLOCK;
+        law_of_address(code, blocks, start, wanted);
+        law_of_address(code, blocks, start + BLOCK - 1, wanted);
+    }
+}
+
+/* Of a size above 16, which is always refused, the first 16 blocks are tried. */
+static void laws(uint64_t code, uint64_t blocks)
+{
+    uint64_t number = call_three(code, blocks, 0, yawlspar_protection_number);
+    uint64_t first = call_two(code, blocks, yawlspar_protected_first);
+    uint64_t count = call_two(code, blocks, yawlspar_protected_count);
+    if (number != 0) {
+        law("both are 0 when refused", first == 0 && count == 0, code, blocks, first, count);
+    } else {
+        law("first + count is at most the size", first <= blocks && count <= blocks - first, code, blocks,
+            first, count);
+        law("first is 0 where count is", first == 0 || count != 0, code, blocks, first, count);
+    }
+    for (uint64_t block = 0; block < lesser(blocks, 16); block++)
+        law_of_block(code, blocks, block, first, count);
+}
+
+static void protected_blocks(void)
+{
+    for (uint64_t i = 0; i < ARGUMENTS; i++)
+        for (uint64_t j = 0; j < ARGUMENTS; j++) {
+            first_and_count(argument(i), argument(j));
+            laws(argument(i), argument(j));
+        }
+}
+
 /* ---- Places in a page. */
 
 /* Great starts and indexes: around each of these numbers, from 300 below it to 300 above it.
@@ -213,6 +372,7 @@ int main(void)
 {
     fixed_cases();
     protection();
+    protected_blocks();
     places();
     printf("numbers: %llu comparisons, %llu differences\n", (unsigned long long)comparisons,
            (unsigned long long)differences);

@@ -1,11 +1,11 @@
 -- The proof of the list of the cases: parts of 16 blocks are among those that the cases speak of, and so are arrays that hold one byte throughout.
 use Prim.Native.Nat.{ℕ, _*_, _/_, _%_, _<_}
-use mathlib.Core.Path.{_≡_, refl, sym, ap, subst⁻¹, _∙_}
+use mathlib.Core.Path.{_≡_, refl, sym, ap, subst, subst⁻¹, _∙_}
 use mathlib.Core.Bool.{true, false}
 use mathlib.Core.List.{List, [], _∷_}
 use native.Mathlib.Omega.{arith}
 use lib.ListN.{length, replicate}
-use borrow.Author.Tests.{lt-ltb, le-leb}
+use Rattle.types.specs.declared.Blocks.{Blocks}
 use Rattle.types.specs.declared.Identity.{Identity}
 use Rattle.types.specs.declared.Stored.{Stored}
 use Rattle.types.specs.declared.Phase.the-variants.{Idle}
@@ -13,6 +13,7 @@ use Rattle.types.specs.declared.PoweredUp.{PoweredUp}
 use Rattle.types.specs.declared.Answer.{Answer}
 use Rattle.types.specs.declared.Record.{Record}
 use Rattle.words.specs.Logic.{_and_, _or_, unless, _orElse_}
+use Rattle.words.proofs.Tests.{fails}
 use Rattle.paper.specs.Sizes.{sizeOk, blockBytes, arrayBytes}
 use Rattle.paper.specs.Soundness.{bitsOk}
 use Rattle.paper.specs.Numbers.{powerUpNumber}
@@ -20,10 +21,10 @@ use Rattle.paper.specs.Calls.{poweredUp}
 use Rattle.paper.specs.Address.{addressIn}
 use Rattle.paper.specs.Records.{fresh}
 use Rattle.paper.specs.BlockTable.{blockRow, cellOf}
-use Rattle.paper.specs.Protection.{codeOf, protectedBlocks, protected, protectedAt, locked}
+use Rattle.paper.specs.Protection.{codeOf, blocksOf, question, protectedBlocks, protectedAt, locked}
+use Rattle.paper.proofs.Protected.{Within, protected-exactly, none-protected, none-counted}
 use Rattle.paper.proofs.Kept.{fresh-sound}
-use Rattle.history.proofs.Shielded.{none-protected, none-asked}
-use Rattle.cases.proofs.Paper.{send, Ready, coded, powered, enabledPart, filled, Free, Part16, Case1, Case2, Case3, Case6, Case7, Case11, Cases}
+use Rattle.cases.proofs.Paper.{send, Ready, coded, powered, enabledPart, filled, Protected, Free, Part16, Case1, Case2, Case3, Case6, Case7, Case11, Cases}
 use Rattle.cases.proofs.Parts.{turned, enabled, enabled-ready, filled-length, filled-at}
 use Rattle.cases.proofs.Everywhere.{everywhere}
 
@@ -70,24 +71,43 @@ module _ (id : Identity) (c k : ℕ) where
 
 -- code 0 protects no address
 free-under : (c n a : ℕ) → c ≡ 0 → Free c n a
-free-under c n a e = ap (λ (x : ℕ). protectedAt x n a) e ∙ none-protected 0 n (a / blockBytes) (none-asked .0)
+free-under c n a e = ap (λ (x : ℕ). protectedAt x n a) e ∙ none-protected 0 n (a / blockBytes) (none-counted n .0)
 
 -- addresses on 16 blocks
 inside-16 : (i : List ℕ) → addressIn 16 i < arrayBytes 16
 unfolding addressIn
 inside-16 i = omega arith
 
+-- the blocks that the protection question answers in cases 1 to 3
+case-blocks : (protectedBlocks 4 16 ≡ blocksOf (8, 8)) × ((protectedBlocks 11 16 ≡ blocksOf (0, 8)) × (protectedBlocks 12 4 ≡ blocksOf (0, 4)))
+unfolding question blockRow cellOf sizeOk _or_ unless _orElse_
+case-blocks = (refl, (refl, refl))
+
+-- an address whose block is one of these is protected, and any other is free
+module _ (c n : ℕ) (b : Blocks) (e : protectedBlocks c n ≡ b) (a : ℕ) where
+  abbrev Held : Blocks → Type 0
+  Held x = Within (x .first) (x .count) (a / blockBytes)
+
+  held : Held b → Protected c n a
+  held h = protected-exactly c n (a / blockBytes) .1 (subst⁻¹ Held e h)
+
+  not-held : (Held b → ⊥) → Free c n a
+  not-held h = fails _ (λ t. h (subst Held e (protected-exactly c n (a / blockBytes) .0 t)))
+
 case-1 : Case1
-unfolding protected protectedBlocks blockRow cellOf _and_ _or_
-case-1 = (refl, refl)
+case-1 = (
+  not-held 4 16 _ (case-blocks .0) 0x07FFFF (λ h. omega (arith, h .0)),
+  held 4 16 _ (case-blocks .0) 0x080000 (omega arith, omega arith),
+)
 
 case-2 : Case2
-unfolding protected protectedBlocks blockRow cellOf _and_ _or_
-case-2 = (refl, refl)
+case-2 = (
+  held 11 16 _ (case-blocks .1 .0) 0x07FFFF (omega arith, omega arith),
+  not-held 11 16 _ (case-blocks .1 .0) 0x080000 (λ h. omega (arith, h .1)),
+)
 
 case-3 : Case3
-unfolding protected protectedBlocks blockRow cellOf _and_ _or_
-case-3 a h = rw (le-leb 0 (a / blockBytes) (omega arith), lt-ltb (a / blockBytes) 4 (omega arith))
+case-3 a h = held 12 4 _ (case-blocks .1 .1) a (omega arith, omega arith)
 
 -- the part after 06h with code 0 and no lock, and its arrays
 module _ (id : Identity) where

@@ -32,7 +32,7 @@ use Rattle.paper.proofs.Addresses.{in-page}
 use Rattle.paper.proofs.Soundness.{recordOf, sound-parts, marked-sound}
 use Rattle.cases.proofs.Paper.{send, Ready, Free, Case4Everywhere, Case5Everywhere, Case6Everywhere, Case7Everywhere, Case8Everywhere, Case9Everywhere, Case10Everywhere, Case11Everywhere, Everywhere}
 use Rattle.paper.proofs.Answers.{executes, ignores, arm-number, read-status-number, reset-number}
-use Rattle.history.proofs.Shielded.{none-protected, none-asked}
+use Rattle.paper.proofs.Protected.{none-protected, none-counted}
 use Rattle.cases.proofs.EraseCut.{erase-begins, erase-runs, erase-runs-on, erase-suspends, cut-arms, cut-resets}
 use Rattle.cases.proofs.Parts.{did, enabled}
 use Rattle.cases.proofs.ProgramRun.{programming}
@@ -48,7 +48,7 @@ chip-barred p r c w = rw (r .awake, r .idle, w, c)
 case-4 : Case4Everywhere
 unfolding decoded
 case-4 p r c w d (n, most) h m l = (
-  ap number (program-run p r w h m l d n most (rw c (none-protected 15 (p .part .blocks) _ (none-asked .1)))),
+  ap number (program-run p r w h m l d n most (rw c (none-protected 15 (p .part .blocks) _ (none-counted (p .part .blocks) .1)))),
   ap number (ignores p (r .is-sound) true ChipErase (0xC7 ∷ []) (omega arith) (omega arith) refl 27 (chip-barred p r c w)),
 )
 

@@ -18,7 +18,7 @@ use Rattle.words.specs.Logic.{_and_, _or_, unless, _orElse_}
 use Rattle.paper.specs.Sizes.{sizeOk, arrayBytes, rowsBytes}
 use Rattle.paper.specs.Address.{addressIn, highFirst, rowOk, rowPlace}
 use Rattle.paper.specs.BlockTable.{blockRow, cellOf}
-use Rattle.paper.specs.Protection.{protectedBlocks, protected, locked, barred}
+use Rattle.paper.specs.Protection.{question, among, locked, barred}
 use Rattle.paper.specs.Program.{noData, pagePlace, programOf}
 use Rattle.paper.specs.Erase.{eraseOf}
 use Rattle.paper.specs.Registers.{writeOf}
@@ -83,6 +83,6 @@ pub record States : Type 0 where
   pub suspended-sector : numbers (recordWith (Suspended (Erase Sector 4096 3)) false true false) codes ≡ whileSuspended
 
 pub states : States
-unfolding transacted outcomeOf transactionRefusal sizeNumber rowsNumber lengthNumber outputNumber soundNumber commandNumber sound partSound operationOk bitsOk pageOk sizeOk decoded addressIn highFirst rowOk rowPlace protected protectedBlocks blockRow cellOf locked barred noData pagePlace programOf eraseOf writeOf _and_ _or_ unless _orElse_
+unfolding transacted outcomeOf transactionRefusal sizeNumber rowsNumber lengthNumber outputNumber soundNumber commandNumber sound partSound operationOk bitsOk pageOk sizeOk decoded addressIn highFirst rowOk rowPlace question among blockRow cellOf locked barred noData pagePlace programOf eraseOf writeOf _and_ _or_ unless _orElse_
 states =
     record { idle = refl; idle-without-wel = refl; asleep = refl; busy-program = refl; busy-sector = refl; busy-chip = refl; busy-row = refl; busy-row-program = refl; busy-write = refl; suspended-program = refl; suspended-sector = refl }

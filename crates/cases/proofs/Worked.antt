@@ -18,7 +18,7 @@ use Rattle.words.specs.Logic.{_and_, _or_, unless, _orElse_}
 use Rattle.paper.specs.Sizes.{sizeOk, arrayBytes, rowsBytes}
 use Rattle.paper.specs.Address.{addressIn, highFirst}
 use Rattle.paper.specs.BlockTable.{blockRow, cellOf}
-use Rattle.paper.specs.Protection.{protectedBlocks, protected}
+use Rattle.paper.specs.Protection.{question, among}
 use Rattle.paper.specs.Registers.{withBytes}
 use Rattle.paper.specs.Program.{noData, pageData, pagePlace, programOf, narrowed}
 use Rattle.paper.specs.Operations.{narrow}
@@ -121,7 +121,7 @@ record Answers (a r : ℕ) : Type 0 where
   resets : did idle 1 ≡ transacted (suspended true) a r true (0x99 ∷ []) 1
 
 answers-told : Answers (arrayBytes 1) rowsBytes
-unfolding transacted outcomeOf ticked tickedMemory transactionRefusal tickNumber sizeNumber rowsNumber lengthNumber outputNumber soundNumber ticksNumber commandNumber sound partSound operationOk bitsOk pageOk sizeOk decoded noData pageData addressIn highFirst protected protectedBlocks blockRow cellOf pagePlace programOf worked _and_ _or_ unless _orElse_
+unfolding transacted outcomeOf ticked tickedMemory transactionRefusal tickNumber sizeNumber rowsNumber lengthNumber outputNumber soundNumber ticksNumber commandNumber sound partSound operationOk bitsOk pageOk sizeOk decoded noData pageData addressIn highFirst question among blockRow cellOf pagePlace programOf worked _and_ _or_ unless _orElse_
 answers-told =
     record { enables = refl; programs = refl; ticks-run = refl; array-ticked = λ xs. refl; rows-ticked = λ rs. refl; suspends = refl; wakes = refl; arms = refl; resets = refl }
 

@@ -3,10 +3,11 @@ use Prim.Native.Nat.{ℕ, zero, suc, _+_, _*_, _/_, _%_, _≤_, _<_}
 use mathlib.Core.Path.{_≡_, refl, sym, ap, _∙_}
 use mathlib.Core.Bool.{Bool, true, false, not, cond, false≢true}
 use mathlib.Core.List.{List, [], _∷_}
+use mathlib.Core.Logic.{_↔_}
 use native.Mathlib.Omega.{arith}
 use lib.ListN.{length, getD}
 use lib.Dec.{eqb, leb, ltb}
-use borrow.Author.Tests.{eqb-true, leb-true, ltb-true, le-ltb}
+use borrow.Author.Tests.{eqb-true, leb-true, ltb-true, not-true}
 use Rattle.types.specs.declared.Memory.{Memory}
 use Rattle.types.specs.declared.Memory.the-variants.{Array, Rows}
 use Rattle.types.specs.declared.EraseUnit.{EraseUnit}
@@ -17,10 +18,10 @@ use Rattle.types.specs.declared.Work.{Work}
 use Rattle.types.specs.declared.Work.the-variants.{NoWork, At}
 use Rattle.types.specs.declared.Stored.{Stored}
 use Rattle.types.specs.declared.Record.{Record}
-use Rattle.words.specs.Logic.{_and_, _or_}
+use Rattle.words.specs.Logic.{_and_}
 use Rattle.words.proofs.Tests.{and-l, and-r}
 use Rattle.paper.specs.Sizes.{arrayBytes, rowsBytes, pageBytes, blockBytes, sameMemory}
-use Rattle.paper.specs.Protection.{codeOf, blocksAsked, protectedBlocks, protected, locked}
+use Rattle.paper.specs.Protection.{codeOf, protectedBlocks, protected, locked}
 use Rattle.paper.specs.Program.{pageBase, pagePlace, narrowedByte}
 use Rattle.paper.specs.Erase.{memoryOf, unitBytes, unitBase, erasedByte}
 use Rattle.paper.specs.Phases.{running, workIs, anyOperation, isBusy}
@@ -29,7 +30,7 @@ use Rattle.paper.specs.Soundness.{sound}
 use Rattle.paper.specs.Ticks.{finished, advanced, worked, tickedAt, recordAfter, touchAt, touchOf}
 use Rattle.paper.specs.Calls.{ticked}
 use Rattle.paper.specs.History.{Call, transaction, ticks, recordAfterCall, tickTouches, callTouches, history, byteAfter, byteAfterAll, shielded, shieldedThroughout}
-use Rattle.paper.proofs.Protected.{none-counted}
+use Rattle.paper.proofs.Protected.{Within, not-free-exactly, none-protected, none-counted}
 use Rattle.paper.proofs.Phases.{rest-idle}
 use Rattle.paper.proofs.Soundness.{InOrder, running-in-order}
 use Rattle.paper.proofs.Kept.{run-sound}
@@ -38,22 +39,13 @@ use Rattle.history.specs.Run.{Run}
 use Rattle.history.proofs.Touches.{bytes-append}
 use Rattle.history.proofs.Told.{run-told}
 
--- a stretch of no blocks has none
-none-in : (f k : ℕ) (t : Bool) → leb f k ≡ t → (t and ltb k (f + 0)) ≡ false
-unfolding _and_
-none-in f k true e = le-ltb k (f + 0) (omega (arith, leb-true f k e))
-none-in f k false e = refl
-
--- a code that asks for no block protects none
-pub none-protected : (c n k : ℕ) → blocksAsked c ≡ 0 → protected c n k ≡ false
-unfolding protected
-none-protected c n k e =
-    rw (none-counted c n e) (none-in (protectedBlocks c n .first) k (leb (protectedBlocks c n .first) k) refl)
-
--- 0 and 15 do
-pub none-asked : (blocksAsked 0 ≡ 0) × (blocksAsked 15 ≡ 0)
-unfolding blocksAsked _or_
-none-asked = (refl, refl)
+-- the bytes of the array that are shielded are those of the protected blocks: first <= block < first + count, under the record's registers
+pub shielded-exactly : (at : ℕ) (p : Record)
+    → (shielded Array at p ≡ true)
+    ↔ Within (protectedBlocks (codeOf (p .part .stored .status)) (p .part .blocks) .first) (protectedBlocks (codeOf (p .part .stored .status)) (p .part .blocks) .count) (at / blockBytes)
+shielded-exactly at p =
+    let e = not-free-exactly at (p .part .blocks) (p .part .stored) in
+    (λ h. e .0 (not-true _ h), λ w. ap not (e .1 w))
 
 -- places of one block, or of one row, are free together
 module _ (n : ℕ) (g : Stored) (at b : ℕ) where
@@ -75,7 +67,7 @@ module _ (n : ℕ) (g : Stored) (at b : ℕ) where
   unit-free Block64 e l h f = same-block (omega arith) f
   unit-free Chip e l h f =
       let z : codeOf (g .status) ≡ 0 = eqb-true _ _ f in
-      ap (λ (c : ℕ). not (protected c n (at / blockBytes))) z ∙ ap not (none-protected 0 n (at / blockBytes) (none-asked .0))
+      ap (λ (c : ℕ). not (protected c n (at / blockBytes))) z ∙ ap not (none-protected 0 n (at / blockBytes) (none-counted n .0))
   unit-free Row e l h f = same-row (omega arith) f
 
 -- a test that only a free place can pass is failed at a place that is not free

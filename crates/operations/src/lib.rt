@@ -3,6 +3,7 @@ ghost use mathlib.Core.Path.{_≡_};
 ghost use Prim.Native.Nat.{_+_};
 ghost use lib.Dec.{leb};
 ghost use Rattle.paper.specs.Sizes.{memoryBytes};
+ghost use Rattle.paper.specs.Protection.{codeOf};
 ghost use Rattle.paper.specs.Registers.{held};
 ghost use Rattle.paper.specs.Operations.{ticksInAll, ticksDone, aligned, inside, free, unitFree, targetFree, memorySuspends, unitSuspends, canSuspend, keptBy};
 ghost use Rattle.paper.specs.Soundness.{contentOk, operationOk};
@@ -133,19 +134,29 @@ fn is_inside(op: Operation, blocks: u16) -> bool
     }
 }
 
+// The code BP3..BP0 of a status register.
+fn code_of(status: u8) -> u8
+    ensures { λ r. ⌜ r ≡ codeOf status ⌝ }
+{
+    status / 4 % 16
+}
+
+// Whether a place of a memory is unprotected or unlocked: the block of an array's place is none of those that the
+// protection question answers.
 fn is_free(memory: Memory, base: usize, blocks: u16, stored: Stored) -> bool
     ensures { λ r. ⌜ r ≡ free memory base blocks stored ⌝ }
 {
     match memory {
-        Memory::Array => !protection::is_protected(
-            stored.status / 4 % 16,
-            blocks,
-            base / types::BLOCK_BYTES,
-        ),
+        Memory::Array => {
+            let code = code_of(stored.status);
+            let held = protection::protected_blocks(code as u64, blocks as u64);
+            !protection::is_among(held, base / types::BLOCK_BYTES)
+        }
         Memory::Rows => !protection::is_locked(stored.function, base / types::PAGE_BYTES),
     }
 }
 
+// Whether a unit is: CER needs all four BP bits 0, whichever blocks they protect.
 fn is_unit_free(unit: EraseUnit, base: usize, blocks: u16, stored: Stored) -> bool
     ensures { λ r. ⌜ r ≡ unitFree unit base blocks stored ⌝ }
 {
@@ -153,7 +164,7 @@ fn is_unit_free(unit: EraseUnit, base: usize, blocks: u16, stored: Stored) -> bo
         EraseUnit::Sector => is_free(Memory::Array, base, blocks, stored),
         EraseUnit::Block32 => is_free(Memory::Array, base, blocks, stored),
         EraseUnit::Block64 => is_free(Memory::Array, base, blocks, stored),
-        EraseUnit::Chip => stored.status / 4 % 16 == 0,
+        EraseUnit::Chip => code_of(stored.status) == 0,
         EraseUnit::Row => is_free(Memory::Rows, base, blocks, stored),
     }
 }

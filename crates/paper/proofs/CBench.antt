@@ -1,19 +1,32 @@
--- What a protection question that is not refused may rest on.
-use Prim.Native.Nat.{ℕ, _≤_}
-use mathlib.Core.Path.{_≡_}
-use borrow.Author.Tests.{leb-true}
-use Rattle.words.proofs.Tests.{unless-zero, orElse-zero}
-use Rattle.paper.specs.CBench.{protectionNumber}
-use Rattle.paper.proofs.Sizes.{size-range}
+-- The protection question as C asks it: how first and count go with the question for one address, and that they are 0 when refused.
+use Prim.Native.Nat.{ℕ, _+_, _*_, _/_, _%_, _<_}
+use mathlib.Core.Path.{_≡_, ap, _∙_, subst}
+use mathlib.Core.Logic.{_↔_}
+use native.Mathlib.Omega.{arith}
+use native.Mathlib.Nat.{mod-eq-of-lt}
+use Rattle.types.specs.declared.Blocks.{Blocks}
+use Rattle.words.specs.Logic.{bit}
+use Rattle.words.proofs.Tests.{bit-one}
+use Rattle.paper.specs.Sizes.{blockBytes, arrayBytes}
+use Rattle.paper.specs.CBench.{protectionNumber, protectedFirst, protectedCount, protectedAnswer}
+use Rattle.paper.proofs.Protected.{Within, protected-exactly, refused-none}
 
-pub record Answerable (code n : ℕ) : Type 0 where
-  pub some : 1 ≤ n
-  pub few : n ≤ 16
-  pub known : code ≤ 15
+module _ (code n : ℕ) where
+  -- the question for an address says 1 exactly where its block, modulo the size, is one of the blocks from first on, count of them
+  pub says-one : (address : ℕ) → (protectedAnswer code n address ≡ 1) ↔ Within (protectedFirst code n) (protectedCount code n) (address % arrayBytes n / blockBytes)
+  says-one address =
+      let k = address % arrayBytes n / blockBytes in
+      (λ e. protected-exactly code n k .0 (bit-one _ e), λ h. ap bit (protected-exactly code n k .1 h))
 
-pub answerable : (code n : ℕ) → protectionNumber code n ≡ 0 → Answerable code n
-unfolding protectionNumber
-answerable code n e =
-    let z = orElse-zero _ _ e in
-    let r = size-range n (unless-zero _ 0 (z .0)) in
-    record { some = r .0; few = r .1; known = leb-true _ _ (unless-zero _ 4 (z .1)) }
+  -- they are exactly the blocks of the part at whose bytes it says 1
+  pub block-says-one : (k i : ℕ) → k < n → i < blockBytes → (protectedAnswer code n (k * blockBytes + i) ≡ 1) ↔ Within (protectedFirst code n) (protectedCount code n) k
+  block-says-one k i l h =
+      let m : (k * blockBytes + i) % arrayBytes n ≡ k * blockBytes + i = mod-eq-of-lt (omega arith) in
+      let e : (k * blockBytes + i) % arrayBytes n / blockBytes ≡ k = ap (λ (a : ℕ). a / blockBytes) m ∙ omega arith in
+      subst (λ (j : ℕ). (protectedAnswer code n (k * blockBytes + i) ≡ 1) ↔ Within (protectedFirst code n) (protectedCount code n) j) e (says-one (k * blockBytes + i))
+
+  -- refused, both are 0
+  pub refused-zero : (protectionNumber code n ≡ 0 → ⊥) → (protectedFirst code n ≡ 0) × (protectedCount code n ≡ 0)
+  refused-zero h =
+      let e = refused-none code n h in
+      (ap (λ (b : Blocks). b .first) e, ap (λ (b : Blocks). b .count) e)

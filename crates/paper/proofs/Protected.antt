@@ -1,20 +1,63 @@
--- The block table says what 01's rule says, on every code and every size; and protected blocks lie inside the part.
-use Prim.Native.Nat.{ℕ, zero, suc, _+_, _-_, _≤_, _<_, min}
+-- The protection question: a block is protected exactly where it is one of the blocks that are answered; these are what 01's rule says, on every code and every size, and lie inside the part; refused, there are none.
+use Prim.Native.Nat.{ℕ, zero, suc, _+_, _-_, _/_, _≤_, _<_, min}
 use mathlib.Core.Path.{_≡_, refl, sym, ap, _∙_, subst⁻¹}
-use mathlib.Core.Bool.{Bool, true, false, cond, false≢true}
-use mathlib.Core.Logic.{⊎-elim}
-use mathlib.Core.List.{List, [], _∷_}
+use mathlib.Core.Bool.{Bool, true, false, not, cond, false≢true}
+use mathlib.Core.Logic.{_↔_, ⊎-elim}
 use native.Mathlib.Omega.{arith}
-use lib.Dec.{eqb, ltb}
-use borrow.Author.Tests.{eqb-true, eqb-false, ltb-true, ltb-false, ne-eqb, le-leb, lt-leb}
+use lib.Dec.{eqb}
+use lib.Pow.{pow-mono}
+use borrow.Author.Tests.{eqb-true, eqb-false, leb-true, ltb-true, not-false, ne-eqb, le-leb, lt-leb, lt-ltb}
+use Rattle.types.specs.declared.Memory.the-variants.{Array}
+use Rattle.types.specs.declared.Stored.{Stored}
 use Rattle.types.specs.declared.Blocks.{Blocks}
 use Rattle.types.specs.declared.Cell.{Cell}
 use Rattle.types.specs.declared.BlockRow.{BlockRow}
-use Rattle.words.specs.Logic.{_and_, _or_}
-use Rattle.words.proofs.Tests.{and-l, and-r, or-cases}
-use Rattle.paper.specs.Sizes.{sizeOk}
-use Rattle.paper.specs.BlockTable.{CodeRow, noBlocks, noRow, blockTable, rowIn, blockRow, cellOf}
-use Rattle.paper.specs.Protection.{blocksAsked, protectedCount, protectsTop, ruleBlocks, blocksOf, protectedBlocks}
+use Rattle.words.specs.Logic.{_and_, _or_, unless, _orElse_}
+use Rattle.words.proofs.Tests.{and-l, and-r, and-in, or-cases, unless-zero, orElse-zero, fails}
+use Rattle.paper.specs.Sizes.{sizeOk, blockBytes}
+use Rattle.paper.specs.BlockTable.{noBlocks, blockRow, cellOf}
+use Rattle.paper.specs.Protection.{codeOf, blocksAsked, ruleCount, protectsTop, ruleBlocks, blocksOf, question, protectedBlocks, among, protected}
+use Rattle.paper.specs.Operations.{free}
+
+-- block k is one of so many blocks from the first on: first <= k < first + count
+abbrev pub Within : ℕ → ℕ → ℕ → Type 0
+Within first count k = (first ≤ k) × (k < first + count)
+
+pub among-exactly : (b : Blocks) (k : ℕ) → (among b k ≡ true) ↔ Within (b .first) (b .count) k
+unfolding among
+among-exactly b k =
+    (λ t. (leb-true _ _ (and-l _ _ t), ltb-true _ _ (and-r _ _ t)), λ w. and-in (le-leb _ _ (w .0)) (lt-ltb _ _ (w .1)))
+
+-- The law by which everything goes that asks: under code c, block k of n is protected exactly where first <= k < first + count, of the answer's first and count.
+pub protected-exactly : (c n k : ℕ) → (protected c n k ≡ true) ↔ Within (protectedBlocks c n .first) (protectedBlocks c n .count) k
+protected-exactly c n k = among-exactly (protectedBlocks c n) k
+
+-- a place of the array, as programs, erases, soundness and history ask for it: it is not free exactly where its block is one of them
+pub not-free-exactly : (at n : ℕ) (s : Stored) → (free Array at n s ≡ false) ↔ Within (protectedBlocks (codeOf (s .status)) n .first) (protectedBlocks (codeOf (s .status)) n .count) (at / blockBytes)
+not-free-exactly at n s =
+    let e = protected-exactly (codeOf (s .status)) n (at / blockBytes) in
+    (λ h. e .0 (not-false _ h), λ w. ap not (e .1 w))
+
+-- where no block is counted, none is protected
+pub none-protected : (c n k : ℕ) → protectedBlocks c n .count ≡ 0 → protected c n k ≡ false
+none-protected c n k e =
+    fails _ (λ t. let w = protected-exactly c n k .0 t in omega (arith, w .0, w .1, e))
+
+-- what a question that is not refused may rest on
+pub record Answerable (c n : ℕ) : Type 0 where
+  pub size : sizeOk n ≡ true
+  pub known : c ≤ 15
+
+pub answerable : (c n : ℕ) → question c n .number ≡ 0 → Answerable c n
+unfolding question
+answerable c n e =
+    let z = orElse-zero _ _ e in
+    record { size = unless-zero _ 0 (z .0); known = leb-true _ _ (unless-zero _ 4 (z .1)) }
+
+-- refused, it has no blocks
+pub refused-none : (c n : ℕ) → (question c n .number ≡ 0 → ⊥) → protectedBlocks c n ≡ blocksOf noBlocks
+unfolding question
+refused-none c n h = rw (ne-eqb _ _ h)
 
 -- two cells are the same
 abbrev sameBlocks : Blocks → Blocks → Bool
@@ -41,25 +84,6 @@ below : (t : ℕ → Bool) (n c : ℕ) → everyBelow t n ≡ true → c < n →
 below t zero c h l = absurd (omega arith)
 below t (suc n) c h l = below-or-last t n c (eqb c n) refl (and-l _ _ h) (below t n c (and-r _ _ h)) l
 
--- the codes of rows are below n
-abbrev codesBelow : ℕ → List CodeRow → Bool
-codesBelow n [] = true
-codesBelow n (r ∷ rs) = ltb (r .code) n and codesBelow n rs
-
-without-row : (n c : ℕ) (rs : List CodeRow) → codesBelow n rs ≡ true → n ≤ c → rowIn rs c ≡ noRow
-without-row n c [] h l = refl
-without-row n c (r ∷ rs) h l =
-    let b : r .code < n = ltb-true _ _ (and-l _ _ h) in
-    rw (ne-eqb c (r .code) (λ e. omega arith)) (without-row n c rs (and-r _ _ h) l)
-
-table-codes : codesBelow 16 blockTable ≡ true
-unfolding _and_
-table-codes = refl
-
-pub no-code : (c : ℕ) → 16 ≤ c → blockRow c ≡ noRow
-unfolding blockRow
-no-code c l = without-row 16 c blockTable table-codes l
-
 -- a number of blocks that is no size has no column
 untested : (a b c d : Bool) (w x y z : Cell) → (a or b or c or d) ≡ false → cond d w (cond c x (cond b y (cond a z noBlocks))) ≡ noBlocks
 unfolding _or_
@@ -83,7 +107,7 @@ abbrev Column : ℕ → Type 0
 Column n = everyBelow (agrees n) 16 ≡ true
 
 columns : (Column 16 × Column 8) × (Column 4 × Column 1)
-unfolding protectedBlocks blockRow cellOf ruleBlocks blocksAsked _and_ _or_
+unfolding question blockRow cellOf ruleBlocks blocksAsked sizeOk _and_ _or_ unless _orElse_
 columns = ((refl, refl), (refl, refl))
 
 column : (n : ℕ) → sizeOk n ≡ true → Column n
@@ -102,74 +126,82 @@ column n h =
     (or-cases _ _ h′))
     (or-cases _ _ h)
 
--- a number that is no code: its row has no blocks in any column, and the rule gives it none
-four-none : (a b c d : Bool) → cond a noBlocks (cond b noBlocks (cond c noBlocks (cond d noBlocks noBlocks))) ≡ noBlocks
-four-none true b c d = refl
-four-none false true c d = refl
-four-none false false true d = refl
-four-none false false false true = refl
-four-none false false false false = refl
+-- on every code and every size the table says what the rule says
+pub table-is-rule : (c n : ℕ) → sizeOk n ≡ true → c ≤ 15 → protectedBlocks c n ≡ ruleBlocks c n
+table-is-rule c n s h = same-blocks _ _ (below (agrees n) 16 c (column n s) (omega arith))
 
-no-cell : (n : ℕ) → cellOf n noRow ≡ noBlocks
-unfolding cellOf
-no-cell n = four-none (eqb n 16) (eqb n 8) (eqb n 4) (eqb n 1)
+-- a code that is one: its blocks are the cell that is looked up; what is no size has none
+looked-as : (c n : ℕ) (t : Bool) → sizeOk n ≡ t → c ≤ 15 → protectedBlocks c n ≡ blocksOf (cellOf n (blockRow c))
+unfolding question unless _orElse_
+looked-as c n true e h = rw (e, le-leb c 15 h)
+looked-as c n false e h = rw (e, no-size n (blockRow c) e)
 
-no-rule : (c n : ℕ) → 16 ≤ c → ruleBlocks c n ≡ blocksOf noBlocks
-unfolding ruleBlocks blocksAsked _and_ _or_
-no-rule c n l =
-    let z : min n 0 ≡ 0 = omega arith in
-    rw (ne-eqb c 0 (λ e. omega arith), le-leb 15 c (omega arith), le-leb 1 c (omega arith), lt-leb c 7 (omega arith)) (ap (λ (k : ℕ). blocksOf (0, k)) z)
+pub looked-up : (c n : ℕ) → c ≤ 15 → protectedBlocks c n ≡ blocksOf (cellOf n (blockRow c))
+looked-up c n h = looked-as c n (sizeOk n) refl h
 
-pub table-no-code : (c n : ℕ) → 16 ≤ c → protectedBlocks c n ≡ blocksOf noBlocks
-unfolding protectedBlocks
-table-no-code c n l =
-    ap (λ (r : BlockRow). blocksOf (cellOf n r)) (no-code c l) ∙ ap blocksOf (no-cell n)
+-- The answer is no blocks where the question is refused, and else the rule's: what holds of both holds of it.
+module _ (P : Blocks → Type 0) (c n : ℕ) (none : P (blocksOf noBlocks)) (ruled : Answerable c n → P (ruleBlocks c n)) where
+  refused-or-not : (t : Bool) → eqb (question c n .number) 0 ≡ t → P (protectedBlocks c n)
+  refused-or-not true e =
+      let a = answerable c n (eqb-true _ _ e) in
+      subst⁻¹ P (table-is-rule c n (a .size) (a .known)) (ruled a)
+  refused-or-not false e = subst⁻¹ P (refused-none c n (eqb-false _ _ e)) none
 
-code-or-not : (c n : ℕ) (t : Bool) → ltb c 16 ≡ t → Column n → protectedBlocks c n ≡ ruleBlocks c n
-unfolding protectedBlocks
-code-or-not c n true e h = same-blocks _ _ (below (agrees n) 16 c h (ltb-true c 16 e))
-code-or-not c n false e h =
-    let l : 16 ≤ c = ltb-false c 16 e in
-    table-no-code c n l ∙ sym (no-rule c n l)
+  by-rule : P (protectedBlocks c n)
+  by-rule = refused-or-not (eqb (question c n .number) 0) refl
 
--- on every size and every number, be it a code or not, the table says what the rule says
-pub table-is-rule : (c n : ℕ) → sizeOk n ≡ true → protectedBlocks c n ≡ ruleBlocks c n
-table-is-rule c n h = code-or-not c n (ltb c 16) refl (column n h)
+-- there are blocks only where it is not refused
+pub some-answerable : (c n : ℕ) → (protectedBlocks c n .count ≡ 0 → ⊥) → Answerable c n
+some-answerable c n =
+    by-rule (λ (b : Blocks). (b .count ≡ 0 → ⊥) → Answerable c n) c n (λ h. absurd (h refl)) (λ a h. a)
 
--- a number of blocks that is no size has no protected blocks
-pub table-no-size : (c n : ℕ) → sizeOk n ≡ false → protectedBlocks c n ≡ blocksOf noBlocks
-unfolding protectedBlocks
-table-no-size c n h = ap blocksOf (no-size n (blockRow c) h)
+-- protected blocks lie inside the part; by the rule, over any number of blocks
+abbrev Inside : ℕ → Blocks → Type 0
+Inside n b = b .first + b .count ≤ n
 
--- by the rule, over any number of blocks, protected blocks lie inside the part
 either-end : (t : Bool) (n k : ℕ) → k ≤ n → cond t (n - k) 0 + k ≤ n
 either-end true n k h = omega arith
 either-end false n k h = omega arith
 
-pub rule-inside : (c n : ℕ) → ruleBlocks c n .first + ruleBlocks c n .count ≤ n
+pub rule-inside : (c n : ℕ) → Inside n (ruleBlocks c n)
 unfolding ruleBlocks
-rule-inside c n = either-end (protectsTop c) n (protectedCount c n) (omega arith)
+rule-inside c n = either-end (protectsTop c) n (ruleCount c n) (omega arith)
 
--- by the table too
-abbrev Inside : ℕ → Blocks → Type 0
-Inside n b = b .first + b .count ≤ n
+pub protected-inside : (c n : ℕ) → Inside n (protectedBlocks c n)
+protected-inside c n = by-rule (Inside n) c n (omega arith) (λ a. rule-inside c n)
 
-size-or-not : (c n : ℕ) (t : Bool) → sizeOk n ≡ t → Inside n (protectedBlocks c n)
-size-or-not c n true h = subst⁻¹ (Inside n) (table-is-rule c n h) (rule-inside c n)
-size-or-not c n false h =
-    let z : 0 ≤ n = omega arith in
-    subst⁻¹ (Inside n) (table-no-size c n h) z
+-- a code that protects top blocks asks for some
+top-asks : (c : ℕ) → protectsTop c ≡ true → 1 ≤ blocksAsked c
+unfolding blocksAsked _or_
+top-asks c t =
+    let l : 1 ≤ c = leb-true _ _ (and-l _ _ t) in
+    let h : c ≤ 7 = leb-true _ _ (and-r _ _ t) in
+    rw (ne-eqb c 0 (λ e. omega arith), lt-leb 15 c (omega arith), le-leb c 7 h) (pow-mono {i = 0} {j = c - 1} (omega arith))
 
-pub protected-inside : (c n : ℕ) → protectedBlocks c n .first + protectedBlocks c n .count ≤ n
-protected-inside c n = size-or-not c n (sizeOk n) refl
+-- a count of 0 goes with a first block of 0; by the rule, over any number of blocks
+abbrev NoneFromZero : Blocks → Type 0
+NoneFromZero b = b .count ≡ 0 → b .first ≡ 0
 
--- a code that asks for no block by the rule has none in the table
-none-or-not : (c n : ℕ) (t : Bool) → sizeOk n ≡ t → blocksAsked c ≡ 0 → protectedBlocks c n .count ≡ 0
+from-zero : (t : Bool) (n k : ℕ) → (t ≡ true → 1 ≤ k) → min n k ≡ 0 → cond t (n - min n k) 0 ≡ 0
+from-zero true n k h e =
+    let l : 1 ≤ k = h refl in
+    omega arith
+from-zero false n k h e = refl
+
+pub rule-from-zero : (c n : ℕ) → NoneFromZero (ruleBlocks c n)
 unfolding ruleBlocks
-none-or-not c n true h e =
+rule-from-zero c n e = from-zero (protectsTop c) n (blocksAsked c) (top-asks c) e
+
+pub none-from-zero : (c n : ℕ) → NoneFromZero (protectedBlocks c n)
+none-from-zero c n = by-rule NoneFromZero c n (λ e. refl) (λ a. rule-from-zero c n)
+
+-- the codes 0 and 15 ask for no block, and have none
+asked-none : (c n : ℕ) → blocksAsked c ≡ 0 → protectedBlocks c n .count ≡ 0
+unfolding ruleBlocks
+asked-none c n e =
     let z : min n (blocksAsked c) ≡ 0 = omega arith in
-    ap (λ (b : Blocks). b .count) (table-is-rule c n h) ∙ z
-none-or-not c n false h e = ap (λ (b : Blocks). b .count) (table-no-size c n h)
+    by-rule (λ (b : Blocks). b .count ≡ 0) c n refl (λ a. z)
 
-pub none-counted : (c n : ℕ) → blocksAsked c ≡ 0 → protectedBlocks c n .count ≡ 0
-none-counted c n e = none-or-not c n (sizeOk n) refl e
+pub none-counted : (n : ℕ) → (protectedBlocks 0 n .count ≡ 0) × (protectedBlocks 15 n .count ≡ 0)
+unfolding blocksAsked _or_
+none-counted n = (asked-none 0 n refl, asked-none 15 n refl)

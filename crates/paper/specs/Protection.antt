@@ -4,9 +4,9 @@ use mathlib.Core.Bool.{Bool, not, cond}
 use lib.Dec.{eqb, ltb, leb}
 use Rattle.types.specs.declared.Blocks.{Blocks}
 use Rattle.types.specs.declared.Cell.{Cell}
-use Rattle.words.specs.Logic.{_and_, _or_}
-use Rattle.paper.specs.Sizes.{blockBytes}
-use Rattle.paper.specs.BlockTable.{blockRow, cellOf}
+use Rattle.words.specs.Logic.{_and_, _or_, unless, _orElse_, whenZero}
+use Rattle.paper.specs.Sizes.{sizeOk, blockBytes}
+use Rattle.paper.specs.BlockTable.{noBlocks, blockRow, cellOf}
 
 -- code c = BP3..BP0, bits 5..2 of the status
 abbrev pub codeOf : ℕ → ℕ
@@ -18,8 +18,8 @@ unfoldable pub blocksAsked : ℕ → ℕ
 blocksAsked c = cond (eqb c 0 or leb 15 c) 0 (cond (leb c 7) (2 ^ (c - 1)) (2 ^ (14 - c)))
 
 -- how many of n blocks it protects: min(N, 2^(c-1)) or min(N, 2^(14-c))
-abbrev pub protectedCount : ℕ → ℕ → ℕ
-protectedCount c n = min n (blocksAsked c)
+abbrev pub ruleCount : ℕ → ℕ → ℕ
+ruleCount c n = min n (blocksAsked c)
 
 -- for c = 1..7 they are the top blocks, for c = 8..14 the bottom ones
 abbrev pub protectsTop : ℕ → Bool
@@ -28,20 +28,40 @@ protectsTop c = leb 1 c and leb c 7
 -- by the rule, the first protected block and how many there are from it; 0 and 0 for none
 unfoldable pub ruleBlocks : ℕ → ℕ → Blocks
 ruleBlocks c n =
-    record { first = cond (protectsTop c) (n - protectedCount c n) 0; count = protectedCount c n }
+    record { first = cond (protectsTop c) (n - ruleCount c n) 0; count = ruleCount c n }
 
 -- a cell of the block table as blocks
 abbrev pub blocksOf : Cell → Blocks
 blocksOf k = record { first = k .0; count = k .1 }
 
--- the same by the block table: the cell of the code's row in the size's column. (Table and rule agree on every size: paper/proofs/Protected.antt.)
-unfoldable pub protectedBlocks : ℕ → ℕ → Blocks
-protectedBlocks c n = blocksOf (cellOf n (blockRow c))
+-- The protection question, of a code and a size, has one answer, and whoever asks reads it from there: its number, and the first protected block with the count of protected blocks from it.
+pub record ProtectionAnswer : Type 0 where
+  pub number : ℕ
+  pub blocks : Blocks
+
+-- its number: 0; 1 for a bad size; 5 for a code above 15; the lower first
+abbrev pub questionNumber : ℕ → ℕ → ℕ
+questionNumber c n = unless (sizeOk n) 1 orElse unless (leb c 15) 5
+
+-- the answer: the blocks are the cell of the code's row in the size's column, 0 and 0 for none; and 0 and 0 where the number is not 0. (The table agrees with the rule on every code and size: paper/proofs/Protected.antt.)
+unfoldable pub question : ℕ → ℕ → ProtectionAnswer
+question c n =
+    record {
+      number = questionNumber c n;
+      blocks = blocksOf (whenZero (questionNumber c n) (cellOf n (blockRow c)) noBlocks);
+    }
+
+-- the protected blocks: the answer without its number
+abbrev pub protectedBlocks : ℕ → ℕ → Blocks
+protectedBlocks c n = question c n .blocks
+
+-- is block k one of these blocks, from the first on?
+unfoldable pub among : Blocks → ℕ → Bool
+among b k = leb (b .first) k and ltb k (b .first + b .count)
 
 -- is block k of n protected?
-unfoldable pub protected : ℕ → ℕ → ℕ → Bool
-protected c n k =
-    leb (protectedBlocks c n .first) k and ltb k (protectedBlocks c n .first + protectedBlocks c n .count)
+abbrev pub protected : ℕ → ℕ → ℕ → Bool
+protected c n k = among (protectedBlocks c n) k
 
 -- is the block of an address protected?
 abbrev pub protectedAt : ℕ → ℕ → ℕ → Bool

@@ -1,30 +1,29 @@
--- A block between the first protected one and the last, and the bits of a byte above its eighth.
+-- A block that is one of several in a row, by a difference that wraps; and the bits of a byte above its eighth.
 use Prim.Native.Nat.{ℕ, _+_, _/_, _%_, _^_, _<_, _≤_}
-use mathlib.Core.Path.{_≡_, refl}
-use mathlib.Core.Bool.{Bool, true, false}
+use mathlib.Core.Path.{_≡_}
 use native.Mathlib.Nat.{div-eq-of-lt}
 use native.Mathlib.Omega.{arith}
-use lib.Dec.{leb, ltb}
+use lib.Dec.{ltb}
 use lib.Pow.{pow-mono}
-use borrow.Author.Tests.{ltb-true, ltb-false, leb-true, le-leb, lt-ltb, le-ltb}
-use Rattle.words.specs.Logic.{_and_}
+use borrow.Author.Tests.{ltb-true, lt-ltb}
+use Rattle.types.specs.declared.Blocks.{Blocks}
+use Rattle.words.proofs.Tests.{same-tests}
+use Rattle.paper.specs.Protection.{among}
+use Rattle.paper.proofs.Protected.{Within, among-exactly}
 
--- a difference w of k and f that wraps is below n where k is one of the n numbers from f on
-module _ (w f n k : ℕ) (e : (w + f) % 2 ^ 64 ≡ k) (h : w < 2 ^ 64) (l : f + n < 2 ^ 64) where
-  outside : (t : Bool) → leb f k ≡ t → n ≤ w → false ≡ (t and ltb k (f + n))
-  unfolding _and_
-  outside true u g = rw (le-ltb k (f + n) (omega (arith, leb-true f k u)))
-  outside false u g = refl
+-- the difference w of block k and the first, where it wraps, is below the count exactly where k is one of the blocks
+module _ (b : Blocks) (k w : ℕ) (e : (w + b .first) % 2 ^ 64 ≡ k) (h : w < 2 ^ 64) (l : b .first + b .count < 2 ^ 64) where
+  below-count : Within (b .first) (b .count) k → w < b .count
+  below-count a =
+      let f : b .first ≤ k = a .0 in
+      let u : k < b .first + b .count = a .1 in
+      omega arith
 
-  inside-or-not : (t : Bool) → ltb w n ≡ t → t ≡ (leb f k and ltb k (f + n))
-  unfolding _and_
-  inside-or-not true t =
-      let g : w < n = ltb-true w n t in
-      rw (le-leb f k (omega arith), lt-ltb k (f + n) (omega arith))
-  inside-or-not false t = outside (leb f k) refl (ltb-false w n t)
-
-  pub inside : ltb w n ≡ (leb f k and ltb k (f + n))
-  inside = inside-or-not (ltb w n) refl
+  pub counted : ltb w (b .count) ≡ among b k
+  counted =
+      same-tests _ _
+      (λ t. let u : w < b .count = ltb-true _ _ t in among-exactly b k .1 (omega arith, omega arith))
+      (λ t. lt-ltb _ _ (below-count (among-exactly b k .0 t)))
 
 -- a byte has no bit above its eighth
 pub no-bit : (x k : ℕ) → x < 256 → 4 ≤ k → x / 2 ^ (4 + k) ≡ 0

@@ -1,10 +1,13 @@
 // Protection: which blocks a code protects, which rows are locked, and when the pin bars a status write.
 ghost use mathlib.Core.Path.{_≡_};
 ghost use Rattle.paper.specs.BlockTable.{blockRow, cellOf};
-ghost use Rattle.paper.specs.Protection.{protectedBlocks, protected, locked, barred};
+ghost use Rattle.paper.specs.Protection.{question, among, locked, barred};
 use types::BlockRow;
 use types::Blocks;
 use types::Cell;
+
+// The highest code.
+const CODE_MOST: u64 = 15;
 
 // The sixteen rows of the block table, BP3 BP2 BP1 BP0 = 0000 downward to 1111, in the layout of table 6.4 of source
 // document 000: a column for each size in the printed order, and then that of the 1-block size, which no source prints.
@@ -38,7 +41,7 @@ fn block_row(code: u8) -> BlockRow
 
 // The cell of a row in the column of a size; a number of blocks that is no size has none. (16 stands apart, since a match
 // on four powers of two is compiled to twice as many instructions.)
-fn cell_of(blocks: u16, row: BlockRow) -> Cell
+fn cell_of(blocks: u64, row: BlockRow) -> Cell
     ensures { λ r. ⌜ r ≡ cellOf blocks row ⌝ }
 {
     if 16 <= blocks {
@@ -55,27 +58,35 @@ fn cell_of(blocks: u16, row: BlockRow) -> Cell
     }
 }
 
-// The first protected block of a part and how many there are from it, 0 and 0 for none. A number above 15 is no code.
-pub fn protected_blocks(code: u8, blocks: u16) -> Blocks
-    ensures { λ r. ⌜ r ≡ protectedBlocks code blocks ⌝ }
+// The protection question's number, of a code and a size: 0; 1 for a bad size; 5 for a code above 15; the lower first.
+pub fn question_number(code: u64, blocks: u64) -> u8
+    ensures { λ r. ⌜ r ≡ question code blocks .number ⌝ }
 {
-    if 16 <= code {
+    let size = sizes::size_ok(blocks);
+    let known = code <= CODE_MOST;
+    words::number_or(size, 1, words::number_or(known, 5, 0))
+}
+
+// Its answer, which everything that asks reads: the first protected block and the count of protected blocks from it, 0 and 0
+// for none, and where the number is not 0.
+pub fn protected_blocks(code: u64, blocks: u64) -> Blocks
+    ensures { λ r. ⌜ r ≡ question code blocks .blocks ⌝ }
+{
+    if CODE_MOST < code {
         return Blocks { first: 0, count: 0 };
     }
-    let cell = cell_of(blocks, block_row(code));
+    let cell = cell_of(blocks, block_row(code as u8));
     Blocks {
         first: cell.0,
         count: cell.1,
     }
 }
 
-// Whether a block of a part is protected under a code. A block that the part does not have is not. (The difference wraps
-// for a block below the first, and is then above every count.)
-pub fn is_protected(code: u8, blocks: u16, block: usize) -> bool
-    ensures { λ r. ⌜ r ≡ protected code blocks block ⌝ }
+// Whether a block is one of these blocks. (The difference wraps for a block below the first, and is then above every count.)
+pub fn is_among(held: Blocks, block: usize) -> bool
+    ensures { λ r. ⌜ r ≡ among held block ⌝ }
 {
-    let held = protected_blocks(code, blocks);
-    std::num::wrapping_sub_usize(block, held.first) < held.count
+    std::num::wrapping_sub_usize(block, held.first as usize) < (held.count as usize)
 }
 
 // Whether a row is locked under a function register. A row that the part does not have is not.

@@ -21,12 +21,12 @@ pub enum Memory {
 
 // So many blocks of the array, from the first of them on.
 pub struct Blocks {
-    pub first: usize,
-    pub count: usize,
+    pub first: u16,
+    pub count: u16,
 }
 
 // A cell of the block table: the first protected block, and how many there are from it.
-pub struct Cell(pub usize, pub usize);
+pub struct Cell(pub u16, pub u16);
 
 // A row of the block table, its cells in the order in which the sizes are printed: 8, 4 and 2 Mbit, and then 1 block.
 pub struct BlockRow(pub Cell, pub Cell, pub Cell, pub Cell);

@@ -2,4 +2,5 @@ pub mod Laws
 pub mod Face
 pub mod Refused
 pub mod Question
+pub mod WhichBlocks
 pub mod Tight

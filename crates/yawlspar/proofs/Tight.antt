@@ -2,6 +2,8 @@
 use denote.Ref.{now}
 use Rattle.words.proofs.Allowed.{OneResult, OneExit, agree}
 use Rattle.yawlspar.proofs.numbers.yawlspar_protection_number.Reads as yawlspar-protection-number
+use Rattle.yawlspar.proofs.numbers.yawlspar_protected_first.Reads as yawlspar-protected-first
+use Rattle.yawlspar.proofs.numbers.yawlspar_protected_count.Reads as yawlspar-protected-count
 use Rattle.yawlspar.proofs.numbers.yawlspar_protected.Reads as yawlspar-protected
 use Rattle.yawlspar.proofs.numbers.yawlspar_page_place.Reads as yawlspar-page-place
 use Rattle.yawlspar.proofs.yawlspar_power_up.Reads as yawlspar-power-up
@@ -10,6 +12,12 @@ use Rattle.yawlspar.proofs.yawlspar_tick.Reads as yawlspar-tick
 
 pub protection-number-one : OneResult yawlspar-protection-number.Learnt
 protection-number-one κ a x y s t p q = agree p q
+
+pub protected-first-one : OneResult yawlspar-protected-first.Learnt
+protected-first-one κ a x y s t p q = agree p q
+
+pub protected-count-one : OneResult yawlspar-protected-count.Learnt
+protected-count-one κ a x y s t p q = agree p q
 
 pub protected-one : OneResult yawlspar-protected.Learnt
 protected-one κ a x y s t p q = agree p q

@@ -1,42 +1,42 @@
 // The C bench's functions on numbers.
 ghost use mathlib.Core.Path.{_≡_};
-ghost use Rattle.paper.specs.CBench.{protectionNumber, protectedAnswer, placeAnswer};
-
-// The highest code, and the blocks of the largest size.
-const CODE_MOST: u64 = 15;
-
-const BLOCKS_MOST: u64 = 16;
+ghost use Rattle.paper.specs.CBench.{protectionNumber, protectedFirst, protectedCount, protectedAnswer, placeAnswer};
 
 // The protection question's number: 0; 1 for a bad size; 5 for a code above 15; the lower first.
 #[no_mangle]
 pub extern "C" fn yawlspar_protection_number(code: u64, blocks: u64, address: u64) -> u64
     ensures { λ r. ⌜ r ≡ protectionNumber code blocks ⌝ }
 {
-    let size = sizes::size_ok(blocks);
-    let known = code <= CODE_MOST;
-    words::number_or(size, 1, words::number_or(known, 5, 0)) as u64
+    protection::question_number(code, blocks) as u64
 }
 
-// 1 where the address, taken modulo the size, is protected, else 0, also when refused: what is no size has no column in
-// the block table.
+// Its first protected block, 0 where there is none and when refused.
+#[no_mangle]
+pub extern "C" fn yawlspar_protected_first(code: u64, blocks: u64) -> u64
+    ensures { λ r. ⌜ r ≡ protectedFirst code blocks ⌝ }
+{
+    protection::protected_blocks(code, blocks).first as u64
+}
+
+// The count of protected blocks from the first on, 0 where there is none and when refused.
+#[no_mangle]
+pub extern "C" fn yawlspar_protected_count(code: u64, blocks: u64) -> u64
+    ensures { λ r. ⌜ r ≡ protectedCount code blocks ⌝ }
+{
+    protection::protected_blocks(code, blocks).count as u64
+}
+
+// 1 where the address, taken modulo the size, is protected, else 0, also when refused: there is then no protected block.
 #[no_mangle]
 pub extern "C" fn yawlspar_protected(code: u64, blocks: u64, address: u64) -> u64
     ensures { λ r. ⌜ r ≡ protectedAnswer code blocks address ⌝ }
 {
-    if CODE_MOST < code {
-        return 0;
-    }
-    if blocks == 0 {
-        return 0;
-    }
-    if BLOCKS_MOST < blocks {
+    let held = protection::protected_blocks(code, blocks);
+    if held.count == 0 {
         return 0;
     }
     let place = address % (blocks * 65536);
-    if protection::is_protected(code as u8, blocks as u16, (place / 65536) as usize) {
-        return 1;
-    }
-    0
+    words::bit_of(protection::is_among(held, (place / 65536) as usize)) as u64
 }
 
 // The place in a page of byte index of bytes that are sent from the place start on; 256 where there is none.

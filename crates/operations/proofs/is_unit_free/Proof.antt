@@ -24,6 +24,9 @@ is-free-requires-3 c κs = search needs
 enum-told-4 : tie.Need-enum-told-4
 enum-told-4 c = search needs
 
+code-of-requires : tie.Need-code-of-requires
+code-of-requires c κs = search needs
+
 enum-told-5 : tie.Need-enum-told-5
 enum-told-5 c = search needs
 
@@ -40,7 +43,7 @@ returns-3 : tie.Need-returns-3
 returns-3 c = rw (c .before .enum-told3 .given .1) (c .is-free3 .ensures)
 
 returns-4 : tie.Need-returns-4
-returns-4 c = rw (c .before .enum-told4 .given .1)
+returns-4 c = rw (c .before .enum-told4 .given .1, c .code-of .ensures)
 
 returns-5 : tie.Need-returns-5
 returns-5 c = rw (c .before .enum-told5 .given .1) (c .is-free4 .ensures)
@@ -56,6 +59,7 @@ is-unit-free-spec =
     enum-told-3
     is-free-requires-3
     enum-told-4
+    code-of-requires
     enum-told-5
     is-free-requires-4
     returns

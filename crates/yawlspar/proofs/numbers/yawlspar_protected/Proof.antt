@@ -1,62 +1,55 @@
--- `yawlspar::numbers::yawlspar_protected` meets its contract: a number that is no code, and more or fewer blocks than a size has, are refused; else the block decides, and what is no size has none.
+-- `yawlspar::numbers::yawlspar_protected` meets its contract: where no block is protected the answer is 0; else the part has a size, and the address's block is one of the protected ones or not.
+use Prim.Native.Nat.{_≤_}
 use native.Mathlib.Omega.{arith}
 use borrow.Author.Needs.{needs}
-use Rattle.paper.proofs.CBench.{Answerable}
-use Rattle.yawlspar.proofs.Question.{answer-refused, answer-any-size}
+use Rattle.yawlspar.proofs.Question.{none-held, some-held}
 use Rattle.yawlspar.proofs.numbers.yawlspar_protected.Statement.{statement}
 use Rattle.yawlspar.proofs.numbers.yawlspar_protected.Tie as tie
 
+protected-blocks-requires : tie.Need-protected-blocks-requires
+protected-blocks-requires c κs = search needs
+
 returns : tie.Need-returns
 returns c =
-    let s = c .before .args in
-    answer-refused (s .code) (s .blocks) (s .address) (λ (a : Answerable (s .code) (s .blocks)). omega (arith, c .if1 .taken, a .known))
-
-returns-2 : tie.Need-returns-2
-returns-2 c =
-    let s = c .before .before .args in
-    answer-refused (s .code) (s .blocks) (s .address) (λ (a : Answerable (s .code) (s .blocks)). omega (arith, c .if2 .taken, a .some))
-
-returns-3 : tie.Need-returns-3
-returns-3 c =
-    let s = c .before .before .before .args in
-    answer-refused (s .code) (s .blocks) (s .address) (λ (a : Answerable (s .code) (s .blocks)). omega (arith, c .if3 .taken, a .few))
+    let a = c .before .before .before .args in
+    let r = c .before .before .protected-blocks in
+    none-held (r .result) (a .code) (a .blocks) (r .ensures) (a .address) (c .if1 .taken)
 
 mul-place : tie.Need-mul-place
-mul-place c = search needs
+mul-place c =
+    let a = c .before .before .before .args in
+    let r = c .before .before .protected-blocks in
+    let h : (1 ≤ a .blocks) × (a .blocks ≤ 16) = some-held (r .result) (a .code) (a .blocks) (r .ensures) (c .if1 .left) in
+    omega (arith, h .1)
 
 rem-place : tie.Need-rem-place
-rem-place c = search needs
+rem-place c =
+    let a = c .before .before .before .args in
+    let r = c .before .before .protected-blocks in
+    let h : (1 ≤ a .blocks) × (a .blocks ≤ 16) = some-held (r .result) (a .code) (a .blocks) (r .ensures) (c .if1 .left) in
+    omega (arith, h .0, h .1)
 
-cast-is-protected : tie.Need-cast-is-protected
-cast-is-protected c = search needs
+is-among-requires : tie.Need-is-among-requires
+is-among-requires c κs = search needs
 
-cast-is-protected-2 : tie.Need-cast-is-protected-2
-cast-is-protected-2 c = search needs
+bit-of-requires : tie.Need-bit-of-requires
+bit-of-requires c κs = search needs
 
-is-protected-requires : tie.Need-is-protected-requires
-is-protected-requires c κs = search needs
+cast-result : tie.Need-cast-result
+cast-result c = search needs
 
-returns-4 : tie.Need-returns-4
-returns-4 c =
-    let s = c .before .before .before .before .before .args in
-    rw (← answer-any-size (s .code) (s .blocks) (s .address) (omega (arith, c .before .before .before .before .if1 .left)), ← c .before .is-protected .ensures, c .if4 .taken)
-
-returns-5 : tie.Need-returns-5
-returns-5 c =
-    let s = c .before .before .before .before .before .args in
-    rw (← answer-any-size (s .code) (s .blocks) (s .address) (omega (arith, c .before .before .before .before .if1 .left)), ← c .before .is-protected .ensures, c .if4 .left)
+returns-2 : tie.Need-returns-2
+returns-2 c = rw (c .bit-of .ensures, c .before .is-among .ensures, c .before .before .before .before .protected-blocks .ensures)
 
 pub yawlspar-protected-spec : {M : Type 1} → statement M
 yawlspar-protected-spec =
     tie.close
     (tie.spec
+    protected-blocks-requires
     returns
-    returns-2
-    returns-3
     mul-place
     rem-place
-    cast-is-protected
-    cast-is-protected-2
-    is-protected-requires
-    returns-4
-    returns-5)
+    is-among-requires
+    bit-of-requires
+    cast-result
+    returns-2)
