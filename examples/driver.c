@@ -67,6 +67,7 @@ static unsigned delay(unsigned ticks)
 /* ---- The driver ---- */
 
 enum command {
+    WRITE_STATUS = 0x01,
     PAGE_PROGRAM = 0x02,
     READ = 0x03,
     READ_STATUS = 0x05,
@@ -123,6 +124,15 @@ static struct waited wait_ready(void)
         waited.polls++;
     }
     return waited;
+}
+
+static void write_status(uint8_t status)
+{
+    uint8_t out[] = {WRITE_STATUS, status}, in[sizeof out];
+
+    send_command(WRITE_ENABLE);
+    spi_transfer(out, in, sizeof out);
+    wait_ready();
 }
 
 static void read_id(uint8_t id[3])
@@ -266,15 +276,20 @@ static void identify(void)
     printf("90h at 01h: maker %02Xh, device %02Xh\n", maker, device);
 }
 
+/* Waits for the erase of a sector that was started. */
+static void finish_sector(uint32_t address)
+{
+    struct waited waited = wait_ready();
+
+    printf("sector %06Xh: %u ticks, %u polls, %u of 16 pages erased\n", (unsigned)address, waited.ticks, waited.polls,
+           erased_pages(address, 16));
+}
+
 static void erase_sector(void)
 {
-    struct waited waited;
-
     start_erase(SECTOR_ERASE, 0x002000);
     printf("sector 002000h: erase started, status %02Xh\n", read_register(READ_STATUS));
-    waited = wait_ready();
-    printf("sector 002000h: %u ticks, %u polls, %u of 16 pages erased\n", waited.ticks, waited.polls,
-           erased_pages(0x002000, 16));
+    finish_sector(0x002000);
     printf("around it: 001FFFh holds %02Xh, 003000h holds %02Xh\n", read_byte(0x001FFF), read_byte(0x003000));
 }
 
@@ -340,6 +355,39 @@ static void reset_during_erase(void)
     printf("reset: status %02Xh, %u of 256 pages erased\n", read_register(READ_STATUS), erased_pages(0x010000, 256));
 }
 
+/* Says which blocks the part's status protects. The model is asked for them: a board's driver has the table of its
+ * data sheet. */
+static void print_protected(void)
+{
+    uint8_t status = read_register(READ_STATUS);
+    uint64_t code = (status >> 2) & 15u;
+    unsigned first = (unsigned)yawlspar_protected_first(code, BLOCKS);
+    unsigned count = (unsigned)yawlspar_protected_count(code, BLOCKS);
+
+    if (count == 0)
+        printf("status %02Xh protects no block\n", status);
+    else
+        printf("status %02Xh protects %u of %u blocks, from block %u on: %06Xh to %06Xh\n", status, count, BLOCKS, first,
+               first * BLOCK_BYTES, (first + count) * BLOCK_BYTES - 1);
+}
+
+static void protect_blocks(void)
+{
+    write_status(0x08);
+    print_protected();
+    printf("an erase in block 14:\n");
+    start_erase(SECTOR_ERASE, 0x0E0000);
+    printf("0E0000h holds %02Xh, status %02Xh\n", read_byte(0x0E0000), read_register(READ_STATUS));
+    start_erase(SECTOR_ERASE, 0x0DF000);
+    finish_sector(0x0DF000);
+    write_status(0x30);
+    print_protected();
+    write_status(0x00);
+    print_protected();
+    start_erase(SECTOR_ERASE, 0x0E0000);
+    finish_sector(0x0E0000);
+}
+
 int main(void)
 {
     power_up();
@@ -349,5 +397,6 @@ int main(void)
     forget_write_enable();
     read_during_erase();
     reset_during_erase();
+    protect_blocks();
     return 0;
 }
