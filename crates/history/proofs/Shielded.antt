@@ -19,7 +19,7 @@ use Rattle.types.specs.declared.Work.the-variants.{NoWork, At}
 use Rattle.types.specs.declared.Stored.{Stored}
 use Rattle.types.specs.declared.Record.{Record}
 use Rattle.words.specs.Logic.{_and_}
-use Rattle.words.proofs.Tests.{and-l, and-r}
+use Rattle.words.proofs.Tests.{and-l, and-r, fails}
 use Rattle.paper.specs.Sizes.{arrayBytes, rowsBytes, pageBytes, blockBytes, sameMemory}
 use Rattle.paper.specs.Protection.{codeOf, protectedBlocks, protected, locked}
 use Rattle.paper.specs.Program.{pageBase, pagePlace, narrowedByte}
@@ -72,8 +72,7 @@ module _ (n : ℕ) (g : Stored) (at b : ℕ) where
 
 -- a test that only a free place can pass is failed at a place that is not free
 failed : (m : Memory) (at n : ℕ) (g : Stored) (t : Bool) → not (free m at n g) ≡ true → (t ≡ true → free m at n g ≡ true) → t ≡ false
-failed m at n g true shut h = absurd (false≢true (ap not (sym (h refl)) ∙ shut))
-failed m at n g false shut h = refl
+failed m at n g t shut h = fails t (λ e. false≢true (ap not (sym (h e)) ∙ shut))
 
 -- what the next tick of an operation that is in order reaches, at a place that is not free
 module _ (at n : ℕ) (g : Stored) where

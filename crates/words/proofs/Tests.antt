@@ -1,12 +1,11 @@
 -- What tests and numbers that were put together say of their parts.
-use mathlib.Core.Path.{_≡_, refl, sym, _∙_}
+use mathlib.Core.Path.{_≡_, refl, sym}
 use mathlib.Core.Bool.{Bool, true, false, false≢true}
 use mathlib.Core.Logic.{_⊎_, inl, inr}
-use Prim.Native.Nat.{ℕ, zero, suc, _≤_, _<_}
+use Prim.Native.Nat.{ℕ, zero, suc, _≤_}
 use native.Mathlib.Omega.{arith}
-use native.Mathlib.Nat.{lt-of-not-le}
 use lib.Dec.{leb}
-use borrow.Author.Tests.{leb-true, leb-false, le-leb, lt-leb}
+use borrow.Author.Tests.{leb-true, le-leb}
 use Rattle.words.specs.Logic.{_and_, _or_, bit, unless, _orElse_}
 
 pub and-l : (a b : Bool) → (a and b) ≡ true → a ≡ true
@@ -78,19 +77,14 @@ orElse-zero zero n e = (refl, e)
 orElse-zero (suc m) n e = absurd (suc-not-zero e)
 
 -- two tests of one fact
-same-leb-as : (a b c d : ℕ) (t : Bool) → leb a b ≡ t → (a ≤ b → c ≤ d) → (c ≤ d → a ≤ b) → leb a b ≡ leb c d
-same-leb-as a b c d true e f g = e ∙ sym (le-leb c d (f (leb-true a b e)))
-same-leb-as a b c d false e f g =
-    let n : d < c = lt-of-not-le (λ (h : c ≤ d). let l : b < a = leb-false a b e in let k : a ≤ b = g h in omega arith) in
-    e ∙ sym (lt-leb c d n)
-
-pub same-leb : (a b c d : ℕ) → (a ≤ b → c ≤ d) → (c ≤ d → a ≤ b) → leb a b ≡ leb c d
-same-leb a b c d f g = same-leb-as a b c d (leb a b) refl f g
-
 pub same-tests : (a b : Bool) → (a ≡ true → b ≡ true) → (b ≡ true → a ≡ true) → a ≡ b
 same-tests true b f g = sym (f refl)
 same-tests false true f g = g refl
 same-tests false false f g = refl
+
+pub same-leb : (a b c d : ℕ) → (a ≤ b → c ≤ d) → (c ≤ d → a ≤ b) → leb a b ≡ leb c d
+same-leb a b c d f g =
+    same-tests _ _ (λ e. le-leb c d (f (leb-true a b e))) (λ e. le-leb a b (g (leb-true c d e)))
 
 -- a test that can't pass fails
 pub fails : (t : Bool) → (t ≡ true → ⊥) → t ≡ false
