@@ -318,11 +318,11 @@ static void identity(void)
 
 /* ---- Which blocks ---- */
 
-/* A write command at an address, sent with WEL to a part with this status, has this number. */
+/* A program or an erase at an address, sent with WEL to a part with this status, has this number. */
 static void write_is(uint32_t blocks, uint32_t status, uint8_t command, uint32_t address, uint64_t number)
 {
     const uint8_t bytes[] = {command, (uint8_t)(address >> 16), (uint8_t)(address >> 8), (uint8_t)address, 0x00};
-    size_t length = command == 0x02 ? 5 : 4;
+    size_t length = command == 0x02 ? 5 : command == 0xC7 ? 1 : 4;
     struct call up = fitting(POWER_UP);
 
     up.blocks = blocks;
@@ -332,22 +332,26 @@ static void write_is(uint32_t blocks, uint32_t status, uint8_t command, uint32_t
     sent(bytes, length, number, length);
 }
 
-/* Programs and erases are ignored with 28 in the protected blocks and in no other. */
+/* Programs and erases are ignored with 28 in the protected blocks and in no other; a chip erase wherever the code is
+ * not 0, though 15 protects no block. SRWD and QE do not matter to them. */
 static void protected_blocks(uint32_t blocks)
 {
     uint32_t code, block;
 
-    for (code = 0; code < 16; code++)
+    for (code = 0; code < 16; code++) {
+        uint64_t first = yawlspar_protected_first(code, blocks), count = yawlspar_protected_count(code, blocks);
+
         for (block = 0; block < blocks; block++) {
-            uint64_t first = yawlspar_protected_first(code, blocks), count = yawlspar_protected_count(code, blocks);
             uint64_t number = block >= first && block < first + count ? 28 : 0;
             uint32_t base = block * REF_BLOCK, last = base + REF_BLOCK - 1;
 
             write_is(blocks, code * 4, 0x02, base, number);
             write_is(blocks, code * 4, 0xD7, last, number);
-            write_is(blocks, code * 4, 0x52, last, number);
-            write_is(blocks, code * 4, 0xD8, base, number);
+            write_is(blocks, code * 4 + 0xC0, 0x52, last, number);
+            write_is(blocks, code * 4 + 0x40, 0xD8, base, number);
         }
+        write_is(blocks, code * 4, 0xC7, 0, code == 0 ? 0 : 28);
+    }
 }
 
 static void on_size(uint32_t blocks)

@@ -22,7 +22,7 @@ use Rattle.paper.specs.Address.{addressIn}
 use Rattle.paper.specs.Records.{fresh}
 use Rattle.paper.specs.BlockTable.{blockRow, cellOf}
 use Rattle.paper.specs.Protection.{codeOf, blocksOf, question, protectedBlocks, protectedAt, locked}
-use Rattle.paper.proofs.Protected.{Within, protected-exactly, none-protected, none-counted}
+use Rattle.paper.proofs.Protected.{InBlocks, protected-exactly, none-protected, none-counted}
 use Rattle.paper.proofs.Kept.{fresh-sound}
 use Rattle.cases.proofs.Paper.{send, Ready, coded, powered, enabledPart, filled, Protected, Free, Part16, Case1, Case2, Case3, Case6, Case7, Case11, Cases}
 use Rattle.cases.proofs.Parts.{turned, enabled, enabled-ready, filled-length, filled-at}
@@ -86,7 +86,7 @@ case-blocks = (refl, (refl, refl))
 -- an address whose block is one of these is protected, and any other is free
 module _ (c n : ℕ) (b : Blocks) (e : protectedBlocks c n ≡ b) (a : ℕ) where
   abbrev Held : Blocks → Type 0
-  Held x = Within (x .first) (x .count) (a / blockBytes)
+  Held x = InBlocks (x .first) (x .count) (a / blockBytes)
 
   held : Held b → Protected c n a
   held h = protected-exactly c n (a / blockBytes) .1 (subst⁻¹ Held e h)

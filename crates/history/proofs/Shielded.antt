@@ -21,7 +21,7 @@ use Rattle.types.specs.declared.Record.{Record}
 use Rattle.words.specs.Logic.{_and_}
 use Rattle.words.proofs.Tests.{and-l, and-r, fails}
 use Rattle.paper.specs.Sizes.{arrayBytes, rowsBytes, pageBytes, blockBytes, sameMemory}
-use Rattle.paper.specs.Protection.{codeOf, protectedBlocks, protected, locked}
+use Rattle.paper.specs.Protection.{codeOf, protected, locked}
 use Rattle.paper.specs.Program.{pageBase, pagePlace, narrowedByte}
 use Rattle.paper.specs.Erase.{memoryOf, unitBytes, unitBase, erasedByte}
 use Rattle.paper.specs.Phases.{running, workIs, anyOperation, isBusy}
@@ -30,7 +30,7 @@ use Rattle.paper.specs.Soundness.{sound}
 use Rattle.paper.specs.Ticks.{finished, advanced, worked, tickedAt, recordAfter, touchAt, touchOf}
 use Rattle.paper.specs.Calls.{ticked}
 use Rattle.paper.specs.History.{Call, transaction, ticks, recordAfterCall, tickTouches, callTouches, history, byteAfter, byteAfterAll, shielded, shieldedThroughout}
-use Rattle.paper.proofs.Protected.{Within, not-free-exactly, none-protected, none-counted}
+use Rattle.paper.proofs.Protected.{Blocked, not-free-exactly, none-protected, none-counted}
 use Rattle.paper.proofs.Phases.{rest-idle}
 use Rattle.paper.proofs.Soundness.{InOrder, running-in-order}
 use Rattle.paper.proofs.Kept.{run-sound}
@@ -40,9 +40,7 @@ use Rattle.history.proofs.Touches.{bytes-append}
 use Rattle.history.proofs.Told.{run-told}
 
 -- the bytes of the array that are shielded are those of the protected blocks: first <= block < first + count, under the record's registers
-pub shielded-exactly : (at : ℕ) (p : Record)
-    → (shielded Array at p ≡ true)
-    ↔ Within (protectedBlocks (codeOf (p .part .stored .status)) (p .part .blocks) .first) (protectedBlocks (codeOf (p .part .stored .status)) (p .part .blocks) .count) (at / blockBytes)
+pub shielded-exactly : (at : ℕ) (p : Record) → (shielded Array at p ≡ true) ↔ Blocked at (p .part .blocks) (p .part .stored)
 shielded-exactly at p =
     let e = not-free-exactly at (p .part .blocks) (p .part .stored) in
     (λ h. e .0 (not-true _ h), λ w. ap not (e .1 w))

@@ -149,8 +149,8 @@ fn is_free(memory: Memory, base: usize, blocks: u16, stored: Stored) -> bool
     match memory {
         Memory::Array => {
             let code = code_of(stored.status);
-            let held = protection::protected_blocks(code as u64, blocks as u64);
-            !protection::is_among(held, base / types::BLOCK_BYTES)
+            let shut = protection::protected_blocks(code as u64, blocks as u64);
+            !protection::is_among(shut, base / types::BLOCK_BYTES)
         }
         Memory::Rows => !protection::is_locked(stored.function, base / types::PAGE_BYTES),
     }

@@ -8,7 +8,10 @@ use lib.Dec.{eqb}
 use lib.Pow.{pow-mono}
 use borrow.Author.Tests.{eqb-true, eqb-false, leb-true, ltb-true, not-false, ne-eqb, le-leb, lt-leb, lt-ltb}
 use Rattle.types.specs.declared.Memory.the-variants.{Array}
+use Rattle.types.specs.declared.EraseUnit.{EraseUnit}
+use Rattle.types.specs.declared.EraseUnit.the-variants.{Sector, Block32, Block64, Chip, Row}
 use Rattle.types.specs.declared.Stored.{Stored}
+use Rattle.types.specs.declared.Operation.the-variants.{Program, Erase}
 use Rattle.types.specs.declared.Blocks.{Blocks}
 use Rattle.types.specs.declared.Cell.{Cell}
 use Rattle.types.specs.declared.BlockRow.{BlockRow}
@@ -17,26 +20,42 @@ use Rattle.words.proofs.Tests.{and-l, and-r, and-in, or-cases, unless-zero, orE
 use Rattle.paper.specs.Sizes.{sizeOk, blockBytes}
 use Rattle.paper.specs.BlockTable.{noBlocks, blockRow, cellOf}
 use Rattle.paper.specs.Protection.{codeOf, blocksAsked, ruleCount, protectsTop, ruleBlocks, blocksOf, question, protectedBlocks, among, protected}
-use Rattle.paper.specs.Operations.{free}
+use Rattle.paper.specs.Operations.{free, targetFree, unitSuspends}
 
 -- block k is one of so many blocks from the first on: first <= k < first + count
-abbrev pub Within : ℕ → ℕ → ℕ → Type 0
-Within first count k = (first ≤ k) × (k < first + count)
+abbrev pub InBlocks : ℕ → ℕ → ℕ → Type 0
+InBlocks first count k = (first ≤ k) × (k < first + count)
 
-pub among-exactly : (b : Blocks) (k : ℕ) → (among b k ≡ true) ↔ Within (b .first) (b .count) k
+pub among-exactly : (b : Blocks) (k : ℕ) → (among b k ≡ true) ↔ InBlocks (b .first) (b .count) k
 unfolding among
 among-exactly b k =
     (λ t. (leb-true _ _ (and-l _ _ t), ltb-true _ _ (and-r _ _ t)), λ w. and-in (le-leb _ _ (w .0)) (lt-ltb _ _ (w .1)))
 
--- The law by which everything goes that asks: under code c, block k of n is protected exactly where first <= k < first + count, of the answer's first and count.
-pub protected-exactly : (c n k : ℕ) → (protected c n k ≡ true) ↔ Within (protectedBlocks c n .first) (protectedBlocks c n .count) k
+-- The law on which rests whatever is said of protected blocks: under code c, block k of n is protected exactly where first <= k < first + count, of the answer's first and count.
+pub protected-exactly : (c n k : ℕ) → (protected c n k ≡ true) ↔ InBlocks (protectedBlocks c n .first) (protectedBlocks c n .count) k
 protected-exactly c n k = among-exactly (protectedBlocks c n) k
 
--- a place of the array, as programs, erases, soundness and history ask for it: it is not free exactly where its block is one of them
-pub not-free-exactly : (at n : ℕ) (s : Stored) → (free Array at n s ≡ false) ↔ Within (protectedBlocks (codeOf (s .status)) n .first) (protectedBlocks (codeOf (s .status)) n .count) (at / blockBytes)
-not-free-exactly at n s =
-    let e = protected-exactly (codeOf (s .status)) n (at / blockBytes) in
+-- the block of place b is one of the protected blocks of a part of n blocks, under the registers
+abbrev pub Blocked : ℕ → ℕ → Stored → Type 0
+Blocked b n s =
+    InBlocks (protectedBlocks (codeOf (s .status)) n .first) (protectedBlocks (codeOf (s .status)) n .count) (b / blockBytes)
+
+-- a place of the array is not free exactly where its block is one of them
+pub not-free-exactly : (b n : ℕ) (s : Stored) → (free Array b n s ≡ false) ↔ Blocked b n s
+not-free-exactly b n s =
+    let e = protected-exactly (codeOf (s .status)) n (b / blockBytes) in
     (λ h. e .0 (not-false _ h), λ w. ap not (e .1 w))
+
+-- so the target of a page program, and that of SER, BER32 and BER64, which are the units that can be suspended: 28 and soundness ask for it. (CER goes by the bits.)
+pub program-exactly : (b p k d n : ℕ) (s : Stored) → (targetFree (Program Array b p k d) n s ≡ false) ↔ Blocked b n s
+program-exactly b p k d n s = not-free-exactly b n s
+
+pub erase-exactly : (u : EraseUnit) (b d n : ℕ) (s : Stored) → unitSuspends u ≡ true → (targetFree (Erase u b d) n s ≡ false) ↔ Blocked b n s
+erase-exactly Sector b d n s h = not-free-exactly b n s
+erase-exactly Block32 b d n s h = not-free-exactly b n s
+erase-exactly Block64 b d n s h = not-free-exactly b n s
+erase-exactly Chip b d n s h = absurd (false≢true h)
+erase-exactly Row b d n s h = absurd (false≢true h)
 
 -- where no block is counted, none is protected
 pub none-protected : (c n k : ℕ) → protectedBlocks c n .count ≡ 0 → protected c n k ≡ false
@@ -93,7 +112,7 @@ untested false false true d w x y z h = absurd (false≢true (sym h))
 untested false false false true w x y z h = absurd (false≢true (sym h))
 untested false false false false w x y z h = refl
 
-pub no-size : (n : ℕ) (r : BlockRow) → sizeOk n ≡ false → cellOf n r ≡ noBlocks
+no-size : (n : ℕ) (r : BlockRow) → sizeOk n ≡ false → cellOf n r ≡ noBlocks
 unfolding sizeOk cellOf
 no-size n r h =
     untested (eqb n 1) (eqb n 4) (eqb n 8) (eqb n 16) (r .0) (r .1) (r .2) (r .3) h
@@ -156,19 +175,16 @@ some-answerable c n =
     by-rule (λ (b : Blocks). (b .count ≡ 0 → ⊥) → Answerable c n) c n (λ h. absurd (h refl)) (λ a h. a)
 
 -- protected blocks lie inside the part; by the rule, over any number of blocks
-abbrev Inside : ℕ → Blocks → Type 0
-Inside n b = b .first + b .count ≤ n
-
 either-end : (t : Bool) (n k : ℕ) → k ≤ n → cond t (n - k) 0 + k ≤ n
 either-end true n k h = omega arith
 either-end false n k h = omega arith
 
-pub rule-inside : (c n : ℕ) → Inside n (ruleBlocks c n)
+pub rule-inside : (c n : ℕ) → ruleBlocks c n .first + ruleBlocks c n .count ≤ n
 unfolding ruleBlocks
 rule-inside c n = either-end (protectsTop c) n (ruleCount c n) (omega arith)
 
-pub protected-inside : (c n : ℕ) → Inside n (protectedBlocks c n)
-protected-inside c n = by-rule (Inside n) c n (omega arith) (λ a. rule-inside c n)
+pub protected-inside : (c n : ℕ) → protectedBlocks c n .first + protectedBlocks c n .count ≤ n
+protected-inside c n = by-rule (λ (b : Blocks). b .first + b .count ≤ n) c n (omega arith) (λ a. rule-inside c n)
 
 -- a code that protects top blocks asks for some
 top-asks : (c : ℕ) → protectsTop c ≡ true → 1 ≤ blocksAsked c
@@ -179,21 +195,19 @@ top-asks c t =
     rw (ne-eqb c 0 (λ e. omega arith), lt-leb 15 c (omega arith), le-leb c 7 h) (pow-mono {i = 0} {j = c - 1} (omega arith))
 
 -- a count of 0 goes with a first block of 0; by the rule, over any number of blocks
-abbrev NoneFromZero : Blocks → Type 0
-NoneFromZero b = b .count ≡ 0 → b .first ≡ 0
-
 from-zero : (t : Bool) (n k : ℕ) → (t ≡ true → 1 ≤ k) → min n k ≡ 0 → cond t (n - min n k) 0 ≡ 0
 from-zero true n k h e =
     let l : 1 ≤ k = h refl in
     omega arith
 from-zero false n k h e = refl
 
-pub rule-from-zero : (c n : ℕ) → NoneFromZero (ruleBlocks c n)
+pub rule-from-zero : (c n : ℕ) → ruleBlocks c n .count ≡ 0 → ruleBlocks c n .first ≡ 0
 unfolding ruleBlocks
 rule-from-zero c n e = from-zero (protectsTop c) n (blocksAsked c) (top-asks c) e
 
-pub none-from-zero : (c n : ℕ) → NoneFromZero (protectedBlocks c n)
-none-from-zero c n = by-rule NoneFromZero c n (λ e. refl) (λ a. rule-from-zero c n)
+pub none-from-zero : (c n : ℕ) → protectedBlocks c n .count ≡ 0 → protectedBlocks c n .first ≡ 0
+none-from-zero c n =
+    by-rule (λ (b : Blocks). b .count ≡ 0 → b .first ≡ 0) c n (λ e. refl) (λ a. rule-from-zero c n)
 
 -- the codes 0 and 15 ask for no block, and have none
 asked-none : (c n : ℕ) → blocksAsked c ≡ 0 → protectedBlocks c n .count ≡ 0

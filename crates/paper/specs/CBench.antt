@@ -7,7 +7,7 @@ use Rattle.paper.specs.Sizes.{arrayBytes}
 use Rattle.paper.specs.Protection.{question, protectedAt}
 use Rattle.paper.specs.Program.{pagePlace}
 
--- the protection question's number: 0; 1 for a bad size; 5 for a code above 15; the lower first
+-- the protection question's number
 abbrev pub protectionNumber : ℕ → ℕ → ℕ
 protectionNumber code n = question code n .number
 

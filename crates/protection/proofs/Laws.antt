@@ -9,11 +9,11 @@ use borrow.Author.Tests.{ltb-true, lt-ltb}
 use Rattle.types.specs.declared.Blocks.{Blocks}
 use Rattle.words.proofs.Tests.{same-tests}
 use Rattle.paper.specs.Protection.{among}
-use Rattle.paper.proofs.Protected.{Within, among-exactly}
+use Rattle.paper.proofs.Protected.{InBlocks, among-exactly}
 
 -- the difference w of block k and the first, where it wraps, is below the count exactly where k is one of the blocks
 module _ (b : Blocks) (k w : ℕ) (e : (w + b .first) % 2 ^ 64 ≡ k) (h : w < 2 ^ 64) (l : b .first + b .count < 2 ^ 64) where
-  below-count : Within (b .first) (b .count) k → w < b .count
+  below-count : InBlocks (b .first) (b .count) k → w < b .count
   below-count a =
       let f : b .first ≤ k = a .0 in
       let u : k < b .first + b .count = a .1 in

@@ -67,8 +67,8 @@ pub fn question_number(code: u64, blocks: u64) -> u8
     words::number_or(size, 1, words::number_or(known, 5, 0))
 }
 
-// Its answer, which everything that asks reads: the first protected block and the count of protected blocks from it, 0 and 0
-// for none, and where the number is not 0.
+// Its answer, which everything that asks reads: the first protected block and the count of protected blocks from it, all of
+// them blocks of the part; 0 and 0 for none, and where the number is not 0.
 pub fn protected_blocks(code: u64, blocks: u64) -> Blocks
     ensures { λ r. ⌜ r ≡ question code blocks .blocks ⌝ }
 {

@@ -5,7 +5,7 @@ use mathlib.Core.Logic.{_↔_}
 use Rattle.words.proofs.Allowed.{Follows}
 use Rattle.paper.specs.Sizes.{blockBytes, arrayBytes}
 use Rattle.paper.specs.CBench.{protectedFirst, protectedCount}
-use Rattle.paper.proofs.Protected.{Within, protected-inside, none-from-zero}
+use Rattle.paper.proofs.Protected.{InBlocks, protected-inside, none-from-zero}
 use Rattle.paper.proofs.CBench.{says-one, block-says-one, refused-zero}
 use Rattle.yawlspar.proofs.numbers.yawlspar_protection_number.Reads as protection-number
 use Rattle.yawlspar.proofs.numbers.yawlspar_protected_first.Reads as protected-first
@@ -16,9 +16,9 @@ use Rattle.yawlspar.proofs.numbers.yawlspar_protected.Reads as protecte
 module _ (code n first count : ℕ) where
   pub record WhichBlocks : Type 0 where
     -- yawlspar_protected says 1 exactly where the block of the address, modulo the size, is one of them
-    pub at-address : Follows protected.Learnt (λ κ a x s. a .0 ≡ code → a .1 .0 ≡ n → (x ≡ 1) ↔ Within first count (a .1 .1 .0 % arrayBytes n / blockBytes))
+    pub at-address : Follows protected.Learnt (λ κ a x s. a .0 ≡ code → a .1 .0 ≡ n → (x ≡ 1) ↔ InBlocks first count (a .1 .1 .0 % arrayBytes n / blockBytes))
     -- so they are exactly the blocks k of the part at whose bytes it says 1
-    pub in-block : (k i : ℕ) → k < n → i < blockBytes → Follows protected.Learnt (λ κ a x s. a .0 ≡ code → a .1 .0 ≡ n → a .1 .1 .0 ≡ k * blockBytes + i → (x ≡ 1) ↔ Within first count k)
+    pub in-block : (k i : ℕ) → k < n → i < blockBytes → Follows protected.Learnt (λ κ a x s. a .0 ≡ code → a .1 .0 ≡ n → a .1 .1 .0 ≡ k * blockBytes + i → (x ≡ 1) ↔ InBlocks first count k)
     -- they end within the part
     pub inside : first + count ≤ n
     -- a count of 0 goes with a first block of 0

@@ -2,7 +2,7 @@
 ghost use mathlib.Core.Path.{_≡_};
 ghost use Rattle.paper.specs.CBench.{protectionNumber, protectedFirst, protectedCount, protectedAnswer, placeAnswer};
 
-// The protection question's number: 0; 1 for a bad size; 5 for a code above 15; the lower first.
+// The protection question's number. The address does not matter to it.
 #[no_mangle]
 pub extern "C" fn yawlspar_protection_number(code: u64, blocks: u64, address: u64) -> u64
     ensures { λ r. ⌜ r ≡ protectionNumber code blocks ⌝ }
@@ -26,7 +26,8 @@ pub extern "C" fn yawlspar_protected_count(code: u64, blocks: u64) -> u64
     protection::protected_blocks(code, blocks).count as u64
 }
 
-// 1 where the address, taken modulo the size, is protected, else 0, also when refused: there is then no protected block.
+// 1 where the address, taken modulo the size, is protected, else 0, also when refused: there is then no protected block. (Where
+// there is one, the size is good, and not 0 to divide by.)
 #[no_mangle]
 pub extern "C" fn yawlspar_protected(code: u64, blocks: u64, address: u64) -> u64
     ensures { λ r. ⌜ r ≡ protectedAnswer code blocks address ⌝ }

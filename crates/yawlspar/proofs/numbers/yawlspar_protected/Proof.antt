@@ -1,5 +1,4 @@
 -- `yawlspar::numbers::yawlspar_protected` meets its contract: where no block is protected the answer is 0; else the part has a size, and the address's block is one of the protected ones or not.
-use Prim.Native.Nat.{_≤_}
 use native.Mathlib.Omega.{arith}
 use borrow.Author.Needs.{needs}
 use Rattle.yawlspar.proofs.Question.{none-held, some-held}
@@ -19,15 +18,13 @@ mul-place : tie.Need-mul-place
 mul-place c =
     let a = c .before .before .before .args in
     let r = c .before .before .protected-blocks in
-    let h : (1 ≤ a .blocks) × (a .blocks ≤ 16) = some-held (r .result) (a .code) (a .blocks) (r .ensures) (c .if1 .left) in
-    omega (arith, h .1)
+    omega (arith, some-held (r .result) (a .code) (a .blocks) (r .ensures) (c .if1 .left) .1)
 
 rem-place : tie.Need-rem-place
 rem-place c =
     let a = c .before .before .before .args in
     let r = c .before .before .protected-blocks in
-    let h : (1 ≤ a .blocks) × (a .blocks ≤ 16) = some-held (r .result) (a .code) (a .blocks) (r .ensures) (c .if1 .left) in
-    omega (arith, h .0, h .1)
+    omega (arith, some-held (r .result) (a .code) (a .blocks) (r .ensures) (c .if1 .left) .0)
 
 is-among-requires : tie.Need-is-among-requires
 is-among-requires c κs = search needs
