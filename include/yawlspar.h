@@ -23,8 +23,8 @@ extern "C" {
 /*
  * The protection question: which blocks the block protection bits protect. For a code and a size it has one
  * answer, the first protected block and the count of protected blocks from it, and a number that says whether
- * it can be answered. The four functions below read that answer. Their arguments, of which two functions take
- * the first two:
+ * it can be answered. The four functions below read that answer. Their arguments; those that give first and
+ * count take no address:
  *
  *   code     the block protection bits BP3..BP0 of the status register, as a number from 0 to 15,
  *            with BP0 as its lowest bit: (status >> 2) & 15
@@ -52,8 +52,9 @@ uint64_t yawlspar_protection_number(uint64_t code, uint64_t blocks, uint64_t add
  * yawlspar_protection_number is not 0.
  *
  * first + count is at most blocks, and a count of 0 goes with a first of 0. A program, or an erase of a sector or
- * of a block of 32 or 64 Kbyte, whose address lies in one of these blocks is ignored with 28. A chip erase goes by
- * the code itself, which has to be 0: code 15 protects no block, and a chip erase is ignored under it all the same.
+ * of a block of 32 or 64 Kbyte, whose address lies in one of these blocks is ignored, with 28 if no lower number
+ * applies. A chip erase goes by the code itself, which has to be 0: code 15 protects no block, and a chip erase is
+ * ignored under it all the same.
  */
 uint64_t yawlspar_protected_first(uint64_t code, uint64_t blocks);
 uint64_t yawlspar_protected_count(uint64_t code, uint64_t blocks);
