@@ -5,7 +5,7 @@ use mathlib.Core.List.{List, _∷_}
 use lib.ListN.{length}
 use denote.Ref.{now}
 use Rattle.words.proofs.Allowed.{Follows}
-use Rattle.yawlspar.specs.Face.{powerUpAnswer, powerUpBytes}
+use Rattle.yawlspar.specs.Face.{asked, powerUpAnswer, powerUpBytes}
 use Rattle.yawlspar.proofs.yawlspar_power_up.Reads as yawlspar-power-up
 use Rattle.yawlspar.proofs.yawlspar_transact.Reads as yawlspar-transact
 use Rattle.yawlspar.proofs.yawlspar_tick.Reads as yawlspar-tick
@@ -25,6 +25,6 @@ tick-drives κ a x s l ds cs ys ts r = passes x (l .0) (l .1 .0) (l .1 .1 .0) (l
 
 -- bytes, blocks, maker, kind, capacity, device, status and function are
 pub power-up-drives : Follows yawlspar-power-up.Learnt (λ κ a x s.
-    (x ≡ powerUpAnswer (length (now (a .0))) (a .1 .0) (a .1 .1 .0) (a .1 .1 .1 .0) (a .1 .1 .1 .1 .0) (a .1 .1 .1 .1 .1 .0) (a .1 .1 .1 .1 .1 .1 .0) (a .1 .1 .1 .1 .1 .1 .1 .0))
-    × (now (s .0) ≡ powerUpBytes (a .1 .0) (a .1 .1 .0) (a .1 .1 .1 .0) (a .1 .1 .1 .1 .0) (a .1 .1 .1 .1 .1 .0) (a .1 .1 .1 .1 .1 .1 .0) (a .1 .1 .1 .1 .1 .1 .1 .0) (now (a .0))))
+    (x ≡ powerUpAnswer (length (now (a .0))) (asked (a .1 .0) (a .1 .1 .0) (a .1 .1 .1 .0) (a .1 .1 .1 .1 .0) (a .1 .1 .1 .1 .1 .0) (a .1 .1 .1 .1 .1 .1 .0) (a .1 .1 .1 .1 .1 .1 .1 .0)))
+    × (now (s .0) ≡ powerUpBytes (asked (a .1 .0) (a .1 .1 .0) (a .1 .1 .1 .0) (a .1 .1 .1 .1 .0) (a .1 .1 .1 .1 .1 .0) (a .1 .1 .1 .1 .1 .1 .0) (a .1 .1 .1 .1 .1 .1 .1 .0)) (now (a .0))))
 power-up-drives κ a x s l = (l .0, l .1)

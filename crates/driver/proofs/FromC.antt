@@ -5,16 +5,13 @@ use mathlib.Core.List.{List}
 use native.Mathlib.Omega.{arith}
 use lib.ListN.{length}
 use borrow.Author.Tests.{eq-eqb}
-use Rattle.types.specs.declared.Identity.{Identity}
-use Rattle.types.specs.declared.Stored.{Stored}
 use Rattle.types.specs.declared.Record.{Record}
 use Rattle.words.proofs.Tests.{orElse-zero}
 use Rattle.paper.specs.Sizes.{arrayBytes, rowsBytes}
-use Rattle.paper.specs.Calls.{poweredUp}
 use Rattle.paper.proofs.Kept.{power-up-sound, powered-fresh}
 use Rattle.record_bytes.specs.Layout.{recordBytes}
 use Rattle.record_bytes.specs.Read.{held, recordIn}
-use Rattle.yawlspar.specs.Face.{identityOf, registersOf, upNumber, powerUpAnswer, powerUpBytes}
+use Rattle.yawlspar.specs.Face.{Asked, identityOf, registersOf, upOf, upNumber, powerUpAnswer, powerUpBytes}
 use Rattle.history.specs.Run.{Run}
 use Rattle.history.specs.Course.{course}
 use Rattle.history.proofs.Course.{course-told}
@@ -25,49 +22,43 @@ use Rattle.driver.proofs.Holding.{Holding, own-bytes-hold}
 use Rattle.driver.proofs.Runs.{driven-run, driven-heard}
 
 -- the numbers that yawlspar_power_up was given, and the buffer that it was lent
-module _ (n m t k d status function : ℕ) (bs : List ℕ) where
-  abbrev identity : Identity
-  identity = identityOf m t k d
-
-  abbrev registers : Stored
-  registers = registersOf status function
-
+module _ (q : Asked) (bs : List ℕ) where
   abbrev start : Record
-  start = poweredUp n identity registers .next
+  start = upOf q .next
 
   -- it answered 0
-  module _ (z : powerUpAnswer (length bs) n m t k d status function ≡ 0) where
-    number-zero : upNumber (length bs) n m t k d status function ≡ 0
+  module _ (z : powerUpAnswer (length bs) q ≡ 0) where
+    number-zero : upNumber (length bs) q ≡ 0
     number-zero = omega arith
 
-    pub up-unrefused : poweredUp n identity registers .number ≡ 0
+    pub up-unrefused : upOf q .number ≡ 0
     unfolding upNumber
     up-unrefused = orElse-zero _ _ number-zero .1
 
-    up-bytes : powerUpBytes n m t k d status function bs ≡ recordBytes start
+    up-bytes : powerUpBytes q bs ≡ recordBytes start
     up-bytes = rw (eq-eqb _ _ number-zero) refl
 
     up-page : Page start
-    up-page = ap (λ (p : Record). length (p .page)) (powered-fresh n identity registers up-unrefused) ∙ none-page
+    up-page = ap (λ (p : Record). length (p .page)) (powered-fresh (q .blocks) (identityOf q) (registersOf q) up-unrefused) ∙ none-page
 
     -- the buffer holds the record that power-up gives
-    pub up-holds : (xs rs : List ℕ) → length xs ≡ arrayBytes n → length rs ≡ rowsBytes → Holding (powerUpBytes n m t k d status function bs) xs rs start
+    pub up-holds : (xs rs : List ℕ) → length xs ≡ arrayBytes (q .blocks) → length rs ≡ rowsBytes → Holding (powerUpBytes q bs) xs rs start
     up-holds xs rs lx lr =
-        let s = power-up-sound n identity registers in
-        record { in-bytes = own-bytes-hold start (powerUpBytes n m t k d status function bs) up-bytes s up-page; is-sound = s; page = up-page; array = lx ∙ sym (ap (λ (p : Record). arrayBytes (p .part .blocks)) (powered-fresh n identity registers up-unrefused)); rows = lr }
+        let s = power-up-sound (q .blocks) (identityOf q) (registersOf q) in
+        record { in-bytes = own-bytes-hold start (powerUpBytes q bs) up-bytes s up-page; is-sound = s; page = up-page; array = lx ∙ sym (ap (λ (p : Record). arrayBytes (p .part .blocks)) (powered-fresh (q .blocks) (identityOf q) (registersOf q) up-unrefused)); rows = lr }
 
   -- what calls from C leave of a part that was powered up, unrefused: the bytes hold a record, to which a run of the calls led; every stored byte is what the history says; and C heard what the part answered
-  pub record FromC {ds : List CCall} {xs rs cs ys ts : List ℕ} (chain : Driven (powerUpBytes n m t k d status function bs) xs rs ds cs ys ts) : Type 0 where
-    pub unrefused : poweredUp n identity registers .number ≡ 0
+  pub record FromC {ds : List CCall} {xs rs cs ys ts : List ℕ} (chain : Driven (powerUpBytes q bs) xs rs ds cs ys ts) : Type 0 where
+    pub unrefused : upOf q .number ≡ 0
     pub next : Record
     pub in-bytes : recordIn cs ≡ held next
     pub run : Run start xs rs (callsOf ds) next ys ts
-    pub told : FromPowerUp n identity registers (callsOf ds) xs rs next ys ts
+    pub told : FromPowerUp (q .blocks) (identityOf q) (registersOf q) (callsOf ds) xs rs next ys ts
     pub answers : heard chain ≡ packedSteps (course run)
 
-  pub driven-told : {ds : List CCall} {xs rs cs ys ts : List ℕ} → powerUpAnswer (length bs) n m t k d status function ≡ 0 → length xs ≡ arrayBytes n → length rs ≡ rowsBytes
-      → (chain : Driven (powerUpBytes n m t k d status function bs) xs rs ds cs ys ts) → FromC chain
+  pub driven-told : {ds : List CCall} {xs rs cs ys ts : List ℕ} → powerUpAnswer (length bs) q ≡ 0 → length xs ≡ arrayBytes (q .blocks) → length rs ≡ rowsBytes
+      → (chain : Driven (powerUpBytes q bs) xs rs ds cs ys ts) → FromC chain
   driven-told {ds} {xs} {rs} {cs} {ys} {ts} z lx lr chain =
       let h = up-holds z xs rs lx lr in
       let l = driven-run chain start h in
-      record { unrefused = up-unrefused z; next = l .next; in-bytes = l .in-bytes; run = l .run; told = history-told n identity registers (up-unrefused z) lx lr (l .run); answers = driven-heard chain start h ∙ ap packedSteps (sym (course-told (l .run))) }
+      record { unrefused = up-unrefused z; next = l .next; in-bytes = l .in-bytes; run = l .run; told = history-told (q .blocks) (identityOf q) (registersOf q) (up-unrefused z) lx lr (l .run); answers = driven-heard chain start h ∙ ap packedSteps (sym (course-told (l .run))) }

@@ -6,16 +6,14 @@ use mathlib.Core.List.{List, [], _∷_, _++_, append-assoc}
 use lib.Dec.{eqb}
 use lib.ListN.{length}
 use borrow.Author.Tests.{le-leb}
-use Rattle.types.specs.declared.Identity.{Identity}
-use Rattle.types.specs.declared.Stored.{Stored}
 use Rattle.types.specs.declared.Answer.{Answer}
 use Rattle.types.specs.declared.Record.{Record}
 use Rattle.paper.specs.Sizes.{arrayBytes, rowsBytes}
-use Rattle.paper.specs.Calls.{poweredUp, transacted}
+use Rattle.paper.specs.Calls.{transacted}
 use Rattle.paper.specs.History.{Call, recordAfterCall, recordAfterCalls}
 use Rattle.record_bytes.specs.Layout.{recordBytes}
 use Rattle.record_bytes.proofs.Back.{exact}
-use Rattle.yawlspar.specs.Face.{packed, identityOf, registersOf, powerUpAnswer, powerUpBytes}
+use Rattle.yawlspar.specs.Face.{packed, Asked, identityOf, registersOf, upOf, powerUpAnswer, powerUpBytes}
 use Rattle.history.specs.Run.{Run}
 use Rattle.history.specs.Course.{Step, sent, waited, courseOf, endOf}
 use Rattle.history.proofs.Course.{course-told, course-append, run-ends}
@@ -63,21 +61,15 @@ module _ (cs : List Call) (wp : Bool) (p : Record) (a r : ℕ) where
       }
 
 -- the numbers that yawlspar_power_up was given, and the buffer that it was lent
-module _ (n m t k d status function : ℕ) (bs : List ℕ) where
-  abbrev identity : Identity
-  identity = identityOf m t k d
-
-  abbrev registers : Stored
-  registers = registersOf status function
-
+module _ (q : Asked) (bs : List ℕ) where
   abbrev start : Record
-  start = poweredUp n identity registers .next
+  start = upOf q .next
 
   -- what any calls from C, then ABh, calls, 66h, calls and 99h leave: what calls from C do; 99h, the last, answers 0; and the bytes are those of the record that power-up gives for the same size, identity and stored registers
-  pub record FreshFromC (a : List Call) (w1 w2 w3 : Bool) (b c : List Call) {ds : List CCall} {xs rs cs ys ts : List ℕ} (chain : Driven (powerUpBytes n m t k d status function bs) xs rs ds cs ys ts) : Type 0 where
-    pub from-c : FromC n m t k d status function bs chain
-    pub fresh-run : FreshRun n identity registers a w1 w2 w3 b c xs rs (from-c .next) ys ts
-    pub bytes : cs ≡ recordBytes (poweredAs n identity (fresh-run .before) .next)
+  pub record FreshFromC (a : List Call) (w1 w2 w3 : Bool) (b c : List Call) {ds : List CCall} {xs rs cs ys ts : List ℕ} (chain : Driven (powerUpBytes q bs) xs rs ds cs ys ts) : Type 0 where
+    pub from-c : FromC q bs chain
+    pub fresh-run : FreshRun (q .blocks) (identityOf q) (registersOf q) a w1 w2 w3 b c xs rs (from-c .next) ys ts
+    pub bytes : cs ≡ recordBytes (poweredAs (q .blocks) (identityOf q) (fresh-run .before) .next)
     pub executed : EndsExecuted (heard chain)
 
   module _ (a : List CCall) (l1 l2 l3 x y w : ℕ) (b c : List CCall) (h1 : l1 ≤ 1) (h2 : l2 ≤ 1) (h3 : l3 ≤ 1) where
@@ -92,15 +84,15 @@ module _ (n m t k d status function : ℕ) (bs : List ℕ) where
     stand-for =
         calls-of-append a (closingFromC l1 l2 l3 x y w b c) ∙ ap (λ (ds : List Call). callsOf a ++ ds) (closing-of l1 l2 l3 x y w b c h1 h2 h3)
 
-    pub reset-from-c : {xs rs cs ys ts : List ℕ} → powerUpAnswer (length bs) n m t k d status function ≡ 0 → length xs ≡ arrayBytes n → length rs ≡ rowsBytes
+    pub reset-from-c : {xs rs cs ys ts : List ℕ} → powerUpAnswer (length bs) q ≡ 0 → length xs ≡ arrayBytes (q .blocks) → length rs ≡ rowsBytes
         → let p = recordAfterCalls (callsOf a) start in
         allAside (callsOf b) (recordAfterCall (wake (eqb l1 1)) p) ≡ true → allAside (callsOf c) (recordAfterCalls (untilArmed (eqb l1 1) (eqb l2 1) (callsOf b)) p) ≡ true
-        → (chain : Driven (powerUpBytes n m t k d status function bs) xs rs (a ++ closingFromC l1 l2 l3 x y w b c) cs ys ts)
+        → (chain : Driven (powerUpBytes q bs) xs rs (a ++ closingFromC l1 l2 l3 x y w b c) cs ys ts)
         → FreshFromC (callsOf a) (eqb l1 1) (eqb l2 1) (eqb l3 1) (callsOf b) (callsOf c) chain
     reset-from-c {xs} {rs} {cs} {ys} {ts} z lx lr hb hc chain =
-        let l = driven-told n m t k d status function bs z lx lr chain in
-        let f = reset-after-run n identity registers (callsOf a) (eqb l1 1) (eqb l2 1) (eqb l3 1) (callsOf b) (callsOf c) (l .unrefused) lx lr hb hc (subst (λ (ds : List Call). Run start xs rs ds (l .next) ys ts) stand-for (l .run)) in
-        let u = history-told n identity registers (l .unrefused) lx lr (f .until-reset) in
+        let l = driven-told q bs z lx lr chain in
+        let f = reset-after-run (q .blocks) (identityOf q) (registersOf q) (callsOf a) (eqb l1 1) (eqb l2 1) (eqb l3 1) (callsOf b) (callsOf c) (l .unrefused) lx lr hb hc (subst (λ (ds : List Call). Run start xs rs ds (l .next) ys ts) stand-for (l .run)) in
+        let u = history-told (q .blocks) (identityOf q) (registersOf q) (l .unrefused) lx lr (f .until-reset) in
         let e : callsOf (a ++ closingFromC l1 l2 l3 x y w b c) ≡ until-last ++ (reset (eqb l3 1) ∷ []) = stand-for ∙ reset-last (callsOf a) (eqb l1 1) (eqb l2 1) (eqb l3 1) (callsOf b) (callsOf c) in
         let g : f .before ≡ endOf start (courseOf until-last start (length xs) (length rs)) = run-ends (f .until-reset) ∙ ap (endOf start) (course-told (f .until-reset)) in
         record {

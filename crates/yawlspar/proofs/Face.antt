@@ -31,7 +31,7 @@ use Rattle.record_bytes.specs.Layout.{headerLength, recordLength, recordBytes, 
 use Rattle.record_bytes.specs.Read.{Held, recordIn, found}
 use Rattle.record_bytes.proofs.Back.{held-length, held-state}
 use Rattle.record_bytes.proofs.Changed.{held-changed}
-use Rattle.yawlspar.specs.Face.{packed, givenNumber, upOf, upNumber, powerUpBytes, heldOutcome, transactAnswer, transactBytes, transactOutput, tickAnswer, tickBytes, tickMemory}
+use Rattle.yawlspar.specs.Face.{packed, Asked, givenNumber, identityOf, upOf, upNumber, powerUpBytes, heldOutcome, transactAnswer, transactBytes, transactOutput, tickAnswer, tickBytes, tickMemory}
 
 -- no record held
 module _ (h : Held) (e : h .ok ≡ false) where
@@ -118,19 +118,19 @@ module _ (bs : List ℕ) (e : recordIn bs .ok ≡ true) (x : Found) (ex : x ≡ 
         ey ∙ rw (ex, e) (memory-told whole lent-length a r n m xs ∙ ap (λ (q : Record). tickedMemory m q a r n xs) (held-state bs e))
 
 -- power-up: what the numbers that it can take are
-pub record Given (l n m t c d status function : ℕ) : Type 0 where
+pub record Given (l : ℕ) (q : Asked) : Type 0 where
   pub whole : l ≡ recordLength
-  pub few : n ≤ 16
-  pub maker : m ≤ 255
-  pub kind : t ≤ 255
-  pub capacity : c ≤ 255
-  pub device : d ≤ 255
-  pub status-byte : status ≤ 255
-  pub function-byte : function ≤ 255
+  pub few : q .blocks ≤ 16
+  pub maker : q .maker ≤ 255
+  pub kind : q .kind ≤ 255
+  pub capacity : q .capacity ≤ 255
+  pub device : q .device ≤ 255
+  pub status-byte : q .status ≤ 255
+  pub function-byte : q .function ≤ 255
 
-pub given : (l n m t c d status function : ℕ) → givenNumber l n m t c d status function ≡ 0 → Given l n m t c d status function
+pub given : (l : ℕ) (q : Asked) → givenNumber l q ≡ 0 → Given l q
 unfolding givenNumber
-given l n m t c d status function e =
+given l q e =
     let z = orElse-zero _ _ e in
     let w = unless-zero _ 4 (z .1) in
     let q1 = and-r _ _ w in
@@ -138,25 +138,25 @@ given l n m t c d status function e =
     let q3 = and-r _ _ q2 in
     let q4 = and-r _ _ q3 in
     let q5 = and-r _ _ q4 in
-    record { whole = eqb-true _ _ (and-l _ _ w); few = size-range n (unless-zero _ 0 (z .0)) .1; maker = leb-true _ _ (and-l _ _ q1); kind = leb-true _ _ (and-l _ _ q2); capacity = leb-true _ _ (and-l _ _ q3); device = leb-true _ _ (and-l _ _ q4); status-byte = leb-true _ _ (and-l _ _ q5); function-byte = leb-true _ _ (and-r _ _ q5) }
+    record { whole = eqb-true _ _ (and-l _ _ w); few = size-range (q .blocks) (unless-zero _ 0 (z .0)) .1; maker = leb-true _ _ (and-l _ _ q1); kind = leb-true _ _ (and-l _ _ q2); capacity = leb-true _ _ (and-l _ _ q3); device = leb-true _ _ (and-l _ _ q4); status-byte = leb-true _ _ (and-l _ _ q5); function-byte = leb-true _ _ (and-r _ _ q5) }
 
 -- power-up with a status and a function in registers that have nothing else
-pub up-with : (n m t c d status function : ℕ) (s : Stored) → s ≡ noStored → poweredUp n (record { maker = m; kind = t; capacity = c; device = d }) (withBytes status function s) ≡ upOf n m t c d status function
-up-with n m t c d status function s e =
-    ap (λ (x : Stored). poweredUp n (record { maker = m; kind = t; capacity = c; device = d }) (withBytes status function x)) e
+pub up-with : (q : Asked) (s : Stored) → s ≡ noStored → poweredUp (q .blocks) (identityOf q) (withBytes (q .status) (q .function) s) ≡ upOf q
+up-with q s e =
+    ap (λ (x : Stored). poweredUp (q .blocks) (identityOf q) (withBytes (q .status) (q .function) x)) e
 
-module _ (n m t c d status function : ℕ) (bs : List ℕ) (k : ℕ) (g : k ≡ givenNumber (length bs) n m t c d status function) where
-  pub given-number : (k ≡ 0 → ⊥) → k ≡ upNumber (length bs) n m t c d status function
+module _ (q : Asked) (bs : List ℕ) (k : ℕ) (g : k ≡ givenNumber (length bs) q) where
+  pub given-number : (k ≡ 0 → ⊥) → k ≡ upNumber (length bs) q
   unfolding upNumber
   given-number h = rw (← g) (sym (orElse-first k _ h))
 
-  module _ (x : PoweredUp) (z : k ≡ 0) (u : x ≡ upOf n m t c d status function) where
-    pub own-number : x .number ≡ upNumber (length bs) n m t c d status function
+  module _ (x : PoweredUp) (z : k ≡ 0) (u : x ≡ upOf q) where
+    pub own-number : x .number ≡ upNumber (length bs) q
     unfolding upNumber
     own-number = rw (← g, ← u) (sym (orElse-on k _ z))
 
-    pub own-bytes : x .number ≡ 0 → recordBytes (x .next) ≡ powerUpBytes n m t c d status function bs
+    pub own-bytes : x .number ≡ 0 → recordBytes (x .next) ≡ powerUpBytes q bs
     own-bytes e = rw (eq-eqb _ _ (sym own-number ∙ e), u)
 
-  pub no-bytes : (v : ℕ) → v ≡ upNumber (length bs) n m t c d status function → (v ≡ 0 → ⊥) → bs ≡ powerUpBytes n m t c d status function bs
-  no-bytes v e h = rw (ne-eqb _ _ (λ (q : upNumber (length bs) n m t c d status function ≡ 0). h (e ∙ q)))
+  pub no-bytes : (v : ℕ) → v ≡ upNumber (length bs) q → (v ≡ 0 → ⊥) → bs ≡ powerUpBytes q bs
+  no-bytes v e h = rw (ne-eqb _ _ (λ (z : upNumber (length bs) q ≡ 0). h (e ∙ z)))

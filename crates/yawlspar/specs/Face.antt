@@ -29,38 +29,54 @@ packed number place = number + 256 * place
 abbrev pub isByte : ℕ → Bool
 isByte n = leb n 255
 
+-- the numbers that power-up is given
+pub record Asked : Type 0 where
+  pub blocks : ℕ
+  pub maker : ℕ
+  pub kind : ℕ
+  pub capacity : ℕ
+  pub device : ℕ
+  pub status : ℕ
+  pub function : ℕ
+
+abbrev pub asked : ℕ → ℕ → ℕ → ℕ → ℕ → ℕ → ℕ → Asked
+asked n m t c d status function =
+    record { blocks = n; maker = m; kind = t; capacity = c; device = d; status = status; function = function }
+
 -- 1 for a bad size; 5 for a buffer of l bytes that is no record's, or a number that no byte holds
-unfoldable pub givenNumber : ℕ → ℕ → ℕ → ℕ → ℕ → ℕ → ℕ → ℕ → ℕ
-givenNumber l n m t c d status function =
-    unless (sizeOk n) 1
+unfoldable pub givenNumber : ℕ → Asked → ℕ
+givenNumber l q =
+    unless (sizeOk (q .blocks)) 1
     orElse unless (eqb l recordLength
-    and isByte m and isByte t and isByte c and isByte d and isByte status and isByte function) 5
+    and isByte (q .maker)
+    and isByte (q .kind)
+    and isByte (q .capacity)
+    and isByte (q .device)
+    and isByte (q .status)
+    and isByte (q .function)) 5
 
--- the identity and the registers that power-up is given
-abbrev pub identityOf : ℕ → ℕ → ℕ → ℕ → Identity
-identityOf m t c d = record { maker = m; kind = t; capacity = c; device = d }
+-- the identity and the registers that it is given
+abbrev pub identityOf : Asked → Identity
+identityOf q =
+    record { maker = q .maker; kind = q .kind; capacity = q .capacity; device = q .device }
 
-abbrev pub registersOf : ℕ → ℕ → Stored
-registersOf status function = withBytes status function noStored
+abbrev pub registersOf : Asked → Stored
+registersOf q = withBytes (q .status) (q .function) noStored
 
--- power-up of a part with the identity M, T, C, D and these registers
-abbrev pub upOf : ℕ → ℕ → ℕ → ℕ → ℕ → ℕ → ℕ → PoweredUp
-upOf n m t c d status function = poweredUp n (identityOf m t c d) (registersOf status function)
+-- power-up of a part of that size, with that identity and these registers
+abbrev pub upOf : Asked → PoweredUp
+upOf q = poweredUp (q .blocks) (identityOf q) (registersOf q)
 
 -- the number of the C call: the lower first, then power-up's own
-unfoldable pub upNumber : ℕ → ℕ → ℕ → ℕ → ℕ → ℕ → ℕ → ℕ → ℕ
-upNumber l n m t c d status function =
-    givenNumber l n m t c d status function orElse upOf n m t c d status function .number
+unfoldable pub upNumber : ℕ → Asked → ℕ
+upNumber l q = givenNumber l q orElse upOf q .number
 
-abbrev pub powerUpAnswer : ℕ → ℕ → ℕ → ℕ → ℕ → ℕ → ℕ → ℕ → ℕ
-powerUpAnswer l n m t c d status function = packed (upNumber l n m t c d status function) 0
+abbrev pub powerUpAnswer : ℕ → Asked → ℕ
+powerUpAnswer l q = packed (upNumber l q) 0
 
 -- power-up's record, written where it is not refused
-abbrev pub powerUpBytes : ℕ → ℕ → ℕ → ℕ → ℕ → ℕ → ℕ → List ℕ → List ℕ
-powerUpBytes n m t c d status function bs =
-    whenZero (upNumber (length bs) n m t c d status function)
-    (recordBytes (upOf n m t c d status function .next))
-    bs
+abbrev pub powerUpBytes : Asked → List ℕ → List ℕ
+powerUpBytes q bs = whenZero (upNumber (length bs) q) (recordBytes (upOf q .next)) bs
 
 -- the record's bytes after a call: the next record's; where none was held, as they were
 abbrev pub bytesAfter : Held → Record → List ℕ → List ℕ

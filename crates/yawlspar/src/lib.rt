@@ -8,7 +8,7 @@ ghost use Prim.Native.Nat.{_≤_};
 ghost use lib.ListN.{length};
 ghost use Rattle.types.specs.declared.Memory.the-variants.{Array, Rows};
 ghost use Rattle.record_bytes.specs.Read.{recordIn};
-ghost use Rattle.yawlspar.specs.Face.{packed, givenNumber, powerUpAnswer, powerUpBytes, transactAnswer, transactBytes, transactOutput, tickAnswer, tickBytes, tickMemory};
+ghost use Rattle.yawlspar.specs.Face.{packed, asked, givenNumber, powerUpAnswer, powerUpBytes, transactAnswer, transactBytes, transactOutput, tickAnswer, tickBytes, tickMemory};
 use record_bytes::places;
 use types::Identity;
 
@@ -31,7 +31,7 @@ fn given_number(
     status: u64,
     function: u64,
 ) -> u8
-    ensures { λ r. ⌜ r ≡ givenNumber length blocks maker kind capacity device status function ⌝ }
+    ensures { λ r. ⌜ r ≡ givenNumber length (asked blocks maker kind capacity device status function) ⌝ }
 {
     let size = sizes::size_ok(blocks);
     let whole = length == places::END;
@@ -61,8 +61,8 @@ pub extern "C" fn yawlspar_power_up(
     status: u64,
     function: u64,
 ) -> u64
-    ensures answer { λ r. ⌜ r ≡ powerUpAnswer (length (now (bytes .entry))) blocks maker kind capacity device status function ⌝ }
-    ensures bytes { λ _. ⌜ now (bytes .exit) ≡ powerUpBytes blocks maker kind capacity device status function (now (bytes .entry)) ⌝ }
+    ensures answer { λ r. ⌜ r ≡ powerUpAnswer (length (now (bytes .entry))) (asked blocks maker kind capacity device status function) ⌝ }
+    ensures bytes { λ _. ⌜ now (bytes .exit) ≡ powerUpBytes (asked blocks maker kind capacity device status function) (now (bytes .entry)) ⌝ }
 {
     let number = given_number(
         bytes.len(),

@@ -4,6 +4,7 @@ use native.Mathlib.Omega.{arith}
 use denote.Ref.{now}
 use borrow.Author.Needs.{needs}
 use Rattle.record_bytes.proofs.Back.{written-in}
+use Rattle.yawlspar.specs.Face.{asked}
 use Rattle.yawlspar.proofs.Face.{given, up-with, given-number, own-number, own-bytes, no-bytes}
 use Rattle.yawlspar.proofs.yawlspar_power_up.Statement.{statement}
 use Rattle.yawlspar.proofs.yawlspar_power_up.Tie as tie
@@ -17,33 +18,34 @@ cast-result c = search needs
 returns : tie.Need-returns
 returns c =
     let a = c .before .before .before .args in
+    let q = asked (a .blocks) (a .maker) (a .kind) (a .capacity) (a .device) (a .status) (a .function) in
     let g = c .before .given-number in
-    let e = given-number (a .blocks) (a .maker) (a .kind) (a .capacity) (a .device) (a .status) (a .function) (now (a .bytes)) (g .result) (g .ensures) (c .if1 .taken) in
-    (omega (arith, e), no-bytes (a .blocks) (a .maker) (a .kind) (a .capacity) (a .device) (a .status) (a .function) (now (a .bytes)) (g .result) (g .ensures) _ e (c .if1 .taken))
+    let e = given-number q (now (a .bytes)) (g .result) (g .ensures) (c .if1 .taken) in
+    (omega (arith, e), no-bytes q (now (a .bytes)) (g .result) (g .ensures) _ e (c .if1 .taken))
 
 cast-t16 : tie.Need-cast-t16
-cast-t16 c = omega (arith, given _ _ _ _ _ _ _ _ (sym (c .before .given-number .ensures) ∙ c .if1 .left))
+cast-t16 c = omega (arith, given _ _ (sym (c .before .given-number .ensures) ∙ c .if1 .left))
 
 cast-t17 : tie.Need-cast-t17
-cast-t17 c = omega (arith, given _ _ _ _ _ _ _ _ (sym (c .before .given-number .ensures) ∙ c .if1 .left))
+cast-t17 c = omega (arith, given _ _ (sym (c .before .given-number .ensures) ∙ c .if1 .left))
 
 cast-t18 : tie.Need-cast-t18
-cast-t18 c = omega (arith, given _ _ _ _ _ _ _ _ (sym (c .before .given-number .ensures) ∙ c .if1 .left))
+cast-t18 c = omega (arith, given _ _ (sym (c .before .given-number .ensures) ∙ c .if1 .left))
 
 cast-t19 : tie.Need-cast-t19
-cast-t19 c = omega (arith, given _ _ _ _ _ _ _ _ (sym (c .before .given-number .ensures) ∙ c .if1 .left))
+cast-t19 c = omega (arith, given _ _ (sym (c .before .given-number .ensures) ∙ c .if1 .left))
 
 no-stored-requires : tie.Need-no-stored-requires
 no-stored-requires c κs = search needs
 
 cast-stored : tie.Need-cast-stored
-cast-stored c = omega (arith, given _ _ _ _ _ _ _ _ (sym (c .before .before .given-number .ensures) ∙ c .before .if1 .left))
+cast-stored c = omega (arith, given _ _ (sym (c .before .before .given-number .ensures) ∙ c .before .if1 .left))
 
 cast-stored-2 : tie.Need-cast-stored-2
-cast-stored-2 c = omega (arith, given _ _ _ _ _ _ _ _ (sym (c .before .before .given-number .ensures) ∙ c .before .if1 .left))
+cast-stored-2 c = omega (arith, given _ _ (sym (c .before .before .given-number .ensures) ∙ c .before .if1 .left))
 
 cast-power-up : tie.Need-cast-power-up
-cast-power-up c = omega (arith, given _ _ _ _ _ _ _ _ (sym (c .before .before .given-number .ensures) ∙ c .before .if1 .left))
+cast-power-up c = omega (arith, given _ _ (sym (c .before .before .given-number .ensures) ∙ c .before .if1 .left))
 
 power-up-requires : tie.Need-power-up-requires
 power-up-requires c κs = search needs
@@ -54,11 +56,12 @@ cast-result-2 c = search needs
 returns-2 : tie.Need-returns-2
 returns-2 c =
     let a = c .before .before .before .before .before .before .before .before .args in
+    let q = asked (a .blocks) (a .maker) (a .kind) (a .capacity) (a .device) (a .status) (a .function) in
     let g = c .before .before .before .before .before .before .given-number in
     let u = c .before .before .before .power-up in
-    let w = u .ensures ∙ up-with (a .blocks) (a .maker) (a .kind) (a .capacity) (a .device) (a .status) (a .function) _ (c .before .before .before .before .no-stored .ensures) in
-    let e = own-number (a .blocks) (a .maker) (a .kind) (a .capacity) (a .device) (a .status) (a .function) (now (a .bytes)) (g .result) (g .ensures) (u .result) (c .before .before .before .before .before .if1 .left) w in
-    (omega (arith, e), no-bytes (a .blocks) (a .maker) (a .kind) (a .capacity) (a .device) (a .status) (a .function) (now (a .bytes)) (g .result) (g .ensures) _ e (c .before .if2 .taken))
+    let w = u .ensures ∙ up-with q _ (c .before .before .before .before .no-stored .ensures) in
+    let e = own-number q (now (a .bytes)) (g .result) (g .ensures) (u .result) (c .before .before .before .before .before .if1 .left) w in
+    (omega (arith, e), no-bytes q (now (a .bytes)) (g .result) (g .ensures) _ e (c .before .if2 .taken))
 
 write-record-requires : tie.Need-write-record-requires
 write-record-requires c κs = search needs
@@ -69,13 +72,14 @@ same-length c = search needs
 returns-3 : tie.Need-returns-3
 returns-3 c =
     let a = c .before .before .before .before .before .before .before .before .before .before .before .before .args in
+    let q = asked (a .blocks) (a .maker) (a .kind) (a .capacity) (a .device) (a .status) (a .function) in
     let g = c .before .before .before .before .before .before .before .before .before .before .given-number in
     let u = c .before .before .before .before .before .before .before .power-up in
-    let w = u .ensures ∙ up-with (a .blocks) (a .maker) (a .kind) (a .capacity) (a .device) (a .status) (a .function) _ (c .before .before .before .before .before .before .before .before .no-stored .ensures) in
+    let w = u .ensures ∙ up-with q _ (c .before .before .before .before .before .before .before .before .no-stored .ensures) in
     let z = c .before .before .before .before .before .before .before .before .before .if1 .left in
     let o = c .before .before .before .before .before .if2 .left in
-    let e = own-number (a .blocks) (a .maker) (a .kind) (a .capacity) (a .device) (a .status) (a .function) (now (a .bytes)) (g .result) (g .ensures) (u .result) z w in
-    (omega (arith, e, o), c .before .before .write-record .ensures ∙ written-in _ _ (given _ _ _ _ _ _ _ _ (sym (g .ensures) ∙ z) .whole) ∙ own-bytes (a .blocks) (a .maker) (a .kind) (a .capacity) (a .device) (a .status) (a .function) (now (a .bytes)) (g .result) (g .ensures) (u .result) z w o)
+    let e = own-number q (now (a .bytes)) (g .result) (g .ensures) (u .result) z w in
+    (omega (arith, e, o), c .before .before .write-record .ensures ∙ written-in _ _ (given _ _ (sym (g .ensures) ∙ z) .whole) ∙ own-bytes q (now (a .bytes)) (g .result) (g .ensures) (u .result) z w o)
 
 pub yawlspar-power-up-spec : {M : Type 1} → statement M
 yawlspar-power-up-spec =
