@@ -92,7 +92,7 @@ uint64_t yawlspar_page_place(uint64_t start, uint64_t index);
  * the lowest is the answer. A call that is refused, with 1 to 6, leaves every byte of every buffer as it
  * was, and the number above is 0.
  */
-#define YAWLSPAR_RECORD_BYTES 294
+#define YAWLSPAR_RECORD_BYTES 296
 #define YAWLSPAR_NUMBER(r) ((r) & 255)
 #define YAWLSPAR_PLACE(r) ((r) >> 8)
 #define YAWLSPAR_TICKS(r) ((r) >> 8)
@@ -103,17 +103,21 @@ uint64_t yawlspar_page_place(uint64_t start, uint64_t index);
  *   record                          record_len bytes, which are written
  *   blocks                          the size of the array in blocks: 1, 4, 8 or 16
  *   maker, type, capacity, device   the identity bytes
- *   status, function                the registers; status bits 1..0 and function bits 3..0 are zero
+ *   status, function, extended      the stored registers; status bits 1..0, function bits 3..0 and bits 4..0 of
+ *                                   the extended read register are zero
+ *
+ * The live byte of the extended read register, which 81h reads and 83h sets, is loaded from the stored one, with
+ * E_ERR, P_ERR and PROT_E 0.
  *
  * The number is
  *   0  if the record was written;
  *   1  if blocks is not 1, 4, 8 or 16;
- *   5  if record_len is not YAWLSPAR_RECORD_BYTES, if one of the six other numbers is above 255, or if
- *      a register bit is set that has to be zero.
+ *   5  if record_len is not YAWLSPAR_RECORD_BYTES, if one of the seven other numbers is above 255, or
+ *      if a register bit is set that has to be zero.
  */
 uint64_t yawlspar_power_up(uint8_t *record, size_t record_len, uint64_t blocks, uint64_t maker,
                            uint64_t type, uint64_t capacity, uint64_t device, uint64_t status,
-                           uint64_t function);
+                           uint64_t function, uint64_t extended);
 
 /*
  * A transaction: the input bytes go in on one line while the output bytes come out on the other.
@@ -132,7 +136,8 @@ uint64_t yawlspar_power_up(uint8_t *record, size_t record_len, uint64_t blocks, 
  *   3  if input_len is 0 or above 4,096;
  *   4  if output_len is not input_len;
  *   5  if the bytes hold no record, the record is not sound, or wp_high is neither 0 nor 1;
- *   20 to 28  if the part ignored the transaction: the output is FFh all over.
+ *   20 to 28  if the part ignored the transaction: the output is FFh all over. With 28 an erase sets E_ERR and
+ *             PROT_E, a program P_ERR and PROT_E in the extended read register, which 81h reads.
  * Where the bytes hold no record there is no size to judge: the number is then 2, 3, 4 or 5.
  * YAWLSPAR_PLACE is the first driven place of the output, or input_len where nothing is driven.
  */

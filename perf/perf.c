@@ -57,8 +57,8 @@ static void set_up(uint32_t blocks)
     memset(array, 0xFF, sizeof array);
     memset(rows, 0xFF, sizeof rows);
     memset(input, 0xFF, sizeof input);
-    must_be(yawlspar_power_up(record, sizeof record, blocks, 0x9D, 0x60, 0x14, 0x13, 0, 0), 0);
-    must_be((uint64_t)ref_power_up(&part, blocks, 0x9D, 0x60, 0x14, 0x13, 0, 0), 0);
+    must_be(yawlspar_power_up(record, sizeof record, blocks, 0x9D, 0x60, 0x14, 0x13, 0, 0, 0), 0);
+    must_be((uint64_t)ref_power_up(&part, blocks, 0x9D, 0x60, 0x14, 0x13, 0, 0, 0), 0);
 }
 
 static uint64_t model_transact(size_t length)
@@ -112,6 +112,12 @@ static void status_job(const struct one_model *on)
     must_be(on->transact(2), 0);
 }
 
+static void extended_job(const struct one_model *on)
+{
+    input[0] = 0x81;
+    must_be(on->transact(2), 0);
+}
+
 /* The part is left busy with a sector erase that has no tick done. */
 static void begin_erase(const struct one_model *on)
 {
@@ -119,6 +125,31 @@ static void begin_erase(const struct one_model *on)
     must_be(on->transact(1), 0);
     put(0xD7, 0x002000);
     must_be(on->transact(4), 0);
+}
+
+/* The part is left with its top block protected, and write enabled. */
+static void begin_protected(const struct one_model *on)
+{
+    input[0] = 0x06;
+    must_be(on->transact(1), 0);
+    input[0] = 0x01;
+    input[1] = 0x04; /* code 1 */
+    must_be(on->transact(2), 0);
+    must_be(on->tick(1), 1);
+    input[0] = 0x06;
+    must_be(on->transact(1), 0);
+}
+
+static void barred_erase_job(const struct one_model *on)
+{
+    put(0xD7, 0x0F2000);
+    must_be(on->transact(4), 28);
+}
+
+static void barred_program_job(const struct one_model *on)
+{
+    put(0x02, 0x0F1200);
+    must_be(on->transact(260), 28);
 }
 
 static void ignored_job(const struct one_model *on)
@@ -200,7 +231,10 @@ static const struct job jobs[] = {
     {"05h of 2 bytes, 1 block", 1, 1, NULL, status_job, NULL},
     {"05h of 2 bytes, 16 blocks", 16, 1, NULL, status_job, NULL},
     {"05h of 2 bytes, busy, 16 blocks", 16, 1, begin_erase, status_job, NULL},
+    {"81h of 2 bytes, 16 blocks", 16, 1, NULL, extended_job, NULL},
     {"ignored, 1 byte, 16 blocks", 16, 0, NULL, ignored_job, NULL},
+    {"D7h, protected: 28, 16 blocks", 16, 0, begin_protected, barred_erase_job, NULL},
+    {"02h, protected: 28, 16 blocks", 16, 0, begin_protected, barred_program_job, NULL},
     {"06h, 16 blocks", 16, 0, NULL, enable_job, NULL},
     {"03h of 4,096 bytes, 16 blocks", 16, 4092, NULL, read_job, read_bytes},
     {"06h, 02h, 256 ticks, 16 blocks", 16, 256, NULL, program_job, NULL},

@@ -156,7 +156,7 @@ static uint32_t too_many_ticks(void)
 
 void traffic_strange(void)
 {
-    switch (below(9)) {
+    switch (below(10)) {
     case 0:
         traffic_wait(one_in(4) ? too_many_ticks() : below(21));
         break;
@@ -168,6 +168,9 @@ void traffic_strange(void)
         put_text("L 4800\n");
         break;
     case 4:
+        put_text("L 8100\n");
+        break;
+    case 5:
         put_text("T ");
         put_pair(any_byte());
         put('\n');

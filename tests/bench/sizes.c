@@ -7,10 +7,10 @@
 static uint8_t record[YAWLSPAR_RECORD_BYTES];
 
 int ref_power_up(struct part *part, uint32_t size, uint8_t m, uint8_t t, uint8_t c, uint8_t d,
-                 uint8_t status, uint8_t function)
+                 uint8_t status, uint8_t function, uint8_t extended)
 {
     part->size = size;
-    return (int)yawlspar_power_up(record, sizeof record, size, m, t, c, d, status, function);
+    return (int)yawlspar_power_up(record, sizeof record, size, m, t, c, d, status, function, extended);
 }
 
 int ref_transact(struct part *part, const uint8_t *array, size_t array_length, const uint8_t *rows,

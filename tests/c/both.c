@@ -25,11 +25,11 @@ static uint32_t run_blocks;
 static void tell_power_up(const struct call *call)
 {
     printf("yawlspar_power_up(record of %zu, blocks %llu, maker %llu, type %llu, capacity %llu, device %llu, "
-           "status 0x%llX, function 0x%llX)\n",
+           "status 0x%llX, function 0x%llX, extended 0x%llX)\n",
            call->record, (unsigned long long)call->blocks, (unsigned long long)call->maker,
            (unsigned long long)call->type, (unsigned long long)call->capacity,
            (unsigned long long)call->device, (unsigned long long)call->status,
-           (unsigned long long)call->function);
+           (unsigned long long)call->function, (unsigned long long)call->extended);
 }
 
 static void tell_transact(const struct call *call)
@@ -259,9 +259,10 @@ static bool same_operation(const struct operation *a, const struct operation *b)
 static bool same_part(const struct part *a, const struct part *b)
 {
     return a->size == b->size && a->m == b->m && a->t == b->t && a->c == b->c && a->d == b->d &&
-           a->status == b->status && a->function == b->function && a->wel == b->wel && a->armed == b->armed &&
-           a->asleep == b->asleep && a->phase == b->phase && same_operation(&a->op, &b->op) &&
-           memcmp(a->data, b->data, REF_PAGE) == 0;
+           a->status == b->status && a->function == b->function && a->extended == b->extended &&
+           a->live == b->live && a->e_err == b->e_err && a->p_err == b->p_err && a->prot_e == b->prot_e &&
+           a->wel == b->wel && a->armed == b->armed && a->asleep == b->asleep && a->phase == b->phase &&
+           same_operation(&a->op, &b->op) && memcmp(a->data, b->data, REF_PAGE) == 0;
 }
 
 /* A refused call leaves the record's bytes; any other changes them exactly when the reference's record changes. */
@@ -290,7 +291,7 @@ static bool is_size(uint64_t blocks)
 static bool are_bytes(const struct call *call)
 {
     return call->maker < 256 && call->type < 256 && call->capacity < 256 && call->device < 256 &&
-           call->status < 256 && call->function < 256;
+           call->status < 256 && call->function < 256 && call->extended < 256;
 }
 
 static bool holds_record(const struct call *call)
@@ -309,7 +310,7 @@ static uint64_t expect_power_up(const struct call *call)
         return 5;
     number = ref_power_up(&fresh, (uint32_t)call->blocks, (uint8_t)call->maker, (uint8_t)call->type,
                           (uint8_t)call->capacity, (uint8_t)call->device, (uint8_t)call->status,
-                          (uint8_t)call->function);
+                          (uint8_t)call->function, (uint8_t)call->extended);
     if (number == 0)
         part = fresh;
     return (uint64_t)number;
@@ -396,7 +397,7 @@ uint64_t call_model(const struct side *side, const struct call *call)
     switch (call->kind) {
     case POWER_UP:
         return yawlspar_power_up(side->record, call->record, call->blocks, call->maker, call->type, call->capacity,
-                                 call->device, call->status, call->function);
+                                 call->device, call->status, call->function, call->extended);
     case TRANSACT:
         return yawlspar_transact(side->record, call->record, side->array, call->array, side->rows, call->rows,
                                  call->wp_high, side->input, call->input, side->output, call->output);

@@ -30,7 +30,7 @@ struct call {
     size_t record, array, rows, input, output;
     uint64_t wp_high;
     uint64_t ticks;
-    uint64_t blocks, maker, type, capacity, device, status, function;
+    uint64_t blocks, maker, type, capacity, device, status, function, extended;
 };
 
 /* What a side lends. */

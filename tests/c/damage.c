@@ -3,7 +3,8 @@
  * What record such bytes hold, if any, is not known here. So each call is held to what is promised of any
  * bytes: either it is refused, and then nothing at all was written, or the bytes hold a sound record, and then
  * the number is one of the table, nothing outside of the buffers was written, a transaction left array and rows,
- * and the same call on a copy does the same. */
+ * and the same call on a copy does the same. Only the stored byte of the extended read register is looked for, by
+ * setting it: of that byte is known which values are sound. */
 #include "both.h"
 
 extern int memcmp(const void *, const void *, unsigned long);
@@ -130,6 +131,22 @@ static uint64_t read_status(const uint8_t *bytes)
     return YAWLSPAR_NUMBER(result);
 }
 
+/* A sound record's extended read register has bit 4 set, and bit 0 as the status has it. */
+static void read_extended(const uint8_t *bytes, uint8_t status)
+{
+    struct call call = transaction(2);
+    uint64_t result;
+
+    set_record(bytes);
+    message[0] = 0x81;
+    message[1] = 0x00;
+    result = try_call(&call);
+    if (result != 256)
+        fail(&call, "81h where 05h is executed", 256, result);
+    if ((model.output[1] & 0x11) != (0x10 | (status & 0x01)))
+        fail(&call, "bits 4 and 0 of what 81h drives", 0x10 | (status & 0x01), model.output[1] & 0x11);
+}
+
 /* A record that a call has just written or left is sound, so that a status read is not refused with 5. */
 static void stays_sound(void)
 {
@@ -141,6 +158,20 @@ static void stays_sound(void)
 
         fail(&call, "whether a record that a call wrote is sound", 1, 0);
     }
+}
+
+/* Row 0 is locked in most of the records: 28 changes the record, and leaves it sound. */
+static void erase_row(const uint8_t *bytes)
+{
+    struct call call = transaction(4);
+    uint64_t result;
+
+    set_record(bytes);
+    memcpy(message, "\x64\x00\x00\x00", 4);
+    result = try_call(&call);
+    transaction_may_answer(&call, result);
+    if (!is_refusal(result))
+        stays_sound();
 }
 
 static void tick_some(const uint8_t *bytes, uint64_t ticks)
@@ -176,9 +207,13 @@ static void order_of_numbers(const uint8_t *bytes, uint64_t alone)
 static void try_record(const uint8_t *bytes)
 {
     uint64_t number = read_status(bytes);
+    uint8_t status = model.output[1];
 
     if (number != 1 && number != 5)
         stays_sound();
+    if (number == 0)
+        read_extended(bytes, status);
+    erase_row(bytes);
     tick_some(bytes, 1);
     if (number != 5 || number_below(&chance, 8) == 0) {
         order_of_numbers(bytes, number);
@@ -290,6 +325,10 @@ static const struct state states[] = {
     {"changed: in a row program", 1, {{1, {0x06}}, {9, {0x62, 0x00, 0x30, 0xFE, 9, 8, 7, 6, 5}}}},
     {"changed: in a status write", 0, {{1, {0x06}}, {2, {0x01, 0xBC}}}},
     {"changed: in a function write", 0, {{1, {0x06}}, {2, {0x42, 0xF0}}}},
+    {"changed: in an extended write", 0, {{1, {0x06}}, {2, {0x85, 0xE0}}, {1, {0x66}}}},
+    {"changed: with an erase error", 0, {{1, {0x06}}, {4, {0x64, 0x00, 0x00, 0x00}}, {2, {0x83, 0xA0}}}},
+    {"changed: with both errors, in a program", 0,
+     {{1, {0x06}}, {4, {0x64, 0x00, 0x00, 0x00}}, {5, {0x62, 0, 0, 0, 9}}, {6, {0x02, 0x00, 0x12, 0xFE, 8, 7}}}},
     {"changed: suspended from a program", 1, {{1, {0x06}}, {9, {0x02, 0x00, 0xFF, 0xFF, 1, 2, 3, 4, 5}}, {1, {0x75}}}},
     {"changed: suspended from an erase", 15, {{1, {0x06}}, {4, {0x20, 0x00, 0xF0, 0x00}}, {1, {0xB0}}, {1, {0x66}}}},
 };
@@ -306,12 +345,13 @@ static void reach(const struct state *state)
     call.device = 0x13;
     call.status = 0x40;
     call.function = 0x10;
+    call.extended = 0x60;
     step(&call);
     for (i = 0; i < COUNT(state->sent) && state->sent[i].length > 0; i++) {
         memcpy(message, state->sent[i].bytes, state->sent[i].length);
         call = transaction(state->sent[i].length);
         number = YAWLSPAR_NUMBER(step(&call));
-        if (number != 0)
+        if (number != 0 && number != 28) /* 28 sets error bits */
             fail(&call, "the number on the way to a state", 0, number);
         if (i == 1) {
             call = some_tick(state->ticks);
@@ -333,12 +373,80 @@ static void change(const struct state *state, uint64_t seed)
     cut_and_lengthened();
 }
 
+/* ---- The stored byte of the extended read register ---- */
+
+static void send_good(const void *bytes, size_t length)
+{
+    struct call call = transaction(length);
+    uint64_t number;
+
+    memcpy(message, bytes, length);
+    number = YAWLSPAR_NUMBER(try_call(&call));
+    if (number != 0)
+        fail(&call, "the number of a good transaction", 0, number);
+}
+
+/* Where it stands in the record is found by setting it, with the volatile byte set before. */
+static size_t place_of_stored_byte(void)
+{
+    static const struct state set_once = {"changed: the stored byte", 0, {{2, {0x83, 0xE0}}}};
+    static const struct state set_both = {
+        "changed: the stored byte", 0, {{2, {0x83, 0xE0}}, {1, {0x06}}, {2, {0x85, 0xE0}}}};
+    struct call call = some_tick(1);
+    size_t place = 0, places = 0, i;
+
+    reach(&set_once);
+    memcpy(sound, model.record, sizeof sound);
+    reach(&set_both);
+    step(&call);
+    for (i = 0; i < sizeof sound; i++)
+        if (model.record[i] != sound[i]) {
+            place = i;
+            places++;
+        }
+    if (places != 1)
+        fail(&call, "how many bytes of the record hold the stored byte", 1, places);
+    return place;
+}
+
+/* Of its values the eight that have bits 4..0 zero are sound, and a reset shows bits 7..5 of each. */
+static void stored_byte_changed(void)
+{
+    struct call call = transaction(2);
+    uint8_t bytes[YAWLSPAR_RECORD_BYTES];
+    uint32_t value, sound_values = 0, shown = 0;
+    size_t place;
+
+    begin_run("changed: the stored byte", 1, BLOCKS);
+    place = place_of_stored_byte();
+    memcpy(array, model.array, sizeof array);
+    memcpy(rows, model.rows, sizeof rows);
+    memcpy(bytes, sound, sizeof bytes);
+    for (value = 0; value < 256; value++) {
+        bytes[place] = (uint8_t)value;
+        if (read_status(bytes) == 5)
+            continue;
+        sound_values++;
+        send_good("\x66", 1);
+        send_good("\x99", 1);
+        send_good("\x81\x00", 2);
+        if ((model.output[1] & 0x1F) != 0x10)
+            fail(&call, "bits 4..0 of what 81h drives after a reset", 0x10, model.output[1] & 0x1F);
+        shown |= 1u << (model.output[1] >> 5);
+    }
+    if (sound_values != 8)
+        fail(&call, "how many values of the stored byte are sound", 8, sound_values);
+    if (shown != 0xFF)
+        fail(&call, "which values of bits 7..5 are shown, as bits", 0xFF, shown);
+}
+
 void damaged_records(void)
 {
     size_t i;
 
     for (i = 0; i < COUNT(states); i++)
         change(&states[i], i + 1);
+    stored_byte_changed();
     one_value(0x00);
     one_value(0xFF);
     random_bytes(1000);

@@ -1,6 +1,6 @@
 /* Calls whose numbers are worked out by hand from the specification: 1 to 6 in each call that can give them,
  * the lowest where several apply, and the cases 12 and 13 that it works on paper. And 28, in the blocks that
- * yawlspar_protected_first and yawlspar_protected_count name. */
+ * yawlspar_protected_first and yawlspar_protected_count name, and what the extended read register tells of it. */
 #include "both.h"
 
 extern void *memcpy(void *, const void *, unsigned long);
@@ -50,6 +50,7 @@ static void power_up_sizes(void)
         call.blocks = no_sizes[i];
         number_is(&call, 1);
         call.status = 0x03; /* and 5 */
+        call.extended = 0x1F;
         call.maker = 256;
         call.record = 0;
         number_is(&call, 1);
@@ -61,12 +62,14 @@ static void power_up_registers(void)
     uint64_t value;
 
     for (value = 0; value < 256; value++) {
-        struct call status = fitting(POWER_UP), function = fitting(POWER_UP);
+        struct call status = fitting(POWER_UP), function = fitting(POWER_UP), extended = fitting(POWER_UP);
 
         status.status = value;
         function.function = value;
+        extended.extended = value;
         number_is(&status, value % 4 == 0 ? 0 : 5);
         number_is(&function, value % 16 == 0 ? 0 : 5);
+        number_is(&extended, value % 32 == 0 ? 0 : 5);
     }
 }
 
@@ -75,10 +78,10 @@ static void power_up_numbers_that_fit_no_byte(void)
     size_t i, k;
 
     for (i = 0; i < COUNT(no_bytes); i++)
-        for (k = 0; k < 6; k++) {
+        for (k = 0; k < 7; k++) {
             struct call call = fitting(POWER_UP);
-            uint64_t *const numbers[6] = {&call.maker,  &call.type,   &call.capacity,
-                                          &call.device, &call.status, &call.function};
+            uint64_t *const numbers[7] = {&call.maker,  &call.type,     &call.capacity, &call.device,
+                                          &call.status, &call.function, &call.extended};
 
             *numbers[k] = no_bytes[i];
             number_is(&call, 5);
@@ -251,14 +254,20 @@ static void tick_numbers(void)
 
 /* ---- Cases ---- */
 
-/* Sends these bytes with WP# high. */
-static void sent(const void *bytes, size_t length, uint64_t number, uint64_t place)
+static void sent_at(uint64_t wp_high, const void *bytes, size_t length, uint64_t number, uint64_t place)
 {
     struct call call = fitting(TRANSACT);
 
     memcpy(message, bytes, length);
     call.input = call.output = length;
+    call.wp_high = wp_high;
     result_is(&call, number, place);
+}
+
+/* Sends these bytes with WP# high. */
+static void sent(const void *bytes, size_t length, uint64_t number, uint64_t place)
+{
+    sent_at(1, bytes, length, number, place);
 }
 
 static void output_is(size_t place, uint8_t expected)
@@ -354,6 +363,376 @@ static void protected_blocks(uint32_t blocks)
     }
 }
 
+/* ---- Why a write did nothing ---- */
+
+#define E_ERR 0x08
+#define P_ERR 0x04
+#define PROT_E 0x02
+#define WIP 0x01
+
+/* A power-up with code 15, row 3 locked and a stored byte, whose bits 7..5 81h shows. Chip erases are ignored, and
+ * writes of row 3; all else may be written. */
+static void guarded(uint32_t blocks, uint8_t stored)
+{
+    struct call up = fitting(POWER_UP);
+
+    up.blocks = blocks;
+    up.status = 0x3C;
+    up.function = 0x80;
+    up.extended = stored;
+    result_is(&up, 0, 0);
+}
+
+/* A command that drives nothing. */
+static void command(const void *bytes, size_t length, uint64_t number)
+{
+    sent(bytes, length, number, length);
+}
+
+static void command_with(uint8_t code, uint8_t byte, uint64_t number)
+{
+    const uint8_t bytes[] = {code, byte};
+
+    command(bytes, 2, number);
+}
+
+/* 81h shows this byte, from place 1 on. */
+static void shows(uint8_t expected)
+{
+    sent("\x81\x00\x00", 3, 0, 1);
+    output_is(0, 0xFF);
+    output_is(1, expected);
+    output_is(2, expected);
+}
+
+static void status_is(uint8_t expected)
+{
+    sent("\x05\x00", 2, 0, 1);
+    output_is(1, expected);
+}
+
+static void reset(void)
+{
+    command("\x66", 1, 0);
+    command("\x99", 1, 0);
+}
+
+struct write {
+    uint8_t length;
+    uint8_t bytes[5];
+    uint8_t errors; /* that 28 sets */
+};
+
+/* What the code 5, which protects each block of every size, and the lock of row 3 bar. */
+static const struct write barred[] = {
+    {4, {0xD7, 0x00, 0x00, 0x00}, E_ERR | PROT_E}, {4, {0x20, 0x0F, 0xFF, 0xFF}, E_ERR | PROT_E},
+    {4, {0x52, 0x00, 0x80, 0x00}, E_ERR | PROT_E}, {4, {0xD8, 0xFF, 0xFF, 0xFF}, E_ERR | PROT_E},
+    {1, {0xC7}, E_ERR | PROT_E},                   {1, {0x60}, E_ERR | PROT_E},
+    {4, {0x64, 0x00, 0x30, 0x00}, E_ERR | PROT_E}, {5, {0x02, 0x00, 0x00, 0x00, 0x00}, P_ERR | PROT_E},
+    {5, {0x62, 0x00, 0x30, 0x00, 0x00}, P_ERR | PROT_E},
+};
+
+static void is_barred(const struct write *write, uint8_t shown)
+{
+    command(write->bytes, write->length, 28);
+    shows(shown);
+    status_is(0x16); /* WEL is still 1 */
+}
+
+/* One after the other: the error bits add up until 82h, which leaves bits 7..5 and WEL. */
+static void barred_one_by_one(uint32_t blocks, const struct write *one, const struct write *other)
+{
+    struct call up = fitting(POWER_UP);
+
+    up.blocks = blocks;
+    up.status = 5 * 4;
+    up.function = 0x80;
+    up.extended = 0xA0;
+    result_is(&up, 0, 0); /* clears what the last ones set */
+    shows(0xB0);
+    command("\x06", 1, 0);
+    is_barred(one, 0xB0 | one->errors);
+    is_barred(other, 0xB0 | one->errors | other->errors);
+    is_barred(one, 0xB0 | one->errors | other->errors);
+    command("\x82", 1, 0);
+    shows(0xB0);
+    status_is(0x16);
+    is_barred(other, 0xB0 | other->errors);
+    command_with(0x83, 0x5F, 0);
+    shows(0x50 | other->errors);
+    command("\x66", 1, 0);
+    is_barred(one, 0x50 | one->errors | other->errors);
+    command("\x99", 1, 25); /* 28 disarms */
+}
+
+static void all_that_is_barred(uint32_t blocks)
+{
+    size_t i, j;
+
+    for (i = 0; i < COUNT(barred); i++)
+        for (j = 0; j < COUNT(barred); j++)
+            barred_one_by_one(blocks, &barred[i], &barred[j]);
+}
+
+/* Sets all three error bits of a guarded part, whose WEL is 1 afterwards. */
+static void fail_both(void)
+{
+    command("\x06", 1, 0);
+    command("\x60", 1, 28);
+    command("\x62\x00\x30\x00\x00", 5, 28);
+}
+
+/* Neither a status write that the pin bars, nor a row address that is not valid, nor any lower number. */
+static void what_sets_no_error(uint32_t blocks)
+{
+    guarded(blocks, 0x00);
+    command("\xC7", 1, 26);
+    command("\x02\x00\x00\x00", 4, 24);
+    command("\x84", 1, 20);
+    command("\x06", 1, 0);
+    command("\x62\x00\x31\x00\x00", 5, 27);
+    command("\x64\x01\x30\x00", 4, 27);
+    command("\x68\x00\x40\x00\x00", 5, 27);
+    command("\x64\x00\x30", 3, 24);
+    shows(0x10);
+    command("\x01\x80", 2, 0);
+    ticked(1, 0, 1);
+    command("\x06", 1, 0);
+    sent_at(0, "\x01\x00", 2, 28, 2);
+    shows(0x10);
+    status_is(0x82);
+    sent_at(0, "\x42\x80", 2, 0, 2);
+    ticked(1, 0, 1);
+    shows(0x10);
+}
+
+/* The begun writes of a guarded part. */
+static const struct {
+    uint8_t length;
+    uint8_t bytes[5];
+    bool suspends;
+    uint16_t ticks;
+} begun[] = {
+    {5, {0x02, 0x00, 0x01, 0x00, 0xFF}, true, 1}, {4, {0xD7, 0x00, 0x00, 0x00}, true, 16},
+    {4, {0x20, 0x00, 0x10, 0x00}, true, 16},      {4, {0x52, 0x00, 0x80, 0x00}, true, 128},
+    {4, {0xD8, 0x00, 0x00, 0x00}, true, 256},     {4, {0x64, 0x00, 0x20, 0x00}, false, 1},
+    {5, {0x62, 0x00, 0x00, 0x00, 0xFF}, false, 1}, {2, {0x01, 0x3C}, false, 1},
+    {2, {0x42, 0x80}, false, 1},                  {2, {0x85, 0x20}, false, 1},
+};
+
+static void sets_and_clear_are(uint64_t number)
+{
+    command("\x82", 1, number);
+    command("\x82\x00", 2, number);
+    command("\x83\x40", 2, number);
+    command("\x83", 1, number);
+    command("\x85\x40", 2, number);
+    command("\x85\x40\x00", 3, number);
+}
+
+/* Bit 0 follows WIP. The read is taken while busy and suspended, the sets and the clear are not. */
+static void shown_while_busy(uint32_t blocks)
+{
+    size_t i;
+
+    for (i = 0; i < COUNT(begun); i++) {
+        guarded(blocks, 0xC0);
+        fail_both();
+        command(begun[i].bytes, begun[i].length, 0);
+        shows(0xC0 + 0x1E + WIP);
+        sets_and_clear_are(22);
+        command("\x75", 1, begun[i].suspends ? 0 : 25);
+        if (begun[i].suspends) {
+            shows(0xC0 + 0x1E);
+            sets_and_clear_are(23);
+            shows(0xC0 + 0x1E);
+            command("\x7A", 1, 0);
+        }
+        shows(0xC0 + 0x1E + WIP);
+        ticked(4096, 0, begun[i].ticks);
+        shows(0xC0 + 0x1E);
+        reset();
+        shows(begun[i].bytes[0] == 0x85 ? 0x20 + 0x10 : 0xC0 + 0x10);
+    }
+}
+
+/* A reset in the midst of a write clears the error bits and loads the stored byte, which an 85h that is dropped has
+ * not changed. */
+static void reset_while_busy(uint32_t blocks)
+{
+    size_t i;
+
+    for (i = 0; i < COUNT(begun); i++) {
+        guarded(blocks, 0x60);
+        fail_both();
+        command_with(0x83, 0x80, 0);
+        command(begun[i].bytes, begun[i].length, 0);
+        if (i % 2 == 0 && begun[i].suspends)
+            command("\xB0", 1, 0);
+        reset();
+        shows(0x60 + 0x10);
+        ticked(1, 0, 0);
+        reset();
+        shows(0x60 + 0x10);
+        status_is(0x3C);
+    }
+}
+
+/* A chip erase runs only with code 0. */
+static void shown_in_chip_erase(uint32_t blocks)
+{
+    powered(blocks);
+    command("\x06", 1, 0);
+    command("\xC7", 1, 0);
+    shows(0x10 + WIP);
+    sets_and_clear_are(22);
+    ticked(4096, 0, 256 * blocks);
+    shows(0x10);
+}
+
+/* 83h: bits 7..5 of any byte at once, whatever WEL, which it leaves. */
+static void volatile_sets(uint32_t blocks)
+{
+    uint32_t value;
+
+    guarded(blocks, 0x20);
+    for (value = 0; value < 256; value++) {
+        command_with(0x83, (uint8_t)value, 0);
+        shows((uint8_t)((value & 0xE0) + 0x10));
+        if (value == 100)
+            command("\x06", 1, 0);
+    }
+    status_is(0x3E);
+    command("\x83", 1, 24);
+    command("\x83\x00\x00", 3, 24);
+    shows(0xF0);
+    ticked(1, 0, 0);
+    reset();
+    shows(0x30);
+}
+
+/* 85h: bits 7..5 of any byte at its tick, in the stored byte alone; the pin does not bar it. */
+static void stored_sets(uint32_t blocks)
+{
+    uint32_t value;
+    struct call up = fitting(POWER_UP);
+
+    up.blocks = blocks;
+    up.status = 0x80;
+    result_is(&up, 0, 0);
+    for (value = 0; value < 256; value++) {
+        const uint8_t bytes[] = {0x85, (uint8_t)value};
+
+        sent_at(0, bytes, 2, 26, 2);
+        command("\x06", 1, 0);
+        sent_at(0, bytes, 2, 0, 2);
+        status_is(0x83);
+        ticked(2, 0, 1);
+        status_is(0x80);
+        shows(value == 0 ? 0x10 : (uint8_t)(((value - 1) & 0xE0) + 0x10)); /* what the last one stored */
+        reset();
+        shows((uint8_t)((value & 0xE0) + 0x10));
+    }
+    command("\x85", 1, 24);
+    command("\x85\x00\x00", 3, 24);
+    command("\x06", 1, 0);
+    command("\x85", 1, 24);
+    command("\x85\x00\x00", 3, 24);
+    status_is(0x82);
+}
+
+/* 82h: the error bits alone, which nothing but it, reset and power-up clears. */
+static void clears(uint32_t blocks)
+{
+    guarded(blocks, 0x20);
+    command_with(0x83, 0xE0, 0);
+    shows(0xF0);
+    command("\x82", 1, 0);
+    shows(0xF0);
+    status_is(0x3C);
+    fail_both();
+    command("\x82\x00", 2, 24);
+    command("\x04", 1, 0);
+    command("\x06", 1, 0);
+    command("\x84", 1, 20);
+    ticked(1, 0, 0);
+    shows(0xF0 + 0x0E);
+    status_is(0x3E);
+    command("\x82", 1, 0);
+    shows(0xF0);
+    status_is(0x3E);
+    sent("\x48\x00", 2, 0, 1);
+    output_is(1, 0x80);
+}
+
+/* The error bits and both bytes outlast sleep; asleep the four codes are ignored. */
+static void asleep(uint32_t blocks)
+{
+    guarded(blocks, 0x40);
+    command_with(0x83, 0x80, 0);
+    fail_both();
+    command("\xB9", 1, 0);
+    command("\x81\x00", 2, 21);
+    sets_and_clear_are(21);
+    command("\xAB", 1, 0);
+    shows(0x80 + 0x1E);
+    reset();
+    shows(0x40 + 0x10);
+}
+
+/* 81h drives from place 1, whatever is sent with it, and disarms as any transaction does; so do 82h and 83h. */
+static void reads_of_each_length(uint32_t blocks)
+{
+    static uint8_t bytes[REF_MOST] = {0x81};
+    size_t length, i;
+
+    guarded(blocks, 0x80);
+    for (length = 2; length <= REF_MOST; length *= 2) {
+        bytes[length - 1] = (uint8_t)length;
+        sent(bytes, length, 0, 1);
+        for (i = 1; i < length; i++)
+            output_is(i, 0x90);
+    }
+    command("\x66", 1, 0);
+    command("\x81", 1, 0);
+    command("\x99", 1, 25);
+    command("\x66", 1, 0);
+    command("\x82", 1, 0);
+    command("\x99", 1, 25);
+    command("\x66", 1, 0);
+    command_with(0x83, 0x00, 0);
+    command("\x99", 1, 25);
+    shows(0x10);
+}
+
+/* What power-up is given shows at once. */
+static void stored_at_power_up(uint32_t blocks)
+{
+    uint32_t stored;
+
+    for (stored = 0; stored < 256; stored += 32) {
+        guarded(blocks, (uint8_t)stored);
+        shows((uint8_t)(stored + 0x10));
+        fail_both();
+        shows((uint8_t)(stored + 0x1E));
+    }
+}
+
+static void why_nothing(uint32_t blocks)
+{
+    all_that_is_barred(blocks);
+    what_sets_no_error(blocks);
+    shown_while_busy(blocks);
+    reset_while_busy(blocks);
+    shown_in_chip_erase(blocks);
+    volatile_sets(blocks);
+    stored_sets(blocks);
+    clears(blocks);
+    asleep(blocks);
+    reads_of_each_length(blocks);
+    stored_at_power_up(blocks);
+}
+
 static void on_size(uint32_t blocks)
 {
     struct call no_record;
@@ -369,6 +748,7 @@ static void on_size(uint32_t blocks)
     tick_numbers();
     identity();
     protected_blocks(blocks);
+    why_nothing(blocks);
     end_run();
 }
 

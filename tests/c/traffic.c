@@ -114,7 +114,8 @@ static void spoil(struct call *call)
 
 static void strange_transact(void)
 {
-    static const uint8_t openings[] = {0x03, 0x05, 0x06, 0x66, 0x99, 0x9F, 0xC7, 0x04, 0xB9, 0xAB, 0x75, 0x7A};
+    static const uint8_t openings[] = {0x03, 0x05, 0x06, 0x66, 0x99, 0x9F, 0xC7, 0x04, 0xB9, 0xAB,
+                                       0x75, 0x7A, 0x81, 0x82, 0x83, 0x85};
     struct call call = fitting(TRANSACT);
 
     message[0] = pick_byte(openings, COUNT(openings));
@@ -146,12 +147,14 @@ static struct call random_power_up(void)
     call.device = any_byte();
     call.status = one_in(2) ? 0 : any_byte() & 0xFC;
     call.function = one_in(2) ? 0 : any_byte() & locks & 0xF0;
+    call.extended = one_in(4) ? 0 : any_byte() & 0xE0;
     return call;
 }
 
 static void spoil_number(struct call *call)
 {
-    uint64_t *numbers[] = {&call->maker, &call->type, &call->capacity, &call->device, &call->status, &call->function};
+    uint64_t *numbers[] = {&call->maker,  &call->type,     &call->capacity, &call->device,
+                           &call->status, &call->function, &call->extended};
 
     *numbers[below(COUNT(numbers))] = pick(no_bytes, COUNT(no_bytes));
 }
@@ -162,7 +165,7 @@ static void spoil_power_up(struct call *call)
                                         15, 17, 32,  64,  257, 260,       65536,
                                         UINT64_C(1) << 32, (UINT64_C(1) << 32) + 16, UINT64_MAX};
 
-    switch (below(5)) {
+    switch (below(6)) {
     case 0:
         call->blocks = pick(no_sizes, COUNT(no_sizes));
         break;
@@ -174,6 +177,9 @@ static void spoil_power_up(struct call *call)
         break;
     case 3:
         call->function |= between(1, 15);
+        break;
+    case 4:
+        call->extended |= between(1, 31);
         break;
     default:
         do

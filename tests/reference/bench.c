@@ -209,7 +209,7 @@ static bool fresh_part(uint32_t size)
         array[i] = 0xFF;
     for (i = 0; i < sizeof rows; i++)
         rows[i] = 0xFF;
-    return ref_power_up(&part, size, 0x11, 0x22, 0x33, 0x44, 0, 0) == 0;
+    return ref_power_up(&part, size, 0x11, 0x22, 0x33, 0x44, 0, 0, 0) == 0;
 }
 
 static void run_script(size_t length, size_t pairs_most)

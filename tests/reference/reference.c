@@ -140,6 +140,10 @@ static bool operation_is_sound(const struct part *part)
         if ((op->held & 0x0F) != 0)
             return false;
         break;
+    case WRITE_EXTENDED:
+        if ((op->held & 0x1F) != 0)
+            return false;
+        break;
     default:
         return false;
     }
@@ -182,6 +186,8 @@ bool ref_sound(const struct part *part)
     if (((part->function & 0x04) != 0) != psus)
         return false;
     if ((part->function & 0x03) != 0)
+        return false;
+    if ((part->extended & 0x1F) != 0)
         return false;
 
     /* page data: zeros after the kept bytes of a program, all zero otherwise */
@@ -261,16 +267,30 @@ static void begin_write(struct part *part, uint8_t kind, uint8_t held)
     part->op.held = held;
 }
 
+static void clear_errors(struct part *part)
+{
+    part->e_err = false;
+    part->p_err = false;
+    part->prot_e = false;
+}
+
+/* Power-up and reset load the volatile byte from the stored one, with the error bits 0. */
+static void load_extended(struct part *part)
+{
+    part->live = part->extended;
+    clear_errors(part);
+}
+
 /* ---- Calls and their numbers ---- */
 
 int ref_power_up(struct part *part, uint32_t size, uint8_t m, uint8_t t, uint8_t c, uint8_t d,
-                 uint8_t status, uint8_t function)
+                 uint8_t status, uint8_t function, uint8_t extended)
 {
     int answer = 0;
 
     if (!size_is_good(size))
         answer = 1;
-    else if ((status & 0x03) != 0 || (function & 0x0F) != 0)
+    else if ((status & 0x03) != 0 || (function & 0x0F) != 0 || (extended & 0x1F) != 0)
         answer = 5;
 
     part->size = answer == 0 ? size : 1;
@@ -280,6 +300,8 @@ int ref_power_up(struct part *part, uint32_t size, uint8_t m, uint8_t t, uint8_t
     part->d = answer == 0 ? d : 0;
     part->status = answer == 0 ? status : 0;
     part->function = answer == 0 ? function : 0;
+    part->extended = answer == 0 ? extended : 0;
+    load_extended(part);
     part->wel = false;
     part->armed = false;
     part->asleep = false;
@@ -314,6 +336,7 @@ static bool in_the_table(uint8_t code)
     case 0xB9:
     case 0x66: case 0x99:
     case 0x64: case 0x62:
+    case 0x81: case 0x83: case 0x85: case 0x82:
         return true;
     default:
         return false;
@@ -323,13 +346,24 @@ static bool in_the_table(uint8_t code)
 static bool is_a_read(uint8_t code)
 {
     return code == 0x03 || code == 0x0B || code == 0x05 || code == 0x48 || code == 0x9F ||
-           code == 0x90 || code == 0xAB || code == 0x68;
+           code == 0x90 || code == 0xAB || code == 0x68 || code == 0x81;
+}
+
+static bool is_an_erase(uint8_t code)
+{
+    return code == 0xD7 || code == 0x20 || code == 0x52 || code == 0xD8 || code == 0xC7 ||
+           code == 0x60 || code == 0x64;
+}
+
+static bool is_a_program(uint8_t code)
+{
+    return code == 0x02 || code == 0x62;
 }
 
 static bool taken_while_busy(uint8_t code)
 {
-    return code == 0x05 || code == 0x48 || code == 0x75 || code == 0xB0 || code == 0x66 ||
-           code == 0x99;
+    return code == 0x05 || code == 0x48 || code == 0x81 || code == 0x75 || code == 0xB0 ||
+           code == 0x66 || code == 0x99;
 }
 
 static bool taken_while_suspended(uint8_t code)
@@ -340,13 +374,13 @@ static bool taken_while_suspended(uint8_t code)
 static bool length_is_right(uint8_t code, size_t length)
 {
     switch (code) {
-    case 0x05: case 0x48: case 0x9F: case 0xAB:
+    case 0x05: case 0x48: case 0x81: case 0x9F: case 0xAB:
         return length >= 1;
     case 0x03: case 0x90:
         return length >= 4;
     case 0x0B: case 0x68: case 0x02: case 0x62:
         return length >= 5;
-    case 0x01: case 0x42:
+    case 0x01: case 0x42: case 0x83: case 0x85:
         return length == 2;
     case 0xD7: case 0x20: case 0x52: case 0xD8: case 0x64:
         return length == 4;
@@ -358,8 +392,8 @@ static bool length_is_right(uint8_t code, size_t length)
 static bool needs_wel(uint8_t code)
 {
     switch (code) {
-    case 0x01: case 0x42: case 0x02: case 0xD7: case 0x20: case 0x52: case 0xD8: case 0xC7:
-    case 0x60: case 0x64: case 0x62:
+    case 0x01: case 0x42: case 0x85: case 0x02: case 0xD7: case 0x20: case 0x52: case 0xD8:
+    case 0xC7: case 0x60: case 0x64: case 0x62:
         return true;
     default:
         return false;
@@ -433,6 +467,39 @@ static int ignored_with(const struct part *part, bool wp_high, const uint8_t *in
     return 0;
 }
 
+/* An erase that answers 28 sets E_ERR and PROT_E, a program that does sets P_ERR and PROT_E; nothing else
+ * sets them. */
+static void set_errors(struct part *part, uint8_t code)
+{
+    if (is_an_erase(code)) {
+        part->e_err = true;
+        part->prot_e = true;
+    } else if (is_a_program(code)) {
+        part->p_err = true;
+        part->prot_e = true;
+    }
+}
+
+/* The extended read register as 81h reads it: bit 4 reads 1, bit 0 follows WIP. */
+static uint8_t extended_as_read(const struct part *part)
+{
+    return (uint8_t)((part->live & 0xE0) | 0x10 | (part->e_err ? 0x08 : 0) | (part->p_err ? 0x04 : 0) |
+                     (part->prot_e ? 0x02 : 0) | (part->phase == BUSY ? 0x01 : 0));
+}
+
+/* The register that 05h, 48h or 81h reads. */
+static uint8_t register_of(const struct part *part, uint8_t code)
+{
+    switch (code) {
+    case 0x05:
+        return part->status;
+    case 0x48:
+        return part->function;
+    default: /* 81h */
+        return extended_as_read(part);
+    }
+}
+
 int ref_transact(struct part *part, const uint8_t *array, size_t array_length, const uint8_t *rows,
                  size_t rows_length, bool wp_high, const uint8_t *in, size_t in_length, uint8_t *out,
                  size_t out_length, size_t *first)
@@ -459,11 +526,14 @@ int ref_transact(struct part *part, const uint8_t *array, size_t array_length, c
 
     answer = ignored_with(part, wp_high, in, in_length);
     if (answer != 0) {
+        if (answer == 28)
+            set_errors(part, in[0]);
         part->armed = false;
         return answer;
     }
     if (in[0] == 0x99) { /* reset; it is armed */
         make_idle(part);
+        load_extended(part);
         part->asleep = false;
         part->armed = false;
         return 0;
@@ -488,8 +558,9 @@ int ref_transact(struct part *part, const uint8_t *array, size_t array_length, c
     }
     case 0x05:
     case 0x48:
+    case 0x81:
         for (i = 1; i < in_length; i++)
-            out[i] = in[0] == 0x05 ? part->status : part->function;
+            out[i] = register_of(part, in[0]);
         if (in_length > 1)
             *first = 1;
         break;
@@ -590,6 +661,15 @@ int ref_transact(struct part *part, const uint8_t *array, size_t array_length, c
         begin_program(part, ROW_PROGRAM, (uint32_t)(in[2] / 16) * REF_PAGE, in[3], in + 4,
                       in_length - 4);
         break;
+    case 0x83: /* at once */
+        part->live = in[1] & 0xE0;
+        break;
+    case 0x85:
+        begin_write(part, WRITE_EXTENDED, in[1] & 0xE0);
+        break;
+    case 0x82: /* at once too */
+        clear_errors(part);
+        break;
     default: /* no other code gets here */
         break;
     }
@@ -630,6 +710,9 @@ static void one_tick(struct part *part, uint8_t *array, uint8_t *rows)
         break;
     case WRITE_FUNCTION: /* sets IRL bits, never clears one */
         part->function = part->function | op->held;
+        break;
+    case WRITE_EXTENDED: /* the stored byte; the volatile one stays */
+        part->extended = op->held;
         break;
     default:
         break;

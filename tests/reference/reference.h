@@ -26,7 +26,8 @@ enum kind {
     ROW_ERASE = 6,  /* 64h: base is the row's first place in the rows: 0, 256, 512 or 768 */
     ROW_PROGRAM = 7, /* 62h: base as for ROW_ERASE */
     WRITE_STATUS = 8,  /* 01h: held is its byte with bits 1..0 zero */
-    WRITE_FUNCTION = 9 /* 42h: held is its byte with bits 3..0 zero */
+    WRITE_FUNCTION = 9, /* 42h: held is its byte with bits 3..0 zero */
+    WRITE_EXTENDED = 10 /* 85h: held is its byte with bits 4..0 zero */
 };
 
 /* Fields that a kind has no use for are written as 0 and never looked at. */
@@ -44,6 +45,9 @@ struct part {
     uint8_t m, t, c, d; /* maker, type, capacity, device */
     uint8_t status;   /* 7 SRWD, 6 QE, 5..2 BP3..BP0, 1 WEL, 0 WIP */
     uint8_t function; /* 7..4 IRL3..IRL0, 3 ESUS, 2 PSUS, 1..0 zero */
+    uint8_t extended; /* the extended read register's stored byte: 7..5 ODS2..ODS0, 4..0 zero */
+    uint8_t live;     /* its volatile byte: 7..5 ODS2..ODS0; 4..0 are kept zero */
+    bool e_err, p_err, prot_e; /* its error bits */
     bool wel;
     bool armed;
     bool asleep;
@@ -55,7 +59,7 @@ struct part {
 /* Each call answers a number of the specification's table. */
 
 int ref_power_up(struct part *part, uint32_t size, uint8_t m, uint8_t t, uint8_t c, uint8_t d,
-                 uint8_t status, uint8_t function);
+                 uint8_t status, uint8_t function, uint8_t extended);
 
 bool ref_sound(const struct part *part);
 

@@ -218,11 +218,25 @@ static uint32_t data_length(void)
 
 /* ---- Pieces of scenes ---- */
 
-static void poll(void)
+static void read_register(uint8_t code)
 {
-    start(0x05);
+    start(code);
     add_any(one_in(6) ? below(6) : 1);
     send();
+}
+
+/* Looks for WIP, which the status and the extended read register show. */
+static void poll(void)
+{
+    read_register(one_in(4) ? 0x81 : 0x05);
+}
+
+/* Looks why a write did nothing, and at times clears what is told. */
+static void see_errors(void)
+{
+    read_register(0x81);
+    if (one_in(4))
+        send_code(0x82);
 }
 
 /* Waits for an operation of so many ticks, as drivers do; at times not long enough. */
@@ -340,18 +354,19 @@ static uint8_t status_value(void)
     return (uint8_t)(code << 2 | (one_in(4) ? 0x80 : 0) | (one_in(4) ? 0x40 : 0) | below(4));
 }
 
-static void send_status(bool wp_high, uint8_t value)
+/* Sends a register write, with write enable before it. */
+static void send_write(bool wp_high, uint8_t code, uint8_t value)
 {
     start(0x06);
     send_at(wp_high);
-    start(0x01);
+    start(code);
     add(value);
     send_at(wp_high);
 }
 
 static void write_status(uint8_t value)
 {
-    send_status(true, value);
+    send_write(true, 0x01, value);
     ticks(1);
 }
 
@@ -433,6 +448,39 @@ static void function_scene(void)
     send_two(0x48, any_byte());
 }
 
+/* Sets the volatile byte, or the stored one, which shows after a reset. */
+static void extended_scene(void)
+{
+    if (one_in(2)) {
+        send_two(0x83, any_byte());
+    } else {
+        write_enable();
+        send_two(0x85, any_byte());
+        if (one_in(4))
+            send_code(pick_byte(suspends, COUNT(suspends)));
+        if (!one_in(4))
+            wait(1);
+    }
+    see_errors();
+    if (one_in(2)) {
+        send_code(0x66);
+        send_code(0x99);
+        read_register(0x81);
+    }
+}
+
+/* A chip erase, at times between arming and reset. */
+static void disarming_erase(void)
+{
+    bool reset = one_in(3);
+
+    if (reset)
+        send_code(0x66);
+    send_code(pick_byte(chip_erases, COUNT(chip_erases)));
+    if (reset)
+        send_code(0x99);
+}
+
 static void guard_scene(void)
 {
     uint32_t tries = between(2, 6);
@@ -442,10 +490,12 @@ static void guard_scene(void)
         uint32_t at = one_in(2) ? border_address() : address();
 
         write_enable();
-        if (one_in(8))
-            send_code(pick_byte(chip_erases, COUNT(chip_erases)));
+        if (one_in(6))
+            disarming_erase();
         else
             wait(send_change(at));
+        if (!one_in(4))
+            see_errors();
         if (one_in(2))
             read_at(at);
     }
@@ -456,9 +506,11 @@ static void guard_scene(void)
 static void pin_scene(void)
 {
     write_status(0x80 | status_value());
-    send_status(one_in(4), status_value());
+    send_write(one_in(4), one_in(6) ? 0x85 : 0x01, status_value());
     wait(1);
     poll();
+    if (one_in(2))
+        see_errors();
     if (!one_in(5))
         unprotect();
 }
@@ -476,6 +528,8 @@ static void row_scene(void)
     } else {
         wait(send_program(0x62, at));
     }
+    if (one_in(2))
+        see_errors();
     start(0x68);
     add_address(at);
     add_any(1 + some_length(one_in(4) ? 50 : 8));
@@ -487,7 +541,7 @@ static void well_formed(uint8_t code)
 {
     start(code);
     switch (code) {
-    case 0x05: case 0x48: case 0x9F: case 0xAB:
+    case 0x05: case 0x48: case 0x81: case 0x9F: case 0xAB:
         add_any(below(8));
         break;
     case 0x90:
@@ -511,6 +565,9 @@ static void well_formed(uint8_t code)
     case 0x42:
         add(any_byte() & 0x0F);
         break;
+    case 0x83: case 0x85:
+        add(any_byte());
+        break;
     case 0x02:
         add_address(address());
         add_data(data_length());
@@ -532,10 +589,11 @@ static void well_formed(uint8_t code)
 
 static const uint8_t codes[] = {0x03, 0x0B, 0x05, 0x48, 0x9F, 0x90, 0xAB, 0x68, 0x06, 0x04,
                                 0x01, 0x42, 0x02, 0xD7, 0x20, 0x52, 0xD8, 0xC7, 0x60, 0x75,
-                                0xB0, 0x7A, 0x30, 0xB9, 0x66, 0x99, 0x64, 0x62};
+                                0xB0, 0x7A, 0x30, 0xB9, 0x66, 0x99, 0x64, 0x62, 0x81, 0x82,
+                                0x83, 0x85};
 
 static const uint8_t write_codes[] = {0x01, 0x42, 0x02, 0xD7, 0x20, 0x52,
-                                      0xD8, 0xC7, 0x60, 0x64, 0x62};
+                                      0xD8, 0xC7, 0x60, 0x64, 0x62, 0x85};
 
 static void send_well_formed(uint8_t code)
 {
@@ -559,6 +617,8 @@ static void suspend_scene(void)
         ticks(below(needed > 16 && one_in(2) ? needed : 16));
         send_code(pick_byte(suspends, COUNT(suspends)));
         send_two(0x48, any_byte());
+        if (one_in(3))
+            see_errors();
         read_at(at);
         if (one_in(3))
             some_ticks();
@@ -601,6 +661,8 @@ static void reset_scene(void)
     if (one_in(4))
         send_code(0x99);
     poll();
+    if (one_in(2))
+        see_errors();
     read_at(at);
 }
 
@@ -712,6 +774,7 @@ static const struct scene scenes[] = {
     {read_over_end, {4, 2, 2, 2, 2}},
     {status_scene, {2, 6, 2, 1, 2}},
     {function_scene, {2, 2, 5, 2, 2}},
+    {extended_scene, {3, 6, 4, 3, 3}},
     {guard_scene, {2, 16, 2, 1, 2}},
     {pin_scene, {1, 10, 1, 1, 1}},
     {row_scene, {6, 4, 30, 3, 5}},

@@ -25,7 +25,7 @@ use Rattle.paper.specs.Numbers.{commandNumber, ignoredNumber}
 use Rattle.paper.specs.Table.{decoded}
 use Rattle.paper.specs.Records.{fresh}
 use Rattle.paper.specs.Ticks.{recordAfter, workingTicks}
-use Rattle.paper.proofs.MadeSound.{registers-again, code-stored}
+use Rattle.paper.proofs.MadeSound.{live-again, registers-again, code-stored}
 use Rattle.paper.proofs.Runs.{run-record, run-memory, run-works}
 use Rattle.paper.proofs.EraseRun.{stretch, erase-ran}
 use Rattle.cases.proofs.Paper.{send, tick, arrayTicked, Ready, Free}
@@ -107,4 +107,4 @@ module _ (p : Record) (r : Ready p) (has : 3 < p .part .blocks) (free : Free (co
     unfolding decoded unless
     cut-resets =
         executes (cut k true) (cut-sound k true h) true Reset (0x99 ∷ []) (omega arith) (omega arith) refl (reset-number (cut k true .part) (cut k true .phase) (r .awake) true true refl)
-        ∙ rw (registers-again (Suspended (erasing k)) false (p .part .stored) Idle false)
+        ∙ rw (registers-again (Suspended (erasing k)) false (p .part .stored) Idle false, live-again (Suspended (erasing k)) false (p .part .stored))

@@ -6,7 +6,7 @@ use mathlib.Core.List.{List, [], _∷_}
 use lib.ListN.{length, replicate}
 use Rattle.types.specs.declared.Memory.the-variants.{Array, Rows}
 use Rattle.types.specs.declared.EraseUnit.the-variants.{Sector, Chip, Row}
-use Rattle.types.specs.declared.Register.the-variants.{Status}
+use Rattle.types.specs.declared.Register.the-variants.{Status, Extended}
 use Rattle.types.specs.declared.Operation.{Operation}
 use Rattle.types.specs.declared.Operation.the-variants.{Program, Erase, Write}
 use Rattle.types.specs.declared.Phase.{Phase}
@@ -46,7 +46,7 @@ numbers p (e ∷ es) =
 abbrev pub recordWith : Phase → Bool → Bool → Bool → Record
 recordWith f wel armed asleep =
     record {
-      part = record { blocks = 16; identity = noIdentity; stored = registersIn f wel noStored; wel = wel; armed = armed; asleep = asleep };
+      part = record { blocks = 16; identity = noIdentity; stored = registersIn f wel noStored; wel = wel; armed = armed; asleep = asleep; live = 0 };
       phase = f;
       page = noData;
     }
@@ -55,34 +55,35 @@ recordWith f wel armed asleep =
 abbrev pub program : Operation
 program = Program Array 0 0 1 0
 
--- 05h, 48h and 66h, and 99h where it is armed, are taken while busy; 75h and B0h where the operation can be suspended
+-- 05h, 48h, 81h and 66h, and 99h where it is armed, are taken while busy; 75h and B0h where the operation can be suspended
 abbrev pub whileBusy : ℕ → List ℕ
 whileBusy s =
-    22 ∷ 22 ∷ 0 ∷ 0 ∷ 22 ∷ 22 ∷ 22 ∷ 22 ∷ 22 ∷ 22 ∷ 22 ∷ 22 ∷ 22 ∷ 22 ∷ 22 ∷ 22 ∷ 22 ∷ 22 ∷ 22 ∷ s ∷ s ∷ 22 ∷ 22 ∷ 22 ∷ 0 ∷ 0 ∷ 22 ∷ 22 ∷ []
+    22 ∷ 22 ∷ 0 ∷ 0 ∷ 22 ∷ 22 ∷ 22 ∷ 22 ∷ 22 ∷ 22 ∷ 22 ∷ 22 ∷ 22 ∷ 22 ∷ 22 ∷ 22 ∷ 22 ∷ 22 ∷ 22 ∷ s ∷ s ∷ 22 ∷ 22 ∷ 22 ∷ 0 ∷ 0 ∷ 22 ∷ 22 ∷ 0 ∷ 22 ∷ 22 ∷ 22 ∷ []
 
 -- the reads, 7Ah, 30h and 66h, and 99h where it is armed, are taken while suspended
 abbrev pub whileSuspended : List ℕ
 whileSuspended =
-    0 ∷ 0 ∷ 0 ∷ 0 ∷ 0 ∷ 0 ∷ 0 ∷ 0 ∷ 23 ∷ 23 ∷ 23 ∷ 23 ∷ 23 ∷ 23 ∷ 23 ∷ 23 ∷ 23 ∷ 23 ∷ 23 ∷ 23 ∷ 23 ∷ 0 ∷ 0 ∷ 23 ∷ 0 ∷ 0 ∷ 23 ∷ 23 ∷ []
+    0 ∷ 0 ∷ 0 ∷ 0 ∷ 0 ∷ 0 ∷ 0 ∷ 0 ∷ 23 ∷ 23 ∷ 23 ∷ 23 ∷ 23 ∷ 23 ∷ 23 ∷ 23 ∷ 23 ∷ 23 ∷ 23 ∷ 23 ∷ 23 ∷ 0 ∷ 0 ∷ 23 ∷ 0 ∷ 0 ∷ 23 ∷ 23 ∷ 0 ∷ 23 ∷ 23 ∷ 23 ∷ []
 
--- the codes, as they stand in the table: 03 0B 05 48 9F 90 AB 68 06 04 01 42 02 D7 20 52 D8 C7 60 75 B0 7A 30 B9 66 99 64 62
+-- the codes, as they stand in the table: 03 0B 05 48 9F 90 AB 68 06 04 01 42 02 D7 20 52 D8 C7 60 75 B0 7A 30 B9 66 99 64 62 81 85 83 82
 pub record States : Type 0 where
   pub idle : numbers (recordWith Idle true false false) codes
-      ≡ 0 ∷ 0 ∷ 0 ∷ 0 ∷ 0 ∷ 0 ∷ 0 ∷ 0 ∷ 0 ∷ 0 ∷ 0 ∷ 0 ∷ 0 ∷ 0 ∷ 0 ∷ 0 ∷ 0 ∷ 0 ∷ 0 ∷ 25 ∷ 25 ∷ 25 ∷ 25 ∷ 0 ∷ 0 ∷ 25 ∷ 0 ∷ 0 ∷ []
+      ≡ 0 ∷ 0 ∷ 0 ∷ 0 ∷ 0 ∷ 0 ∷ 0 ∷ 0 ∷ 0 ∷ 0 ∷ 0 ∷ 0 ∷ 0 ∷ 0 ∷ 0 ∷ 0 ∷ 0 ∷ 0 ∷ 0 ∷ 25 ∷ 25 ∷ 25 ∷ 25 ∷ 0 ∷ 0 ∷ 25 ∷ 0 ∷ 0 ∷ 0 ∷ 0 ∷ 0 ∷ 0 ∷ []
   pub idle-without-wel : numbers (recordWith Idle false true false) codes
-      ≡ 0 ∷ 0 ∷ 0 ∷ 0 ∷ 0 ∷ 0 ∷ 0 ∷ 0 ∷ 0 ∷ 0 ∷ 26 ∷ 26 ∷ 26 ∷ 26 ∷ 26 ∷ 26 ∷ 26 ∷ 26 ∷ 26 ∷ 25 ∷ 25 ∷ 25 ∷ 25 ∷ 0 ∷ 0 ∷ 0 ∷ 26 ∷ 26 ∷ []
+      ≡ 0 ∷ 0 ∷ 0 ∷ 0 ∷ 0 ∷ 0 ∷ 0 ∷ 0 ∷ 0 ∷ 0 ∷ 26 ∷ 26 ∷ 26 ∷ 26 ∷ 26 ∷ 26 ∷ 26 ∷ 26 ∷ 26 ∷ 25 ∷ 25 ∷ 25 ∷ 25 ∷ 0 ∷ 0 ∷ 0 ∷ 26 ∷ 26 ∷ 0 ∷ 26 ∷ 0 ∷ 0 ∷ []
   pub asleep : numbers (recordWith Idle true true true) codes
-      ≡ 21 ∷ 21 ∷ 21 ∷ 21 ∷ 21 ∷ 21 ∷ 0 ∷ 21 ∷ 21 ∷ 21 ∷ 21 ∷ 21 ∷ 21 ∷ 21 ∷ 21 ∷ 21 ∷ 21 ∷ 21 ∷ 21 ∷ 21 ∷ 21 ∷ 21 ∷ 21 ∷ 21 ∷ 21 ∷ 21 ∷ 21 ∷ 21 ∷ []
+      ≡ 21 ∷ 21 ∷ 21 ∷ 21 ∷ 21 ∷ 21 ∷ 0 ∷ 21 ∷ 21 ∷ 21 ∷ 21 ∷ 21 ∷ 21 ∷ 21 ∷ 21 ∷ 21 ∷ 21 ∷ 21 ∷ 21 ∷ 21 ∷ 21 ∷ 21 ∷ 21 ∷ 21 ∷ 21 ∷ 21 ∷ 21 ∷ 21 ∷ 21 ∷ 21 ∷ 21 ∷ 21 ∷ []
   pub busy-program : numbers (recordWith (Busy program) true true false) codes ≡ whileBusy 0
   pub busy-sector : numbers (recordWith (Busy (Erase Sector 4096 3)) true true false) codes ≡ whileBusy 0
   pub busy-chip : numbers (recordWith (Busy (Erase Chip 0 5)) true true false) codes ≡ whileBusy 25
   pub busy-row : numbers (recordWith (Busy (Erase Row 256 0)) true true false) codes ≡ whileBusy 25
   pub busy-row-program : numbers (recordWith (Busy (Program Rows 512 7 1 0)) true true false) codes ≡ whileBusy 25
   pub busy-write : numbers (recordWith (Busy (Write Status 0)) true true false) codes ≡ whileBusy 25
+  pub busy-extended : numbers (recordWith (Busy (Write Extended 0x20)) true true false) codes ≡ whileBusy 25
   pub suspended-program : numbers (recordWith (Suspended program) false true false) codes ≡ whileSuspended
   pub suspended-sector : numbers (recordWith (Suspended (Erase Sector 4096 3)) false true false) codes ≡ whileSuspended
 
 pub states : States
 unfolding transacted outcomeOf transactionRefusal sizeNumber rowsNumber lengthNumber outputNumber soundNumber commandNumber sound partSound operationOk bitsOk pageOk sizeOk decoded addressIn highFirst rowOk rowPlace question among blockRow cellOf locked barred noData pagePlace programOf eraseOf writeOf _and_ _or_ unless _orElse_
 states =
-    record { idle = refl; idle-without-wel = refl; asleep = refl; busy-program = refl; busy-sector = refl; busy-chip = refl; busy-row = refl; busy-row-program = refl; busy-write = refl; suspended-program = refl; suspended-sector = refl }
+    record { idle = refl; idle-without-wel = refl; asleep = refl; busy-program = refl; busy-sector = refl; busy-chip = refl; busy-row = refl; busy-row-program = refl; busy-write = refl; busy-extended = refl; suspended-program = refl; suspended-sector = refl }

@@ -43,7 +43,7 @@ identity = record { maker = 0x11; kind = 0x22; capacity = 0x33; device = 0x44 }
 -- the part's record with this status and function, this latch, armed or not, in this phase and with this page data
 abbrev pub recordAt : ℕ → ℕ → Bool → Bool → Phase → List ℕ → Record
 recordAt status function wel armed f page =
-    record { part = record { blocks = 1; identity = identity; stored = withBytes status function noStored; wel = wel; armed = armed; asleep = false }; phase = f; page = page }
+    record { part = record { blocks = 1; identity = identity; stored = withBytes status function noStored; wel = wel; armed = armed; asleep = false; live = 0x00 }; phase = f; page = page }
 
 -- A5h, 5Ah and 3Ch programmed at 000010h, with k ticks done
 abbrev pub program : ℕ → Operation

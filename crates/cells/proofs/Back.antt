@@ -3,7 +3,7 @@ use Prim.Native.Nat.{ℕ}
 use mathlib.Core.Path.{_≡_, refl, ap}
 use Rattle.types.specs.declared.Memory.the-variants.{Array, Rows}
 use Rattle.types.specs.declared.EraseUnit.the-variants.{Sector, Block32, Block64, Chip, Row}
-use Rattle.types.specs.declared.Register.the-variants.{Status, Function}
+use Rattle.types.specs.declared.Register.the-variants.{Status, Function, Extended}
 use Rattle.types.specs.declared.Operation.{Operation}
 use Rattle.types.specs.declared.Operation.the-variants.{Program, Erase, Write}
 use Rattle.types.specs.declared.Phase.{Phase}
@@ -21,6 +21,7 @@ operation-back f (Erase Chip b d) = refl
 operation-back f (Erase Row b d) = refl
 operation-back f (Write Status v) = refl
 operation-back f (Write Function v) = refl
+operation-back f (Write Extended v) = refl
 
 operation-phase : (f : ℕ) (o : Operation) → operationCells f o .phase ≡ f
 operation-phase f (Program m b s k d) = refl

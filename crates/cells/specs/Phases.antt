@@ -7,14 +7,14 @@ use Rattle.types.specs.declared.Memory.the-variants.{Array, Rows}
 use Rattle.types.specs.declared.EraseUnit.{EraseUnit}
 use Rattle.types.specs.declared.EraseUnit.the-variants.{Sector, Block32, Block64, Chip, Row}
 use Rattle.types.specs.declared.Register.{Register}
-use Rattle.types.specs.declared.Register.the-variants.{Status, Function}
+use Rattle.types.specs.declared.Register.the-variants.{Status, Function, Extended}
 use Rattle.types.specs.declared.Operation.{Operation}
 use Rattle.types.specs.declared.Operation.the-variants.{Program, Erase, Write}
 use Rattle.types.specs.declared.Phase.{Phase}
 use Rattle.types.specs.declared.Phase.the-variants.{Idle, Busy, Suspended}
 use Rattle.cells.specs.declared.Cells.{Cells}
 
--- a kind for each operation: 1 and 2 programs, 3 to 7 erases, 8 and 9 register writes
+-- a kind for each operation: 1 and 2 programs, 3 to 7 erases, 8 to 10 register writes
 abbrev pub programKind : Memory → ℕ
 programKind Array = 1
 programKind Rows = 2
@@ -29,6 +29,7 @@ eraseKind Row = 7
 abbrev pub writeKind : Register → ℕ
 writeKind Status = 8
 writeKind Function = 9
+writeKind Extended = 10
 
 -- the cells of a phase: its number, the operation's kind, and the operation's numbers
 abbrev pub cells : ℕ → ℕ → ℕ → ℕ → ℕ → ℕ → Cells
@@ -57,7 +58,7 @@ eraseIn u s = Erase u (s .base) (s .done)
 abbrev pub writeIn : Register → Cells → Operation
 writeIn r s = Write r (s .value)
 
--- the operation of a kind; of one that is none, a function write
+-- the operation of a kind; of one that is none, a write of the extended read register
 unfoldable pub operationOf : ℕ → Cells → Operation
 operationOf k s =
     cond (eqb k 1) (programIn Array s)
@@ -66,7 +67,8 @@ operationOf k s =
     (cond (eqb k 4) (eraseIn Block32 s)
     (cond (eqb k 5) (eraseIn Block64 s)
     (cond (eqb k 6) (eraseIn Chip s)
-    (cond (eqb k 7) (eraseIn Row s) (cond (eqb k 8) (writeIn Status s) (writeIn Function s))))))))
+    (cond (eqb k 7) (eraseIn Row s)
+    (cond (eqb k 8) (writeIn Status s) (cond (eqb k 9) (writeIn Function s) (writeIn Extended s)))))))))
 
 -- the phase of cells; where its number is none, suspended
 unfoldable pub phaseOf : Cells → Phase

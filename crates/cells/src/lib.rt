@@ -48,6 +48,7 @@ fn write_kind(register: Register) -> u8
     match register {
         Register::Status => 8,
         Register::Function => 9,
+        Register::Extended => 10,
     }
 }
 
@@ -150,7 +151,7 @@ fn write_in(register: Register, cells: Cells) -> Operation
     }
 }
 
-// The operation of a kind; of one that is none, a function write.
+// The operation of a kind; of one that is none, a write of the extended read register.
 fn operation_of(kind: u8, cells: Cells) -> Operation
     ensures { λ r. ⌜ r ≡ operationOf kind cells ⌝ }
 {
@@ -163,11 +164,12 @@ fn operation_of(kind: u8, cells: Cells) -> Operation
         6 => erase_in(EraseUnit::Chip, cells),
         7 => erase_in(EraseUnit::Row, cells),
         8 => write_in(Register::Status, cells),
-        _ => write_in(Register::Function, cells),
+        9 => write_in(Register::Function, cells),
+        _ => write_in(Register::Extended, cells),
     }
 }
 
-// The phase of cells, whatever stands there: a kind that is none is a function write, a phase that is none is suspended.
+// The phase of cells, whatever stands there: a kind that is none is a write of the extended read register, a phase that is none is suspended.
 pub fn phase_of(cells: Cells) -> Phase
     ensures { λ r. ⌜ r ≡ phaseOf cells ⌝ }
 {

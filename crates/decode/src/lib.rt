@@ -33,6 +33,10 @@ pub fn decode(code: u8) -> Decoded
         0x99 => Decoded::Known(Command::Reset),
         0x64 => Decoded::Known(Command::RowErase),
         0x62 => Decoded::Known(Command::RowProgram),
+        0x81 => Decoded::Known(Command::ReadExtended),
+        0x85 => Decoded::Known(Command::SetStored),
+        0x83 => Decoded::Known(Command::SetLive),
+        0x82 => Decoded::Known(Command::ClearErrors),
         0x00
         | 0x07..=0x0A
         | 0x0C..=0x1F
@@ -47,7 +51,9 @@ pub fn decode(code: u8) -> Decoded
         | 0x67
         | 0x69..=0x74
         | 0x76..=0x79
-        | 0x7B..=0x8F
+        | 0x7B..=0x80
+        | 0x84
+        | 0x86..=0x8F
         | 0x91..=0x98
         | 0x9A..=0x9E
         | 0xA0..=0xAA

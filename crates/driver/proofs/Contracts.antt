@@ -23,8 +23,8 @@ pub tick-drives : Follows yawlspar-tick.Learnt (λ κ a x s.
     → Driven (now (a .0)) (now (a .1 .0)) (now (a .1 .1 .0)) (tick (a .1 .1 .1 .0) ∷ ds) cs ys ts)
 tick-drives κ a x s l ds cs ys ts r = passes x (l .0) (l .1 .0) (l .1 .1 .0) (l .1 .1 .1) r
 
--- bytes, blocks, maker, kind, capacity, device, status and function are
+-- bytes, blocks, maker, kind, capacity, device, status, function and extended are
 pub power-up-drives : Follows yawlspar-power-up.Learnt (λ κ a x s.
-    (x ≡ powerUpAnswer (length (now (a .0))) (asked (a .1 .0) (a .1 .1 .0) (a .1 .1 .1 .0) (a .1 .1 .1 .1 .0) (a .1 .1 .1 .1 .1 .0) (a .1 .1 .1 .1 .1 .1 .0) (a .1 .1 .1 .1 .1 .1 .1 .0)))
-    × (now (s .0) ≡ powerUpBytes (asked (a .1 .0) (a .1 .1 .0) (a .1 .1 .1 .0) (a .1 .1 .1 .1 .0) (a .1 .1 .1 .1 .1 .0) (a .1 .1 .1 .1 .1 .1 .0) (a .1 .1 .1 .1 .1 .1 .1 .0)) (now (a .0))))
+    (x ≡ powerUpAnswer (length (now (a .0))) (asked (a .1 .0) (a .1 .1 .0) (a .1 .1 .1 .0) (a .1 .1 .1 .1 .0) (a .1 .1 .1 .1 .1 .0) (a .1 .1 .1 .1 .1 .1 .0) (a .1 .1 .1 .1 .1 .1 .1 .0) (a .1 .1 .1 .1 .1 .1 .1 .1 .0)))
+    × (now (s .0) ≡ powerUpBytes (asked (a .1 .0) (a .1 .1 .0) (a .1 .1 .1 .0) (a .1 .1 .1 .1 .0) (a .1 .1 .1 .1 .1 .0) (a .1 .1 .1 .1 .1 .1 .0) (a .1 .1 .1 .1 .1 .1 .1 .0) (a .1 .1 .1 .1 .1 .1 .1 .1 .0)) (now (a .0))))
 power-up-drives κ a x s l = (l .0, l .1)

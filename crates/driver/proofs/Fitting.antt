@@ -19,7 +19,7 @@ use Rattle.types.specs.declared.Stored.{Stored}
 use Rattle.types.specs.declared.Data.{Data}
 use Rattle.types.specs.declared.Data.the-variants.{Kept, Sent, Zero}
 use Rattle.types.specs.declared.Change.{Change}
-use Rattle.types.specs.declared.Change.the-variants.{Same, Marked, Became}
+use Rattle.types.specs.declared.Change.the-variants.{Same, Marked, Live, Became}
 use Rattle.types.specs.declared.Record.{Record}
 use Rattle.words.proofs.Tests.{and-l, and-r}
 use Rattle.paper.specs.Sizes.{memoryBytes, pageBytes}
@@ -92,6 +92,7 @@ after-page Zero i g h = none-page
 pub changed-page : (c : Change) (i : List ℕ) (p : Record) → Page p → Page (changed c i p)
 changed-page Same i p h = h
 changed-page (Marked armed) i p h = h
+changed-page (Live v) i p h = h
 changed-page (Became q f d) i p h = after-page d i (p .page) h
 
 -- and so do ticks

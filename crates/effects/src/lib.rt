@@ -1,20 +1,36 @@
-// What an executed command makes of the record, and the record after a change.
+// What a command that is executed, or barred with 28, makes of the record, and the record after a change.
 ghost use mathlib.Core.Path.{_≡_};
-ghost use Rattle.paper.specs.Records.{marked, resting};
-ghost use Rattle.paper.specs.Commands.{pageAfter, changed, settles, starts, changeBy};
+ghost use Rattle.paper.specs.Records.{marked, resting, withLive};
+ghost use Rattle.paper.specs.Commands.{pageAfter, changed, settles, starts, changeBy, errorsOf, changeBarred};
 use types::Change;
 use types::Data;
 use types::Effect;
 use types::Part;
 use types::Phase;
 use types::Record;
+use types::Register;
 use types::Work;
+
+// The error bits of the extended read register.
+const E_ERR: u8 = 8;
+
+const P_ERR: u8 = 4;
+
+const PROT_E: u8 = 2;
 
 fn mark(part: Part, armed: bool) -> Part
     ensures { λ r. ⌜ r ≡ marked part armed ⌝ }
 {
     let mut next = part;
     next.armed = armed;
+    next
+}
+
+fn set_live(part: Part, live: u8) -> Part
+    ensures { λ r. ⌜ r ≡ withLive part live ⌝ }
+{
+    let mut next = part;
+    next.live = live;
     next
 }
 
@@ -46,8 +62,8 @@ fn start(work: Work, part: Part, phase: Phase, page: Data) -> Change
 
 // What an executed command changes, of a part in a phase, where it begins the work. Only an arming one leaves the
 // armed mark set.
-pub fn change_by(effect: Effect, work: Work, part: Part, phase: Phase) -> Change
-    ensures { λ r. ⌜ r ≡ changeBy effect work part phase ⌝ }
+pub fn change_by(effect: Effect, work: Work, part: Part, phase: Phase, input: &[u8]) -> Change
+    ensures { λ r. ⌜ r ≡ changeBy effect work part phase (now (input .entry)) ⌝ }
 {
     let identity = part.identity;
     let stored = part.stored;
@@ -67,7 +83,42 @@ pub fn change_by(effect: Effect, work: Work, part: Part, phase: Phase) -> Change
             let next = record::fresh_part(part.blocks, identity, stored);
             Change::Became(next, Phase::Idle, Data::Zero)
         }
+        Effect::SetsLive => {
+            let set = operations::held_byte(Register::Extended, sent::byte_at(input, 1));
+            let live = set + part.live % 32;
+            Change::Live(live)
+        }
+        Effect::ClearsErrors => Change::Live(operations::held_byte(Register::Extended, part.live)),
     }
+}
+
+// The error bits that a command sets when it answers 28.
+fn errors_of(effect: Effect) -> u8
+    ensures { λ r. ⌜ r ≡ errorsOf effect ⌝ }
+{
+    match effect {
+        Effect::Looks => 0,
+        Effect::Enables => 0,
+        Effect::Disables => 0,
+        Effect::Programs(_) => P_ERR + PROT_E,
+        Effect::Erases(_) => E_ERR + PROT_E,
+        Effect::Writes(_) => 0,
+        Effect::Suspends => 0,
+        Effect::Resumes => 0,
+        Effect::Sleeps => 0,
+        Effect::Wakes => 0,
+        Effect::Arms => 0,
+        Effect::Resets => 0,
+        Effect::SetsLive => 0,
+        Effect::ClearsErrors => 0,
+    }
+}
+
+// What a command changes that answers 28.
+pub fn change_barred(effect: Effect, part: Part) -> Change
+    ensures { λ r. ⌜ r ≡ changeBarred effect part ⌝ }
+{
+    Change::Live(part.live | errors_of(effect))
 }
 
 // Page data after a call with an input.
@@ -92,6 +143,16 @@ pub fn apply(change: Change, input: &[u8], state: Record) -> Record
             let part = state.part;
             let phase = state.phase;
             let next = mark(part, armed);
+            Record {
+                part: next,
+                phase: phase,
+                page: page,
+            }
+        }
+        Change::Live(live) => {
+            let part = state.part;
+            let phase = state.phase;
+            let next = set_live(mark(part, false), live);
             Record {
                 part: next,
                 phase: phase,

@@ -51,6 +51,7 @@ fn pin_ok(register: Register, stored: Stored, wp: bool) -> bool
     match register {
         Register::Status => !protection::is_barred(stored.status, wp),
         Register::Function => true,
+        Register::Extended => true,
     }
 }
 

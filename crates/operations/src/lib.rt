@@ -85,6 +85,7 @@ pub fn held_byte(register: Register, byte: u8) -> u8
     match register {
         Register::Status => byte / 4 * 4,
         Register::Function => byte / 16 * 16,
+        Register::Extended => byte / 32 * 32,
     }
 }
 

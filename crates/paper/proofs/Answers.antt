@@ -44,7 +44,7 @@ module _ (p : Record) (s : sound p ≡ true) where
 
     -- else it is ignored
     pub ignores : (c : ℕ) → ignoredNumber (Known k) (p .part) (p .phase) i wp ≡ suc c
-        → transacted p (arrayBytes (p .part .blocks)) rowsBytes wp i (length i) ≡ answered (ignored (Known k) (suc c) (p .part) (p .phase) (length i)) i p
+        → transacted p (arrayBytes (p .part .blocks)) rowsBytes wp i (length i) ≡ answered (ignored (Known k) (suc c) (p .part) (length i)) i p
     ignores c n = answered-to ∙ rw (n, eqb·suc-zero c)
 
   ticks-not-refused : (n : ℕ) → n ≤ tickLimit → tickNumber (p .part .blocks) (sound p) (arrayBytes (p .part .blocks)) rowsBytes n ≡ 0

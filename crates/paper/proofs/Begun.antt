@@ -12,7 +12,7 @@ use Rattle.types.specs.declared.Memory.the-variants.{Array, Rows}
 use Rattle.types.specs.declared.EraseUnit.{EraseUnit}
 use Rattle.types.specs.declared.EraseUnit.the-variants.{Sector, Block32, Block64, Chip, Row}
 use Rattle.types.specs.declared.Register.{Register}
-use Rattle.types.specs.declared.Register.the-variants.{Status, Function}
+use Rattle.types.specs.declared.Register.the-variants.{Status, Function, Extended}
 use Rattle.types.specs.declared.Phase.{Phase}
 use Rattle.types.specs.declared.Phase.the-variants.{Idle, Busy}
 use Rattle.types.specs.declared.Stored.{Stored}
@@ -113,6 +113,7 @@ erase-ok u n g i h v f =
 held-again : (r : Register) (b : ℕ) → held r (held r b) ≡ held r b
 held-again Status b = omega arith
 held-again Function b = omega arith
+held-again Extended b = omega arith
 
 write-ok : (r : Register) (n : ℕ) (g : Stored) (i : List ℕ) → operationOk (writeOf r i) n g ≡ true
 unfolding writeOf

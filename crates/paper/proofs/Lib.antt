@@ -8,6 +8,7 @@ pub mod Phases
 pub mod Records
 pub mod MadeSound
 pub mod Soundness
+pub mod Extended
 pub mod Runs
 pub mod EraseRun
 pub mod Kept
@@ -18,3 +19,4 @@ pub mod TransactionKept
 pub mod Answers
 pub mod CallKept
 pub mod LocksKept
+pub mod ErrorsKept

@@ -5,10 +5,10 @@ use mathlib.Core.Bool.{Bool, true, false, cond}
 use mathlib.Core.List.{List}
 use native.Mathlib.Omega.{arith}
 use lib.Dec.{ltb}
-use lib.Bits.{bitOr, or-step, or-shr}
+use lib.Bits.{bitOr}
 use borrow.Author.Tests.{eqb-true, eq-eqb}
 use Rattle.types.specs.declared.Register.{Register}
-use Rattle.types.specs.declared.Register.the-variants.{Status, Function}
+use Rattle.types.specs.declared.Register.the-variants.{Status, Function, Extended}
 use Rattle.types.specs.declared.Operation.{Operation}
 use Rattle.types.specs.declared.Operation.the-variants.{Program, Erase, Write}
 use Rattle.types.specs.declared.Phase.{Phase}
@@ -16,7 +16,7 @@ use Rattle.types.specs.declared.Phase.the-variants.{Idle}
 use Rattle.types.specs.declared.Work.{Work}
 use Rattle.types.specs.declared.Work.the-variants.{NoWork, At}
 use Rattle.types.specs.declared.Effect.{Effect}
-use Rattle.types.specs.declared.Effect.the-variants.{Looks, Enables, Disables, Programs, Erases, Writes, Suspends, Resumes, Sleeps, Wakes, Arms, Resets}
+use Rattle.types.specs.declared.Effect.the-variants.{Looks, Enables, Disables, Programs, Erases, Writes, Suspends, Resumes, Sleeps, Wakes, Arms, Resets, SetsLive, ClearsErrors}
 use Rattle.types.specs.declared.Stored.{Stored}
 use Rattle.types.specs.declared.Record.{Record}
 use Rattle.types.specs.declared.Data.{Data}
@@ -32,13 +32,14 @@ use Rattle.paper.specs.Table.{columns}
 use Rattle.paper.specs.Ticks.{finished, advanced, worked, tickedAt, recordAfter}
 use Rattle.paper.specs.History.{Call, transaction, ticks, recordAfterCall}
 use Rattle.paper.proofs.Records.{function-low-le}
+use Rattle.paper.proofs.Extended.{or-bit}
 use Rattle.paper.proofs.MadeSound.{high-half, lock-stored}
 use Rattle.paper.proofs.TransactionKept.{after-transaction}
 use Rattle.paper.proofs.CallKept.{after-tick-call}
 
 -- a bit that is 1 is 1 in every OR with it
 or-keeps : (a b k : ℕ) → a / 2 ^ k % 2 ≡ 1 → bitOr a b / 2 ^ k % 2 ≡ 1
-or-keeps a b k h = ap (λ (t : ℕ). t % 2) (or-shr a b k ∙ or-step (a / 2 ^ k) (b / 2 ^ k)) ∙ omega (arith, h)
+or-keeps a b k h = or-bit a b k ∙ omega (arith, h)
 
 -- what an operation's last tick makes of the function register
 module _ (fn k : ℕ) (h : locked fn k ≡ true) where
@@ -57,6 +58,7 @@ module _ (k : ℕ) (g : Stored) (h : LockedIn k g) where
   written-locked : (r : Register) (v : ℕ) → LockedIn k (registerWritten r v g)
   written-locked Status v = h
   written-locked Function v = or-locked (g .function) k h v
+  written-locked Extended v = h
 
   after-locked : (o : Operation) → LockedIn k (storedAfter o g)
   after-locked (Program m b s c d) = h
@@ -76,7 +78,7 @@ module _ (k : ℕ) (p : Record) (h : Locked k p) where
   starts-locked NoWork d i = h
   starts-locked (At o) d i = made-locked k (p .part .stored) h (startedIn (p .phase) o) true
 
-  effect-locked : (e : Effect) (w : Work) (i : List ℕ) → Locked k (changed (changeBy e w (p .part) (p .phase)) i p)
+  effect-locked : (e : Effect) (w : Work) (i : List ℕ) → Locked k (changed (changeBy e w (p .part) (p .phase) i) i p)
   effect-locked Looks w i = h
   effect-locked Enables w i = made-locked k (p .part .stored) h (p .phase) true
   effect-locked Disables w i = made-locked k (p .part .stored) h (p .phase) false
@@ -89,6 +91,8 @@ module _ (k : ℕ) (p : Record) (h : Locked k p) where
   effect-locked Wakes w i = h
   effect-locked Arms w i = h
   effect-locked Resets w i = made-locked k (p .part .stored) h Idle false
+  effect-locked SetsLive w i = h
+  effect-locked ClearsErrors w i = h
 
   worked-locked : (o : Operation) (t : Bool) → Locked k (cond t (advanced p (advancedBy 1 o)) (finished p o))
   worked-locked o true = h
@@ -105,7 +109,7 @@ run-locked k (suc n) p h = ticked-locked k (recordAfter n p) (run-locked k n p h
 
 pub call-locked : (c : Call) (k : ℕ) (p : Record) → Locked k p → Locked k (recordAfterCall c p)
 call-locked (transaction wp i o) k p h =
-    after-transaction (Locked k) p wp i h (λ d n. h)
+    after-transaction (Locked k) p wp i h h (λ v. h)
     (λ c e. effect-locked k p h (columns c .effect) (begins (columns c .effect) (p .part .blocks) i) i) (arrayBytes (p .part .blocks)) rowsBytes o
 call-locked (ticks n) k p h =
     after-tick-call (Locked k) p n h (run-locked k n p h) (arrayBytes (p .part .blocks)) rowsBytes

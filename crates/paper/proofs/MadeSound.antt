@@ -14,14 +14,14 @@ use Rattle.types.specs.declared.Operation.{Operation}
 use Rattle.types.specs.declared.Operation.the-variants.{Program, Erase, Write}
 use Rattle.types.specs.declared.Phase.{Phase}
 use Rattle.types.specs.declared.Phase.the-variants.{Idle, Busy, Suspended}
-use Rattle.types.specs.declared.Register.the-variants.{Status, Function}
+use Rattle.types.specs.declared.Register.the-variants.{Status, Function, Extended}
 use Rattle.types.specs.declared.Stored.{Stored}
 use Rattle.types.specs.declared.Part.{Part}
 use Rattle.words.specs.Logic.{_and_}
 use Rattle.paper.specs.Sizes.{sizeOk, pageBytes}
 use Rattle.paper.specs.Protection.{codeOf, protectedAt, locked}
 use Rattle.paper.specs.Operations.{free, targetFree, unitFree}
-use Rattle.paper.specs.Registers.{held}
+use Rattle.paper.specs.Registers.{held, liveLoaded}
 use Rattle.paper.specs.Records.{statusLow, functionLow, registersIn, made}
 use Rattle.paper.specs.Soundness.{sleepOk, latchOk, phaseOk, operationOk, bitsOk, partSound}
 use Rattle.paper.proofs.Records.{status-low-le, function-low-le}
@@ -71,14 +71,19 @@ module _ (f : Phase) (wel : Bool) (g : Stored) where
   bits-made =
       let s : statusLow f wel ≤ 3 = status-low-le f wel in
       let t : functionLow f ≤ 8 = function-low-le f in
-      rw (eq-eqb ((held Status (g .status) + statusLow f wel) % 4) (statusLow f wel) (omega arith), eq-eqb ((held Function (g .function) + functionLow f) % 16) (functionLow f) (omega arith))
+      rw (eq-eqb ((held Status (g .status) + statusLow f wel) % 4) (statusLow f wel) (omega arith), eq-eqb ((held Function (g .function) + functionLow f) % 16) (functionLow f) (omega arith), eq-eqb (held Extended (g .extended) % 32) 0 (omega arith))
 
   -- registers made anew of made ones
   pub registers-again : (h : Phase) (w : Bool) → registersIn h w (registersIn f wel g) ≡ registersIn h w g
   registers-again h w =
       let s : held Status (held Status (g .status) + statusLow f wel) ≡ held Status (g .status) = omega (arith, status-low-le f wel) in
       let t : held Function (held Function (g .function) + functionLow f) ≡ held Function (g .function) = omega (arith, function-low-le f) in
-      rw (s, t)
+      let u : held Extended (held Extended (g .extended)) ≡ held Extended (g .extended) = omega arith in
+      rw (s, t, u)
+
+  -- and the live byte loaded from them
+  pub live-again : liveLoaded (registersIn f wel g) ≡ liveLoaded g
+  live-again = omega arith
 
 pub made-sound : (p : Part) (g : Stored) (f : Phase) (wel : Bool)
     → sizeOk (p .blocks) ≡ true → sleepOk f (p .asleep) ≡ true → latchOk f wel ≡ true → phaseOk f (p .blocks) g ≡ true

@@ -20,8 +20,8 @@ use Rattle.paper.specs.Table.{lengthOk, takenAsleep, takenBusy, takenSus
 use Rattle.paper.specs.Soundness.{bitsOk}
 use Rattle.paper.specs.Numbers.{sizeNumber, rowsNumber, lengthNumber, outputNumber, soundNumber, ticksNumber, transactionRefusal, tickNumber, stateOk, addressOk, freeOk, commandNumber}
 
--- power-up's 5: status bits 1..0 or function bits 3..0 not zero
-pub power-up-bits : (s : Stored) → bitsOk Idle false s ≡ (eqb (s .status % 4) 0 and eqb (s .function % 16) 0)
+-- power-up's 5: status bits 1..0, function bits 3..0 or bits 4..0 of the extended read register not zero
+pub power-up-bits : (s : Stored) → bitsOk Idle false s ≡ (eqb (s .status % 4) 0 and eqb (s .function % 16) 0 and eqb (s .extended % 32) 0)
 unfolding bitsOk
 power-up-bits s = refl
 

@@ -15,7 +15,7 @@ use Rattle.words.specs.Logic.{_or_}
 use Rattle.words.proofs.Tests.{and-l, and-r, and-in}
 use Rattle.paper.specs.Sizes.{sizeOk}
 use Rattle.paper.specs.Phases.{running}
-use Rattle.paper.specs.Records.{marked}
+use Rattle.paper.specs.Records.{marked, withLive}
 use Rattle.paper.specs.Operations.{ticksInAll, ticksDone, aligned, inside, targetFree}
 use Rattle.paper.proofs.Phases.{no-work-at, at-same}
 use Rattle.paper.specs.Soundness.{sleepOk, latchOk, contentOk, operationOk, phaseOk, bitsOk, pageOk, partSound, sound}
@@ -62,6 +62,11 @@ sound-in p f e h =
 pub marked-sound : (p : Part) (f : Phase) (g : List ℕ) (armed : Bool) → sound (recordOf p f g) ≡ true → sound (recordOf (marked p armed) f g) ≡ true
 unfolding sound partSound
 marked-sound p f g armed h = h
+
+-- nor does the live byte
+pub live-sound : (p : Part) (f : Phase) (g : List ℕ) (v : ℕ) → sound (recordOf p f g) ≡ true → sound (recordOf (withLive p v) f g) ≡ true
+unfolding sound partSound
+live-sound p f g v h = h
 
 -- an awake part may be in any phase
 pub awake-ok : (f : Phase) → sleepOk f false ≡ true

@@ -11,14 +11,14 @@ use Rattle.types.specs.declared.Memory.the-variants.{Array, Rows}
 use Rattle.types.specs.declared.EraseUnit.{EraseUnit}
 use Rattle.types.specs.declared.EraseUnit.the-variants.{Sector, Block32, Block64, Chip, Row}
 use Rattle.types.specs.declared.Register.{Register}
-use Rattle.types.specs.declared.Register.the-variants.{Status, Function}
+use Rattle.types.specs.declared.Register.the-variants.{Status, Function, Extended}
 use Rattle.types.specs.declared.Operation.{Operation}
 use Rattle.types.specs.declared.Phase.{Phase}
 use Rattle.types.specs.declared.Phase.the-variants.{Idle, Busy, Suspended}
 use Rattle.types.specs.declared.Work.{Work}
 use Rattle.types.specs.declared.Work.the-variants.{NoWork, At}
 use Rattle.types.specs.declared.Command.{Command}
-use Rattle.types.specs.declared.Command.the-variants.{Read, FastRead, ReadStatus, ReadFunction, ReadIdentity, ReadMakerDevice, Wake, ReadRow, WriteEnable, WriteDisable, WriteStatus, WriteFunction, PageProgram, SectorErase, BlockErase32, BlockErase64, ChipErase, Suspend, Resume, Sleep, ArmReset, Reset, RowErase, RowProgram}
+use Rattle.types.specs.declared.Command.the-variants.{Read, FastRead, ReadStatus, ReadFunction, ReadIdentity, ReadMakerDevice, Wake, ReadRow, WriteEnable, WriteDisable, WriteStatus, WriteFunction, PageProgram, SectorErase, BlockErase32, BlockErase64, ChipErase, Suspend, Resume, Sleep, ArmReset, Reset, RowErase, RowProgram, ReadExtended, SetStored, SetLive, ClearErrors}
 use Rattle.types.specs.declared.Decoded.{Decoded}
 use Rattle.types.specs.declared.Decoded.the-variants.{Known, Unknown}
 use Rattle.types.specs.declared.Length.{Length}
@@ -30,56 +30,74 @@ use Rattle.types.specs.declared.Wanted.{Wanted}
 use Rattle.types.specs.declared.Wanted.the-variants.{Any}
 use Rattle.types.specs.declared.Source.the-variants.{None}
 use Rattle.types.specs.declared.Effect.{Effect}
-use Rattle.types.specs.declared.Effect.the-variants.{Looks, Enables, Disables, Programs, Erases, Writes, Suspends, Resumes, Sleeps, Wakes, Arms, Resets}
+use Rattle.types.specs.declared.Effect.the-variants.{Looks, Enables, Disables, Programs, Erases, Writes, Suspends, Resumes, Sleeps, Wakes, Arms, Resets, SetsLive, ClearsErrors}
 use Rattle.types.specs.declared.Part.{Part}
 use Rattle.types.specs.declared.Record.{Record}
 use Rattle.types.specs.declared.Data.{Data}
 use Rattle.types.specs.declared.Data.the-variants.{Kept, Sent}
+use Rattle.types.specs.declared.Change.the-variants.{Marked, Live}
 use Rattle.types.specs.declared.Outcome.{Outcome}
 use Rattle.words.specs.Logic.{_or_}
 use Rattle.words.specs.Lists.{allZero}
 use Rattle.words.proofs.Tests.{and-l, and-r, and-in}
 use Rattle.paper.specs.Program.{programOf}
 use Rattle.paper.specs.Erase.{memoryOf, eraseOf}
-use Rattle.paper.specs.Registers.{writeOf}
+use Rattle.paper.specs.Registers.{writeOf, liveSet, liveCleared, liveFailed}
 use Rattle.paper.specs.Phases.{isBusy, isSuspended, startedIn, suspendedIn, resumedIn}
-use Rattle.paper.specs.Records.{settled, marked, resting}
+use Rattle.paper.specs.Records.{settled, marked, resting, withLive}
 use Rattle.paper.specs.Operations.{targetFree}
 use Rattle.paper.specs.Suspend.{suspendable, resumable}
 use Rattle.paper.specs.Soundness.{sleepOk, pageOk, sound}
 use Rattle.paper.specs.Table.{decoded, line, WEL, columns}
-use Rattle.paper.specs.Commands.{changed, begins, settles, starts, changeBy, changeIgnored}
+use Rattle.paper.specs.Commands.{changed, begins, settles, starts, changeBy, errorsOf, changeBarred, changeIgnored}
 use Rattle.paper.specs.Numbers.{freeOk, ignoredNumber, transactionRefusal}
 use Rattle.paper.specs.Calls.{refused, ignored, executed, outcomeTo, outcomeOf, transacted}
 use Rattle.paper.proofs.Phases.{idle-of}
 use Rattle.paper.proofs.MadeSound.{made-sound}
-use Rattle.paper.proofs.Soundness.{recordOf, sound-parts, sound-of, sound-whole, sound-in, marked-sound, awake-ok}
+use Rattle.paper.proofs.Soundness.{recordOf, sound-parts, sound-of, sound-whole, sound-in, marked-sound, live-sound, awake-ok}
 use Rattle.paper.proofs.Numbers.{CommandTaken, command-taken}
 use Rattle.paper.proofs.Begun.{Valid, program-begun, settled-empty, erase-begun, write-begun, idle-empty}
 use Rattle.paper.proofs.Kept.{fresh-sound}
 
--- what holds of the record before, of one after a transaction that was ignored, and of one after a command that no number applies to, holds of the record after a transaction
-module _ (P : Record → Type 0) (p : Record) (wp : Bool) (i : List ℕ) (same : P p)
-    (passed-over : (d : Decoded) (n : ℕ) → P (changed (changeIgnored d n (p .part) (p .phase)) i p))
-    (did : (k : Command) → ignoredNumber (Known k) (p .part) (p .phase) i wp ≡ 0 → P (changed (executed (columns k) (p .part) (p .phase) i .change) i p)) where
-  answered-to : (k : Command) (t : Bool) → eqb (ignoredNumber (Known k) (p .part) (p .phase) i wp) 0 ≡ t
-      → P (changed (cond {A = Outcome} t (executed (columns k) (p .part) (p .phase) i) (ignored (Known k) (ignoredNumber (Known k) (p .part) (p .phase) i wp) (p .part) (p .phase) (length i)) .change) i p)
+-- what holds of each refusal, of each way to be ignored, and of a command that no number applies to, holds of a transaction's outcome
+module _ (Q : Outcome → Type 0) (p : Part) (f : Phase) (wp : Bool) (i : List ℕ)
+    (turned-away : (n : ℕ) → Q (refused n)) (passed-over : (d : Decoded) (n : ℕ) → Q (ignored d n p (length i)))
+    (did : (k : Command) → ignoredNumber (Known k) p f i wp ≡ 0 → Q (executed (columns k) p f i)) where
+  answered-to : (k : Command) (t : Bool) → eqb (ignoredNumber (Known k) p f i wp) 0 ≡ t
+      → Q (cond t (executed (columns k) p f i) (ignored (Known k) (ignoredNumber (Known k) p f i wp) p (length i)))
   answered-to k true e = did k (eqb-true _ _ e)
-  answered-to k false e = passed-over (Known k) (ignoredNumber (Known k) (p .part) (p .phase) i wp)
+  answered-to k false e = passed-over (Known k) (ignoredNumber (Known k) p f i wp)
 
-  after-outcome : (d : Decoded) → P (changed (outcomeTo d (p .part) (p .phase) wp i .change) i p)
-  after-outcome (Known k) = answered-to k (eqb (ignoredNumber (Known k) (p .part) (p .phase) i wp) 0) refl
-  after-outcome Unknown = passed-over Unknown 20
+  outcome-to : (d : Decoded) → Q (outcomeTo d p f wp i)
+  outcome-to (Known k) = answered-to k (eqb (ignoredNumber (Known k) p f i wp) 0) refl
+  outcome-to Unknown = passed-over Unknown 20
 
-  refused-or-not : (n : ℕ) (t : Bool) → P (changed (cond {A = Outcome} t (outcomeTo (decoded (getD i 0 0)) (p .part) (p .phase) wp i) (refused n) .change) i p)
-  refused-or-not n true = after-outcome (decoded (getD i 0 0))
-  refused-or-not n false = same
+  refused-or-not : (n : ℕ) (t : Bool) → Q (cond t (outcomeTo (decoded (getD i 0 0)) p f wp i) (refused n))
+  refused-or-not n true = outcome-to (decoded (getD i 0 0))
+  refused-or-not n false = turned-away n
+
+  pub any-outcome : (s : Bool) (a r o : ℕ) → Q (outcomeOf p f s a r wp i o)
+  unfolding outcomeOf
+  any-outcome s a r o =
+      let n = transactionRefusal (p .blocks) s a r (length i) o in
+      refused-or-not n (eqb n 0)
+
+-- what holds of the record before, of it unarmed, with any live byte too, and of one after a command that no number applies to, holds of the record after a transaction
+module _ (P : Record → Type 0) (p : Record) (wp : Bool) (i : List ℕ) (same : P p)
+    (unmarked : P (changed (Marked false) i p)) (lived : (v : ℕ) → P (changed (Live v) i p))
+    (did : (k : Command) → ignoredNumber (Known k) (p .part) (p .phase) i wp ≡ 0 → P (changed (executed (columns k) (p .part) (p .phase) i .change) i p)) where
+  -- ignored with 28, or with another number
+  barred-or-not : (e : Effect) (t : Bool) → P (changed (cond t (changeBarred e (p .part)) (Marked false)) i p)
+  barred-or-not e true = lived (liveFailed (errorsOf e) (p .part .live))
+  barred-or-not e false = unmarked
+
+  ignored-so : (d : Decoded) (n : ℕ) → P (changed (changeIgnored d n (p .part)) i p)
+  ignored-so (Known k) n = barred-or-not (columns k .effect) (eqb n 28)
+  ignored-so Unknown n = unmarked
 
   pub after-transaction : (a r o : ℕ) → P (transacted p a r wp i o .next)
-  unfolding transacted outcomeOf
-  after-transaction a r o =
-      let n = transactionRefusal (p .part .blocks) (sound p) a r (length i) o in
-      refused-or-not n (eqb n 0)
+  unfolding transacted
+  after-transaction = any-outcome (λ (u : Outcome). P (changed (u .change) i p)) (p .part) (p .phase) wp i (λ n. same) ignored-so did (sound p)
 
 -- a part of the same size and identity
 abbrev SamePart : Part → Record → Type 0
@@ -90,7 +108,7 @@ module _ (p : Record) (i : List ℕ) where
   starts-same NoWork d = (refl, refl)
   starts-same (At o) d = (refl, refl)
 
-  change-same : (e : Effect) (w : Work) → SamePart (p .part) (changed (changeBy e w (p .part) (p .phase)) i p)
+  change-same : (e : Effect) (w : Work) → SamePart (p .part) (changed (changeBy e w (p .part) (p .phase) i) i p)
   change-same Looks w = (refl, refl)
   change-same Enables w = (refl, refl)
   change-same Disables w = (refl, refl)
@@ -103,11 +121,13 @@ module _ (p : Record) (i : List ℕ) where
   change-same Wakes w = (refl, refl)
   change-same Arms w = (refl, refl)
   change-same Resets w = (refl, refl)
+  change-same SetsLive w = (refl, refl)
+  change-same ClearsErrors w = (refl, refl)
 
   module _ (a r : ℕ) (wp : Bool) (o : ℕ) where
     transaction-same : SamePart (p .part) (transacted p a r wp i o .next)
     transaction-same =
-        after-transaction (SamePart (p .part)) p wp i (refl, refl) (λ d n. (refl, refl))
+        after-transaction (SamePart (p .part)) p wp i (refl, refl) (refl, refl) (λ v. (refl, refl))
         (λ k e. change-same (columns k .effect) (begins (columns k .effect) (p .part .blocks) i)) a r o
 
     pub transaction-size : transacted p a r wp i o .next .part .blocks ≡ p .part .blocks
@@ -120,6 +140,10 @@ module _ (p : Record) (i : List ℕ) where
 module _ (p : Record) (s : sound p ≡ true) where
   marks : (armed : Bool) → sound (recordOf (marked (p .part) armed) (p .phase) (p .page)) ≡ true
   marks armed = marked-sound (p .part) (p .phase) (p .page) armed s
+
+  -- the live byte does not matter
+  lives : (v : ℕ) → sound (recordOf (withLive (marked (p .part) false) v) (p .phase) (p .page)) ≡ true
+  lives v = live-sound (marked (p .part) false) (p .phase) (p .page) v (marks false)
 
   -- a part that is made anew, unarmed
   unarms : (q : Part) (f : Phase) (g : List ℕ) → sound (recordOf q f g) ≡ true → sound (recordOf (marked q false) f g) ≡ true
@@ -215,9 +239,13 @@ module _ (p : Record) (s : sound p ≡ true) where
     executed-sound Reset t = fresh-sound (p .part .blocks) (p .part .identity) (p .part .stored) (sound-parts p s .size)
     executed-sound RowErase t = erases Row (t .address-ok) t
     executed-sound RowProgram t = programs Rows (t .address-ok) t
+    executed-sound ReadExtended t = marks false
+    executed-sound SetStored t = writes Extended t
+    executed-sound SetLive t = lives (liveSet (getD i 1 0) (p .part .live))
+    executed-sound ClearErrors t = lives (liveCleared (p .part .live))
 
 pub transaction-sound : (p : Record) (a r : ℕ) (wp : Bool) (i : List ℕ) (o : ℕ) → sound p ≡ true → sound (transacted p a r wp i o .next) ≡ true
 transaction-sound p a r wp i o s =
-    after-transaction (λ (q : Record). sound q ≡ true) p wp i s (λ d n. marks p s false)
+    after-transaction (λ (q : Record). sound q ≡ true) p wp i s (marks p s false) (lives p s)
     (λ k e. executed-sound p s i wp k (command-taken (columns k) (begins (columns k .effect) (p .part .blocks) i) (p .part) (p .phase) i wp e))
     a r o

@@ -31,13 +31,13 @@ abbrev pub noIdentity : Identity
 noIdentity = record { maker = 0; kind = 0; capacity = 0; device = 0 }
 
 abbrev pub noStored : Stored
-noStored = record { status = 0; function = 0 }
+noStored = record { status = 0; function = 0; extended = 0 }
 
 -- the record of a refused power-up: an idle 1-block record, all else zero
 abbrev pub zeroRecord : Record
 zeroRecord = fresh 1 noIdentity noStored
 
--- power-up gives an idle, awake, unarmed record with WEL 0 and page data zero
+-- power-up gives an idle, awake, unarmed record with WEL 0, page data zero, and the live byte loaded with the error bits 0
 unfoldable pub poweredUp : ℕ → Identity → Stored → PoweredUp
 poweredUp n id s =
     whenZero (powerUpNumber n s)
@@ -49,21 +49,21 @@ abbrev pub refused : ℕ → Outcome
 refused number = record { change = Same; number = number; first = 0 }
 
 -- answers 20 to 28 are the part ignoring a transaction of n bytes; nothing is driven
-abbrev pub ignored : Decoded → ℕ → Part → Phase → ℕ → Outcome
-ignored d number p f n = record { change = changeIgnored d number p f; number = number; first = n }
+abbrev pub ignored : Decoded → ℕ → Part → ℕ → Outcome
+ignored d number p n = record { change = changeIgnored d number p; number = number; first = n }
 
 -- 0: executed
 abbrev pub executed : Columns → Part → Phase → List ℕ → Outcome
 executed k p f i =
-    record { change = changeBy (k .effect) (begins (k .effect) (p .blocks) i) p f; number = 0; first = firstDriven k (length i) }
+    record { change = changeBy (k .effect) (begins (k .effect) (p .blocks) i) p f i; number = 0; first = firstDriven k (length i) }
 
 -- the outcome of a first byte that was decoded
 abbrev pub outcomeTo : Decoded → Part → Phase → Bool → List ℕ → Outcome
 outcomeTo (Known k) p f wp i =
     whenZero (ignoredNumber (Known k) p f i wp)
     (executed (columns k) p f i)
-    (ignored (Known k) (ignoredNumber (Known k) p f i wp) p f (length i))
-outcomeTo Unknown p f wp i = ignored Unknown (ignoredNumber Unknown p f i wp) p f (length i)
+    (ignored (Known k) (ignoredNumber (Known k) p f i wp) p (length i))
+outcomeTo Unknown p f wp i = ignored Unknown (ignoredNumber Unknown p f i wp) p (length i)
 
 -- the outcome of a transaction, for a record that is sound or is not, an array of a, rows of r and an output of o bytes. It does not depend on stored bytes
 unfoldable pub outcomeOf : Part → Phase → Bool → ℕ → ℕ → Bool → List ℕ → ℕ → Outcome

@@ -1,25 +1,29 @@
 -- What a transaction makes of the record.
-use Prim.Native.Nat.{ℕ}
+use Prim.Native.Nat.{ℕ, _+_}
 use mathlib.Core.List.{List}
-use mathlib.Core.Bool.{Bool, true, false}
+use mathlib.Core.Bool.{Bool, true, false, cond}
+use lib.ListN.{getD}
+use lib.Dec.{eqb}
 use Rattle.types.specs.declared.Phase.{Phase}
 use Rattle.types.specs.declared.Phase.the-variants.{Idle}
 use Rattle.types.specs.declared.Work.{Work}
 use Rattle.types.specs.declared.Work.the-variants.{NoWork, At}
 use Rattle.types.specs.declared.Decoded.{Decoded}
+use Rattle.types.specs.declared.Decoded.the-variants.{Known, Unknown}
 use Rattle.types.specs.declared.Effect.{Effect}
-use Rattle.types.specs.declared.Effect.the-variants.{Looks, Enables, Disables, Programs, Erases, Writes, Suspends, Resumes, Sleeps, Wakes, Arms, Resets}
+use Rattle.types.specs.declared.Effect.the-variants.{Looks, Enables, Disables, Programs, Erases, Writes, Suspends, Resumes, Sleeps, Wakes, Arms, Resets, SetsLive, ClearsErrors}
 use Rattle.types.specs.declared.Part.{Part}
 use Rattle.types.specs.declared.Record.{Record}
 use Rattle.types.specs.declared.Data.{Data}
 use Rattle.types.specs.declared.Data.the-variants.{Kept, Sent, Zero}
 use Rattle.types.specs.declared.Change.{Change}
-use Rattle.types.specs.declared.Change.the-variants.{Same, Marked, Became}
+use Rattle.types.specs.declared.Change.the-variants.{Same, Marked, Live, Became}
 use Rattle.paper.specs.Phases.{startedIn, suspendedIn, resumedIn}
-use Rattle.paper.specs.Records.{settled, freshPart, marked, resting}
+use Rattle.paper.specs.Records.{settled, freshPart, marked, resting, withLive}
 use Rattle.paper.specs.Program.{dataSent, pageData, noData, programOf}
 use Rattle.paper.specs.Erase.{eraseOf}
-use Rattle.paper.specs.Registers.{writeOf}
+use Rattle.paper.specs.Registers.{writeOf, E_ERR, P_ERR, PROT_E, liveSet, liveCleared, liveFailed}
+use Rattle.paper.specs.Table.{columns}
 
 -- what becomes of page data g in a call with the input i
 abbrev pub pageAfter : Data → List ℕ → List ℕ → List ℕ
@@ -31,6 +35,7 @@ pageAfter Zero i g = noData
 abbrev pub changed : Change → List ℕ → Record → Record
 changed Same i p = p
 changed (Marked armed) i p = record { part = marked (p .part) armed; phase = p .phase; page = p .page }
+changed (Live v) i p = record { part = withLive (marked (p .part) false) v; phase = p .phase; page = p .page }
 changed (Became q f d) i p = record { part = q; phase = f; page = pageAfter d i (p .page) }
 
 -- what a command begins on a part of n blocks, with the input i
@@ -47,6 +52,8 @@ begins Sleeps n i = NoWork
 begins Wakes n i = NoWork
 begins Arms n i = NoWork
 begins Resets n i = NoWork
+begins SetsLive n i = NoWork
+begins ClearsErrors n i = NoWork
 
 -- every transaction but an executed 66h leaves the part unarmed
 abbrev pub unarmed : Part → Phase → Data → Change
@@ -61,24 +68,49 @@ abbrev pub starts : Work → Part → Phase → Data → Change
 starts NoWork p f d = Marked false
 starts (At o) p f d = settles p (startedIn f o) true d
 
--- what an executed command changes, of a part in a phase, where it begins w
-abbrev pub changeBy : Effect → Work → Part → Phase → Change
-changeBy Looks w p f = Marked false
-changeBy Enables w p f = settles p f true Kept
-changeBy Disables w p f = settles p f false Kept
-changeBy (Programs m) w p f = starts w p f Sent
-changeBy (Erases u) w p f = starts w p f Kept
-changeBy (Writes r) w p f = starts w p f Kept
+-- what an executed command changes, of a part in a phase, where it begins w, with the input i
+abbrev pub changeBy : Effect → Work → Part → Phase → List ℕ → Change
+changeBy Looks w p f i = Marked false
+changeBy Enables w p f i = settles p f true Kept
+changeBy Disables w p f i = settles p f false Kept
+changeBy (Programs m) w p f i = starts w p f Sent
+changeBy (Erases u) w p f i = starts w p f Kept
+changeBy (Writes r) w p f i = starts w p f Kept
 -- WIP and WEL become 0, PSUS or ESUS 1
-changeBy Suspends w p f = settles p (suspendedIn f) false Kept
+changeBy Suspends w p f i = settles p (suspendedIn f) false Kept
 -- resume goes on with the next tick and sets WEL to 1
-changeBy Resumes w p f = settles p (resumedIn f) true Kept
-changeBy Sleeps w p f = unarmed (resting p true) f Kept
-changeBy Wakes w p f = unarmed (resting p false) f Kept
-changeBy Arms w p f = Marked true
--- operation dropped, WEL 0, awake, unarmed: what power-up gives for the same size, identity and stored register bits
-changeBy Resets w p f = Became (freshPart (p .blocks) (p .identity) (p .stored)) Idle Zero
+changeBy Resumes w p f i = settles p (resumedIn f) true Kept
+changeBy Sleeps w p f i = unarmed (resting p true) f Kept
+changeBy Wakes w p f i = unarmed (resting p false) f Kept
+changeBy Arms w p f i = Marked true
+-- operation dropped, WEL 0, awake, unarmed, the live byte loaded: what power-up gives for the same size, identity and stored register bits
+changeBy Resets w p f i = Became (freshPart (p .blocks) (p .identity) (p .stored)) Idle Zero
+-- 83h and 82h act at once, and leave WEL
+changeBy SetsLive w p f i = Live (liveSet (getD i 1 0) (p .live))
+changeBy ClearsErrors w p f i = Live (liveCleared (p .live))
 
--- what a transaction changes that the part ignored with a number: the armed mark alone, which is cleared
-abbrev pub changeIgnored : Decoded → ℕ → Part → Phase → Change
-changeIgnored d number p f = Marked false
+-- the error bits that a command sets when it answers 28: an erase E_ERR and PROT_E, a program P_ERR and PROT_E, nothing else any
+abbrev pub errorsOf : Effect → ℕ
+errorsOf Looks = 0
+errorsOf Enables = 0
+errorsOf Disables = 0
+errorsOf (Programs m) = P_ERR + PROT_E
+errorsOf (Erases u) = E_ERR + PROT_E
+errorsOf (Writes r) = 0
+errorsOf Suspends = 0
+errorsOf Resumes = 0
+errorsOf Sleeps = 0
+errorsOf Wakes = 0
+errorsOf Arms = 0
+errorsOf Resets = 0
+errorsOf SetsLive = 0
+errorsOf ClearsErrors = 0
+
+-- what a command changes that answers 28: the armed mark is cleared, and the error bits are set that it sets
+abbrev pub changeBarred : Effect → Part → Change
+changeBarred e p = Live (liveFailed (errorsOf e) (p .live))
+
+-- what a transaction changes that the part ignored: with 28 as said of the command, with any other number the armed mark alone, which is cleared
+abbrev pub changeIgnored : Decoded → ℕ → Part → Change
+changeIgnored (Known k) number p = cond (eqb number 28) (changeBarred (columns k .effect) p) (Marked false)
+changeIgnored Unknown number p = Marked false

@@ -5,7 +5,7 @@ use mathlib.Core.Bool.{Bool, true, false, not}
 use lib.ListN.{length}
 use lib.Dec.{eqb, leb}
 use Rattle.types.specs.declared.Register.{Register}
-use Rattle.types.specs.declared.Register.the-variants.{Status, Function}
+use Rattle.types.specs.declared.Register.the-variants.{Status, Function, Extended}
 use Rattle.types.specs.declared.Operation.{Operation}
 use Rattle.types.specs.declared.Operation.the-variants.{Program, Erase, Write}
 use Rattle.types.specs.declared.Phase.{Phase}
@@ -56,7 +56,7 @@ soundNumber sound = unless sound 5
 unfoldable pub ticksNumber : ℕ → ℕ
 ticksNumber n = unless (leb n tickLimit) 6
 
--- power-up can give only 1 and 5; 5 there: status bits 1..0 or function bits 3..0 not zero
+-- power-up can give only 1 and 5; 5 there: status bits 1..0, function bits 3..0 or bits 4..0 of the extended read register not zero
 unfoldable pub powerUpNumber : ℕ → Stored → ℕ
 powerUpNumber n s = unless (sizeOk n) 1 orElse unless (bitsOk Idle false s) 5
 
@@ -93,6 +93,7 @@ addressOk InRow i = rowOk i
 abbrev pub pinOk : Register → Stored → Bool → Bool
 pinOk Status s wp = not (barred (s .status) wp)
 pinOk Function s wp = true
+pinOk Extended s wp = true
 
 abbrev pub writeOk : Operation → Stored → Bool → Bool
 writeOk (Program m b k c d) s wp = true

@@ -5,13 +5,14 @@ use mathlib.Core.List.{List, [], _∷_}
 use lib.ListN.{length, take, drop, replicate}
 use lib.Dec.{leb}
 use Rattle.types.specs.declared.Source.{Source}
-use Rattle.types.specs.declared.Source.the-variants.{None, ArrayBytes, RowBytes, StatusByte, FunctionByte, IdentityBytes, MakerPair, DeviceByte}
+use Rattle.types.specs.declared.Source.the-variants.{None, ArrayBytes, RowBytes, StatusByte, FunctionByte, IdentityBytes, MakerPair, DeviceByte, ExtendedByte}
 use Rattle.types.specs.declared.Columns.{Columns}
 use Rattle.types.specs.declared.Part.{Part}
 use Rattle.words.specs.Logic.{_and_}
 use Rattle.words.specs.Lists.{upTo, round}
 use Rattle.paper.specs.Sizes.{pageBytes}
 use Rattle.paper.specs.Address.{addressIn, rowBase, rowByte, thirdAddressByte}
+use Rattle.paper.specs.Registers.{extendedRead}
 use Rattle.paper.specs.Table.{isRead}
 
 -- output places that the part doesn't drive hold FFh
@@ -23,7 +24,7 @@ abbrev pub undriven : ℕ → List ℕ
 undriven n = replicate n undrivenByte
 
 -- the bytes that a command drives, round and round: array reads run on past the end to address 0, row reads wrap inside the row,
--- status and function repeat, 9Fh repeats M, T, C, 90h alternates M and D, ABh repeats D
+-- status, function and the extended read register repeat, 9Fh repeats M, T, C, 90h alternates M and D, ABh repeats D
 abbrev pub sourceBytes : Source → Part → List ℕ → List ℕ → List ℕ → List ℕ
 sourceBytes None p xs rs i = []
 sourceBytes ArrayBytes p xs rs i = xs
@@ -33,6 +34,7 @@ sourceBytes FunctionByte p xs rs i = p .stored .function ∷ []
 sourceBytes IdentityBytes p xs rs i = p .identity .maker ∷ p .identity .kind ∷ p .identity .capacity ∷ []
 sourceBytes MakerPair p xs rs i = p .identity .maker ∷ p .identity .device ∷ []
 sourceBytes DeviceByte p xs rs i = p .identity .device ∷ []
+sourceBytes ExtendedByte p xs rs i = extendedRead (p .live) (p .stored .status) ∷ []
 
 -- at which of them it begins: at A, at the row's byte address; 90h with bit 0 of the third address byte clear: M first, set: D first
 abbrev pub sourceStart : Source → ℕ → List ℕ → ℕ
@@ -44,6 +46,7 @@ sourceStart FunctionByte n i = 0
 sourceStart IdentityBytes n i = 0
 sourceStart MakerPair n i = thirdAddressByte i % 2
 sourceStart DeviceByte n i = 0
+sourceStart ExtendedByte n i = 0
 
 -- the byte at place j of an executed command's output
 abbrev pub outputByte : Columns → Part → List ℕ → List ℕ → List ℕ → ℕ → ℕ

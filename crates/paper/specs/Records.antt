@@ -3,14 +3,13 @@ use Prim.Native.Nat.{ℕ, _+_, _*_}
 use mathlib.Core.Bool.{Bool, false}
 use Rattle.types.specs.declared.Phase.{Phase}
 use Rattle.types.specs.declared.Phase.the-variants.{Idle}
-use Rattle.types.specs.declared.Register.the-variants.{Status, Function}
 use Rattle.types.specs.declared.Identity.{Identity}
 use Rattle.types.specs.declared.Stored.{Stored}
 use Rattle.types.specs.declared.Part.{Part}
 use Rattle.types.specs.declared.Record.{Record}
 use Rattle.words.specs.Logic.{bit}
 use Rattle.paper.specs.Program.{noData}
-use Rattle.paper.specs.Registers.{held, withBytes}
+use Rattle.paper.specs.Registers.{withBytes, storedBits, liveLoaded}
 use Rattle.paper.specs.Phases.{halted, workIs, isProgram, isErase, isBusy}
 
 -- WIP is 1 exactly while busy
@@ -35,21 +34,21 @@ functionLow f = 8 * esus f + 4 * psus f
 -- the registers in a phase and with a latch: WIP, WEL, ESUS and PSUS go by these, all other bits are the stored ones
 abbrev pub registersIn : Phase → Bool → Stored → Stored
 registersIn f wel s =
-    withBytes (held Status (s .status) + statusLow f wel) (held Function (s .function) + functionLow f) s
+    withBytes (storedBits s .status + statusLow f wel) (storedBits s .function + functionLow f) (storedBits s)
 
--- the part made for a phase, of registers s and a latch: WEL is the latch, and the registers are s in that phase and with that latch. Size, identity, armed and asleep stay
+-- the part made for a phase, of registers s and a latch: WEL is the latch, and the registers are s in that phase and with that latch. Size, identity, marks and live byte stay
 abbrev pub made : Part → Stored → Phase → Bool → Part
 made p s f wel =
-    record { blocks = p .blocks; identity = p .identity; stored = registersIn f wel s; wel = wel; armed = p .armed; asleep = p .asleep }
+    record { blocks = p .blocks; identity = p .identity; stored = registersIn f wel s; wel = wel; armed = p .armed; asleep = p .asleep; live = p .live }
 
 -- the part made for another phase and another latch, of its own registers: WEL changes, and the bits WIP, WEL, ESUS and PSUS
 abbrev pub settled : Part → Phase → Bool → Part
 settled p f wel = made p (p .stored) f wel
 
--- the part made anew for an idle phase: of n blocks, with an identity and the stored bits of s, WEL 0, unarmed, awake
+-- the part made anew for an idle phase: of n blocks, with an identity and the stored bits of s, WEL 0, unarmed, awake, the live byte loaded
 abbrev pub freshPart : ℕ → Identity → Stored → Part
 freshPart n id s =
-    record { blocks = n; identity = id; stored = registersIn Idle false s; wel = false; armed = false; asleep = false }
+    record { blocks = n; identity = id; stored = registersIn Idle false s; wel = false; armed = false; asleep = false; live = liveLoaded s }
 
 -- the record of such a part: idle, page data zero
 abbrev pub fresh : ℕ → Identity → Stored → Record
@@ -58,9 +57,14 @@ fresh n id s = record { part = freshPart n id s; phase = Idle; page = noData }
 -- the part with another armed mark; all else stays
 abbrev pub marked : Part → Bool → Part
 marked p armed =
-    record { blocks = p .blocks; identity = p .identity; stored = p .stored; wel = p .wel; armed = armed; asleep = p .asleep }
+    record { blocks = p .blocks; identity = p .identity; stored = p .stored; wel = p .wel; armed = armed; asleep = p .asleep; live = p .live }
 
 -- the part with another asleep mark; all else stays
 abbrev pub resting : Part → Bool → Part
 resting p asleep =
-    record { blocks = p .blocks; identity = p .identity; stored = p .stored; wel = p .wel; armed = p .armed; asleep = asleep }
+    record { blocks = p .blocks; identity = p .identity; stored = p .stored; wel = p .wel; armed = p .armed; asleep = asleep; live = p .live }
+
+-- the part with another live byte; all else stays
+abbrev pub withLive : Part → ℕ → Part
+withLive p live =
+    record { blocks = p .blocks; identity = p .identity; stored = p .stored; wel = p .wel; armed = p .armed; asleep = p .asleep; live = live }

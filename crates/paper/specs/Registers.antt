@@ -1,18 +1,19 @@
--- Registers: what a write holds, and what its one tick stores.
-use Prim.Native.Nat.{ℕ, _*_, _/_}
+-- Registers: what a write holds, and what its one tick stores; the live byte of the extended read register.
+use Prim.Native.Nat.{ℕ, _+_, _*_, _/_, _%_}
 use mathlib.Core.List.{List}
 use lib.ListN.{getD}
 use lib.Bits.{bitOr}
 use Rattle.types.specs.declared.Register.{Register}
-use Rattle.types.specs.declared.Register.the-variants.{Status, Function}
+use Rattle.types.specs.declared.Register.the-variants.{Status, Function, Extended}
 use Rattle.types.specs.declared.Stored.{Stored}
 use Rattle.types.specs.declared.Operation.{Operation}
 use Rattle.types.specs.declared.Operation.the-variants.{Program, Erase, Write}
 
--- the byte that a write holds: a status write its byte with bits 1..0 zero, a function write with bits 3..0 zero
+-- the byte that a write holds: a status write its byte with bits 1..0 zero, a function write with bits 3..0 zero, a write of the extended read register with bits 4..0 zero
 abbrev pub held : Register → ℕ → ℕ
 held Status b = b / 4 * 4
 held Function b = b / 16 * 16
+held Extended b = b / 32 * 32
 
 -- the write that a transaction begins
 unfoldable pub writeOf : Register → List ℕ → Operation
@@ -20,15 +21,55 @@ writeOf r i = Write r (held r (getD i 1 0))
 
 -- the registers with this status and this function; what else they have stays
 abbrev pub withBytes : ℕ → ℕ → Stored → Stored
-withBytes status function s = record { status = status; function = function }
+withBytes status function s = record { status = status; function = function; extended = s .extended }
 
--- the registers after a write's tick: 01h stores bits 7..2 (the byte that it holds has the others 0); 42h may set IRL bits and never clears one, other bits are disregarded
+-- the registers with this stored byte of the extended read register; what else they have stays
+abbrev pub withExtended : ℕ → Stored → Stored
+withExtended v s = record { status = s .status; function = s .function; extended = v }
+
+-- the stored bits of registers, without those that other fields define
+abbrev pub storedBits : Stored → Stored
+storedBits s =
+    withBytes (held Status (s .status)) (held Function (s .function)) (withExtended (held Extended (s .extended)) s)
+
+-- the registers after a write's tick: 01h stores bits 7..2 (the byte that it holds has the others 0); 42h may set IRL bits and never clears one, other bits are disregarded; 85h stores bits 7..5
 abbrev pub registerWritten : Register → ℕ → Stored → Stored
 registerWritten Status v s = withBytes v (s .function) s
 registerWritten Function v s = withBytes (s .status) (bitOr (s .function / 16) (v / 16) * 16) s
+registerWritten Extended v s = withExtended v s
 
 -- the registers after an operation's last tick
 abbrev pub storedAfter : Operation → Stored → Stored
 storedAfter (Program m b s k d) g = g
 storedAfter (Erase u b d) g = g
 storedAfter (Write r v) g = registerWritten r v g
+
+-- the error bits of the extended read register
+abbrev pub E_ERR : ℕ
+E_ERR = 8
+
+abbrev pub P_ERR : ℕ
+P_ERR = 4
+
+abbrev pub PROT_E : ℕ
+PROT_E = 2
+
+-- its live byte: bits 7..5, and the error bits. Power-up and reset load it from the stored byte, with the error bits 0
+abbrev pub liveLoaded : Stored → ℕ
+liveLoaded s = held Extended (s .extended)
+
+-- 83h sets bits 7..5 to those of a byte; the error bits stay
+abbrev pub liveSet : ℕ → ℕ → ℕ
+liveSet b live = held Extended b + live % 32
+
+-- 82h clears the error bits; bits 7..5 stay
+abbrev pub liveCleared : ℕ → ℕ
+liveCleared live = held Extended live
+
+-- error bits are set, and those that were set stay
+abbrev pub liveFailed : ℕ → ℕ → ℕ
+liveFailed errors live = bitOr live errors
+
+-- what 81h reads, of the live byte and of the status register: bits 7..5 and the error bits of the live byte; bit 4 reads 1; bit 0 is WIP, as in status
+abbrev pub extendedRead : ℕ → ℕ → ℕ
+extendedRead live status = held Extended live + 16 + live / 2 % 8 * 2 + status % 2

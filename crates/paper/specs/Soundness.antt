@@ -50,9 +50,12 @@ phaseOk Idle n s = true
 phaseOk (Busy o) n s = operationOk o n s
 phaseOk (Suspended o) n s = canSuspend o and operationOk o n s
 
--- stored register bits that other fields define (WIP, WEL, ESUS, PSUS) agree with them; function bits 1..0 are 0
+-- stored register bits that other fields define (WIP, WEL, ESUS, PSUS) agree with them; function bits 1..0 are 0, and so are bits 4..0 of the extended read register's stored byte
 unfoldable pub bitsOk : Phase → Bool → Stored → Bool
-bitsOk f wel s = eqb (s .status % 4) (statusLow f wel) and eqb (s .function % 16) (functionLow f)
+bitsOk f wel s =
+    eqb (s .status % 4) (statusLow f wel)
+    and eqb (s .function % 16) (functionLow f)
+    and eqb (s .extended % 32) 0
 
 -- how many bytes of page data a phase keeps
 abbrev pub keptIn : Phase → ℕ

@@ -5,17 +5,17 @@ use mathlib.Core.Bool.{Bool, true, false, cond}
 use lib.Dec.{eqb, leb}
 use Rattle.types.specs.declared.Memory.the-variants.{Array, Rows}
 use Rattle.types.specs.declared.EraseUnit.the-variants.{Sector, Block32, Block64, Chip, Row}
-use Rattle.types.specs.declared.Register.the-variants.{Status, Function}
+use Rattle.types.specs.declared.Register.the-variants.{Status, Function, Extended}
 use Rattle.types.specs.declared.Command.{Command}
-use Rattle.types.specs.declared.Command.the-variants.{Read, FastRead, ReadStatus, ReadFunction, ReadIdentity, ReadMakerDevice, Wake, ReadRow, WriteEnable, WriteDisable, WriteStatus, WriteFunction, PageProgram, SectorErase, BlockErase32, BlockErase64, ChipErase, Suspend, Resume, Sleep, ArmReset, Reset, RowErase, RowProgram}
+use Rattle.types.specs.declared.Command.the-variants.{Read, FastRead, ReadStatus, ReadFunction, ReadIdentity, ReadMakerDevice, Wake, ReadRow, WriteEnable, WriteDisable, WriteStatus, WriteFunction, PageProgram, SectorErase, BlockErase32, BlockErase64, ChipErase, Suspend, Resume, Sleep, ArmReset, Reset, RowErase, RowProgram, ReadExtended, SetStored, SetLive, ClearErrors}
 use Rattle.types.specs.declared.Decoded.{Decoded}
 use Rattle.types.specs.declared.Decoded.the-variants.{Known, Unknown}
 use Rattle.types.specs.declared.Length.{Length}
 use Rattle.types.specs.declared.Length.the-variants.{Exactly, AtLeast}
 use Rattle.types.specs.declared.Source.{Source}
-use Rattle.types.specs.declared.Source.the-variants.{None, ArrayBytes, RowBytes, StatusByte, FunctionByte, IdentityBytes, MakerPair, DeviceByte}
+use Rattle.types.specs.declared.Source.the-variants.{None, ArrayBytes, RowBytes, StatusByte, FunctionByte, IdentityBytes, MakerPair, DeviceByte, ExtendedByte}
 use Rattle.types.specs.declared.Effect.{Effect}
-use Rattle.types.specs.declared.Effect.the-variants.{Looks, Enables, Disables, Programs, Erases, Writes, Suspends, Resumes, Sleeps, Wakes, Arms, Resets}
+use Rattle.types.specs.declared.Effect.the-variants.{Looks, Enables, Disables, Programs, Erases, Writes, Suspends, Resumes, Sleeps, Wakes, Arms, Resets, SetsLive, ClearsErrors}
 use Rattle.types.specs.declared.Taken.{Taken}
 use Rattle.types.specs.declared.Taken.the-variants.{Rest, OrHalted, OrBusy, Awake, OrAsleep}
 use Rattle.types.specs.declared.Named.{Named}
@@ -33,7 +33,7 @@ pub record Entry : Type 0 where
 abbrev pub _is_ : ℕ → Command → Entry
 n is k = record { code = n; command = k }
 
--- the codes, in the table's order
+-- the codes, in the table's order, then those of the extended read register
 abbrev pub codes : List Entry
 codes =
     0x03 is Read ∷ 0x0B is FastRead ∷ 0x05 is ReadStatus ∷ 0x48 is ReadFunction
@@ -42,7 +42,8 @@ codes =
     ∷ 0x02 is PageProgram ∷ 0xD7 is SectorErase ∷ 0x20 is SectorErase ∷ 0x52 is BlockErase32
     ∷ 0xD8 is BlockErase64 ∷ 0xC7 is ChipErase ∷ 0x60 is ChipErase ∷ 0x75 is Suspend
     ∷ 0xB0 is Suspend ∷ 0x7A is Resume ∷ 0x30 is Resume ∷ 0xB9 is Sleep
-    ∷ 0x66 is ArmReset ∷ 0x99 is Reset ∷ 0x64 is RowErase ∷ 0x62 is RowProgram ∷ []
+    ∷ 0x66 is ArmReset ∷ 0x99 is Reset ∷ 0x64 is RowErase ∷ 0x62 is RowProgram
+    ∷ 0x81 is ReadExtended ∷ 0x85 is SetStored ∷ 0x83 is SetLive ∷ 0x82 is ClearErrors ∷ []
 
 -- the command of the first entry that has the code
 abbrev pub lookUp : List Entry → ℕ → Decoded
@@ -93,6 +94,10 @@ columns ArmReset = line (Exactly 1) no Awake Bare Any None 0 Arms
 columns Reset = line (Exactly 1) no Awake Bare Armed None 0 Resets
 columns RowErase = line (Exactly 4) WEL Rest InRow Any None 0 (Erases Row)
 columns RowProgram = line (AtLeast 5) WEL Rest InRow Any None 0 (Programs Rows)
+columns ReadExtended = line (AtLeast 1) no Awake Bare Any ExtendedByte 1 Looks
+columns SetStored = line (Exactly 2) WEL Rest Bare Any None 0 (Writes Extended)
+columns SetLive = line (Exactly 2) no Rest Bare Any None 0 SetsLive
+columns ClearErrors = line (Exactly 1) no Rest Bare Any None 0 ClearsErrors
 
 -- a command is taken while the part is asleep, busy, or suspended
 abbrev pub takenAsleep : Taken → Bool
@@ -131,7 +136,8 @@ drives FunctionByte = true
 drives IdentityBytes = true
 drives MakerPair = true
 drives DeviceByte = true
+drives ExtendedByte = true
 
--- the reads are 03h, 0Bh, 05h, 48h, 9Fh, 90h, ABh and 68h
+-- the reads are 03h, 0Bh, 05h, 48h, 9Fh, 90h, ABh, 68h and 81h
 abbrev pub isRead : Columns → Bool
 isRead k = drives (k .source)

@@ -61,13 +61,15 @@ fn registers_in(phase: Phase, wel: bool, stored: Stored) -> Stored
     let low_status = status_low(phase, wel);
     let function = operations::held_byte(Register::Function, stored.function);
     let low_function = function_low(phase);
+    let extended = operations::held_byte(Register::Extended, stored.extended);
     let mut next = stored;
     next.status = status + low_status;
     next.function = function + low_function;
+    next.extended = extended;
     next
 }
 
-// A part in a phase, with the stored bits of some registers and with a latch. Size, identity and marks stay.
+// A part in a phase, with the stored bits of some registers and with a latch. Size, identity, marks and live byte stay.
 pub fn make(part: Part, stored: Stored, phase: Phase, wel: bool) -> Part
     ensures { λ r. ⌜ r ≡ made part stored phase wel ⌝ }
 {
@@ -86,7 +88,7 @@ pub fn settle(part: Part, phase: Phase, wel: bool) -> Part
     make(part, stored, phase, wel)
 }
 
-// An awake, unarmed part with WEL 0, for an idle phase.
+// An awake, unarmed part with WEL 0 and the live byte loaded, for an idle phase.
 pub fn fresh_part(blocks: u16, identity: Identity, stored: Stored) -> Part
     ensures { λ r. ⌜ r ≡ freshPart blocks identity stored ⌝ }
 {
@@ -98,6 +100,7 @@ pub fn fresh_part(blocks: u16, identity: Identity, stored: Stored) -> Part
         wel: false,
         armed: false,
         asleep: false,
+        live: registers.extended,
     }
 }
 
@@ -120,6 +123,7 @@ pub fn no_stored() -> Stored
     Stored {
         status: 0,
         function: 0,
+        extended: 0,
     }
 }
 
@@ -137,13 +141,15 @@ pub fn zero_record() -> Record
     make_fresh(1, identity, stored)
 }
 
-// Whether WIP, WEL, ESUS and PSUS in the registers are those that phase and latch define, and function bits 1..0 zero.
+// Whether WIP, WEL, ESUS and PSUS in the registers are those that phase and latch define, and function bits 1..0 and bits
+// 4..0 of the extended read register's stored byte zero.
 pub fn bits_ok(phase: Phase, wel: bool, stored: Stored) -> bool
     ensures { λ r. ⌜ r ≡ bitsOk phase wel stored ⌝ }
 {
     let latches = stored.status % 4 == status_low(phase, wel);
     let marks = stored.function % 16 == function_low(phase);
-    words::both(latches, marks)
+    let extended = stored.extended % 32 == 0;
+    words::both(latches, words::both(marks, extended))
 }
 
 fn power_up_number(blocks: u16, stored: Stored) -> u8

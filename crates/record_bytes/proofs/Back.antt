@@ -12,7 +12,7 @@ use Rattle.types.specs.declared.Identity.{Identity}
 use Rattle.types.specs.declared.Stored.{Stored}
 use Rattle.types.specs.declared.Part.{Part}
 use Rattle.types.specs.declared.Record.{Record}
-use Rattle.words.specs.Logic.{_and_, bit}
+use Rattle.words.specs.Logic.{bit}
 use Rattle.words.proofs.Tests.{and-l, and-r, and-in}
 use Rattle.words.proofs.Allowed.{agree}
 use Rattle.paper.specs.Sizes.{pageBytes}
@@ -31,9 +31,9 @@ mark-back : (m : Bool) → eqb (bit m) 1 ≡ m
 mark-back true = refl
 mark-back false = refl
 
-same-fields : (b b′ : ℕ) (i : Identity) (s : Stored) (w w′ a a′ z z′ : Bool) → b ≡ b′ → w ≡ w′ → a ≡ a′ → z ≡ z′
-    → _≡_ {A = Part} record { blocks = b; identity = i; stored = s; wel = w; armed = a; asleep = z } record { blocks = b′; identity = i; stored = s; wel = w′; armed = a′; asleep = z′ }
-same-fields b b′ i s w w′ a a′ z z′ eb ew ea ez = rw (eb, ew, ea, ez)
+same-fields : (b b′ : ℕ) (i : Identity) (s : Stored) (w w′ a a′ z z′ : Bool) (v : ℕ) → b ≡ b′ → w ≡ w′ → a ≡ a′ → z ≡ z′
+    → _≡_ {A = Part} record { blocks = b; identity = i; stored = s; wel = w; armed = a; asleep = z; live = v } record { blocks = b′; identity = i; stored = s; wel = w′; armed = a′; asleep = z′; live = v }
+same-fields b b′ i s w w′ a a′ z z′ v eb ew ea ez = rw (eb, ew, ea, ez)
 
 page-back : (p : Record) → drop headerLength (recordBytes p) ≡ p .page
 unfolding recordBytes partBytes phaseBytes
@@ -47,7 +47,7 @@ module _ (p : Record) (h : Fits p) where
   part-back : partIn (recordBytes p) ≡ p .part
   unfolding partIn recordBytes partBytes phaseBytes
   part-back =
-      same-fields _ _ (p .part .identity) (p .part .stored) _ _ _ _ _ _ (number-back 2 (p .part .blocks) (h .blocks)) (mark-back (p .part .wel)) (mark-back (p .part .armed)) (mark-back (p .part .asleep))
+      same-fields _ _ (p .part .identity) (p .part .stored) _ _ _ _ _ _ (p .part .live) (number-back 2 (p .part .blocks) (h .blocks)) (mark-back (p .part .wel)) (mark-back (p .part .armed)) (mark-back (p .part .asleep))
 
   phase-in-back : phaseIn (recordBytes p) ≡ p .phase
   phase-in-back = ap phaseOf cells-back ∙ phase-back (p .phase)

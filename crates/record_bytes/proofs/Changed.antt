@@ -7,7 +7,7 @@ use lib.ListN.{length, set}
 use borrow.Author.Tests.{eq-eqb}
 use Rattle.types.specs.declared.Record.{Record}
 use Rattle.types.specs.declared.Change.{Change}
-use Rattle.types.specs.declared.Change.the-variants.{Same, Marked, Became}
+use Rattle.types.specs.declared.Change.the-variants.{Same, Marked, Live, Became}
 use Rattle.words.specs.Logic.{bit}
 use Rattle.paper.specs.Records.{marked}
 use Rattle.paper.specs.Commands.{changed}
@@ -29,6 +29,7 @@ bytes-changed : (c : Change) (i : List ℕ) (p : Record) → bytesChanged c i (r
 unfolding recordBytes partBytes phaseBytes
 bytes-changed Same i p = refl
 bytes-changed (Marked armed) i p = mark-set p armed
+bytes-changed (Live v) i p = refl
 bytes-changed (Became q f d) i p = refl
 
 -- a change of the record that bytes hold

@@ -4,7 +4,7 @@ use mathlib.Core.Path.{_≡_, refl, sym, ap, _∙_}
 use mathlib.Core.Bool.{true, false≢true}
 use mathlib.Core.List.{List, [], _∷_, _++_, append-nil, append-assoc}
 use native.Mathlib.Omega.{arith}
-use lib.ListN.{length, take, drop, getD, replicate, set, length-take, length-drop, drop-of-length-le}
+use lib.ListN.{length, take, drop, getD, replicate, set, length-append, length-take, length-drop, drop-of-length-le}
 use lib.Seq.{take-all, take-length, take-at, drop-at, drop-drop}
 use Rattle.types.specs.declared.Phase.{Phase}
 use Rattle.types.specs.declared.Phase.the-variants.{Idle, Busy, Suspended}
@@ -71,15 +71,25 @@ pub header-length : (p : Part) (s : Cells) → length (header p s) ≡ headerLen
 unfolding partBytes phaseBytes
 header-length p s = refl
 
--- x is a record's bytes with what a part is written over them
-module _ (bs : List ℕ) (p : Part) (x : List ℕ) (l : length bs ≡ recordLength) (e : x ≡ partBytes p ++ drop partLength bs) where
-  pub phase-room : length (take phaseLength (drop partLength x)) ≡ phaseLength
-  phase-room = room bs (partBytes p) partLength phaseLength x (part-length p) e (omega arith)
+-- a record's bytes with what a part does written in its place, and then what it is before
+module _ (bs : List ℕ) (l : length bs ≡ recordLength) where
+  pub phase-room : length (take phaseLength (drop partLength bs)) ≡ phaseLength
+  phase-room = simp (length-take, length-drop) (omega arith)
 
-  -- and what it does written behind
-  pub phase-laid : (y : List ℕ) (s : Cells) → y ≡ phaseBytes s → take partLength x ++ (y ++ drop phaseLength (drop partLength x)) ≡ header p s ++ drop headerLength bs
-  phase-laid y s h =
-      laid bs (partBytes p) partLength phaseLength x (part-length p) e (omega arith) y (phaseBytes s) h
+  module _ (s : Cells) (y : List ℕ) (e : y ≡ phaseBytes s) where
+    abbrev doing : List ℕ
+    doing = take partLength bs ++ (y ++ drop phaseLength (drop partLength bs))
+
+    pub doing-length : length doing ≡ recordLength
+    doing-length =
+        length-append (take partLength bs) (y ++ drop phaseLength (drop partLength bs))
+        ∙ simp (length-append, length-take, length-drop) (omega (arith, ap length e, phase-length s))
+
+    pub part-laid : (p : Part) → partBytes p ++ drop partLength doing ≡ header p s ++ drop headerLength bs
+    part-laid p =
+        let t : length (take partLength bs) ≡ partLength = simp length-take (omega arith) in
+        ap (λ (x : List ℕ). partBytes p ++ x) (drop-at (take partLength bs) (y ++ drop phaseLength (drop partLength bs)) partLength t ∙ rw (e, drop-drop) refl)
+        ∙ sym (append-assoc (partBytes p) (phaseBytes s) (drop headerLength bs))
 
 -- x is a record's bytes with a header written over them
 module _ (bs : List ℕ) (p : Part) (s : Cells) (x : List ℕ) (l : length bs ≡ recordLength) (e : x ≡ header p s ++ drop headerLength bs) where
@@ -109,7 +119,7 @@ idle-bytes (Suspended o) e = absurd (false≢true e)
 pub part-as : (p : Part) (w a z : ℕ) → w ≡ bit (p .wel) → a ≡ bit (p .armed) → z ≡ bit (p .asleep)
     → p .blocks / 256 % 256 ∷ p .blocks % 256
     ∷ p .identity .maker ∷ p .identity .kind ∷ p .identity .capacity ∷ p .identity .device
-    ∷ (storedBytes (p .stored) ++ (w ∷ a ∷ z ∷ []))
+    ∷ (storedBytes (p .stored) ++ (w ∷ a ∷ z ∷ p .live ∷ []))
     ≡ partBytes p
 unfolding partBytes
 part-as p w a z ew ea ez = rw (ew, ea, ez)
@@ -131,21 +141,21 @@ module _ (s : Cells) (z : List ℕ) (ez : z ≡ replicate phaseLength 0) where
   pub first-length : length first ≡ phaseLength
   first-length = rw ez
 
-  pub base-room : take 8 (drop 3 first) ≡ replicate 8 0
+  pub base-room : length (take 8 (drop 3 first)) ≡ 8
   base-room = rw ez
 
   module _ (b : List ℕ) (eb : b ≡ highFirstBytes 8 (s .base)) where
     pub base-length : length (more 3 first b) ≡ phaseLength
     base-length = rw (ez, eb)
 
-    pub count-room : take 8 (drop 11 (more 3 first b)) ≡ replicate 8 0
+    pub count-room : length (take 8 (drop 11 (more 3 first b))) ≡ 8
     count-room = rw (ez, eb)
 
     module _ (k : List ℕ) (ek : k ≡ highFirstBytes 8 (s .count)) where
       pub count-length : length (more 11 (more 3 first b) k) ≡ phaseLength
       count-length = rw (ez, eb, ek)
 
-      pub done-room : take 8 (drop 19 (more 11 (more 3 first b) k)) ≡ replicate 8 0
+      pub done-room : length (take 8 (drop 19 (more 11 (more 3 first b) k))) ≡ 8
       done-room = rw (ez, eb, ek)
 
       pub cells-laid : (d : List ℕ) → d ≡ highFirstBytes 8 (s .done) → more 19 (more 11 (more 3 first b) k) d ≡ phaseBytes s

@@ -19,7 +19,7 @@ use Rattle.address.specs.Bytes.{highFirstBytes}
 use Rattle.cells.specs.declared.Cells.{Cells}
 use Rattle.cells.specs.Phases.{cellsOf, phaseOf}
 use Rattle.record_bytes.specs.declared.Found.{Found}
-use Rattle.record_bytes.specs.Layout.{welAt, armedAt, asleepAt, phaseAt, kindAt, valueAt, baseAt, countAt, doneAt, headerLength, recordLength, partBytes, phaseBytes, header}
+use Rattle.record_bytes.specs.Layout.{welAt, armedAt, asleepAt, liveAt, phaseAt, kindAt, valueAt, baseAt, countAt, doneAt, headerLength, recordLength, partBytes, phaseBytes, header}
 use Rattle.record_bytes.specs.Read.{numberAt, marksIn, sameCells, sameBytes, cellsIn, storedOf, partIn, phaseIn, fieldsIn, holds, nothing, recordIn, found}
 use Rattle.record_bytes.proofs.Laws.{two-bytes}
 use Rattle.record_bytes.proofs.Same.{same-append, same-number}
@@ -47,7 +47,7 @@ regroup false b c d = refl
 -- a part with its fields in the bytes f 0, f 1, ..
 abbrev partOf : (ℕ → ℕ) → Part
 partOf f =
-    record { blocks = f 0 * 256 + f 1; identity = record { maker = f 2; kind = f 3; capacity = f 4; device = f 5 }; stored = storedOf f; wel = eqb (f welAt) 1; armed = eqb (f armedAt) 1; asleep = eqb (f asleepAt) 1 }
+    record { blocks = f 0 * 256 + f 1; identity = record { maker = f 2; kind = f 3; capacity = f 4; device = f 5 }; stored = storedOf f; wel = eqb (f welAt) 1; armed = eqb (f armedAt) 1; asleep = eqb (f asleepAt) 1; live = f liveAt }
 
 -- the base, the count and the ticks done, in bytes
 abbrev numbersOf : Cells → List ℕ

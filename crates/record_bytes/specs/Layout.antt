@@ -8,7 +8,7 @@ use Rattle.types.specs.declared.Stored.{Stored}
 use Rattle.types.specs.declared.Part.{Part}
 use Rattle.types.specs.declared.Record.{Record}
 use Rattle.types.specs.declared.Change.{Change}
-use Rattle.types.specs.declared.Change.the-variants.{Same, Marked, Became}
+use Rattle.types.specs.declared.Change.the-variants.{Same, Marked, Live, Became}
 use Rattle.words.specs.Logic.{bit}
 use Rattle.paper.specs.Sizes.{pageBytes}
 use Rattle.paper.specs.Commands.{pageAfter}
@@ -19,12 +19,12 @@ use Rattle.cells.specs.Phases.{cellsOf}
 
 -- the registers, of which a field has a byte each
 abbrev pub storedBytes : Stored → List ℕ
-storedBytes s = s .status ∷ s .function ∷ []
+storedBytes s = s .status ∷ s .function ∷ s .extended ∷ []
 
 abbrev pub storedLength : ℕ
 storedLength = length (storedBytes noStored)
 
--- they stand behind blocks and identity, and behind them WEL and the marks
+-- they stand behind blocks and identity, and behind them WEL, the marks and the live byte
 abbrev pub storedAt : ℕ
 storedAt = 6
 
@@ -40,9 +40,12 @@ armedAt = marksAt + 1
 abbrev pub asleepAt : ℕ
 asleepAt = marksAt + 2
 
+abbrev pub liveAt : ℕ
+liveAt = marksAt + 3
+
 -- so many bytes of a header say what a part is
 abbrev pub partLength : ℕ
-partLength = marksAt + 3
+partLength = marksAt + 4
 
 -- behind them the phase, the operation's kind, its start or value, and in eight bytes each its base, its count and its ticks done
 abbrev pub phaseAt : ℕ
@@ -74,13 +77,13 @@ headerLength = partLength + phaseLength
 abbrev pub recordLength : ℕ
 recordLength = headerLength + pageBytes
 
--- what a part is: at 0 blocks, at 2 identity M, T, C, D, at 6 the registers, then WEL, armed, asleep
+-- what a part is: at 0 blocks, at 2 identity M, T, C, D, at 6 the registers, then WEL, armed, asleep, the live byte
 unfoldable pub partBytes : Part → List ℕ
 partBytes p =
     highFirstBytes 2 (p .blocks)
     ++ (p .identity .maker ∷ p .identity .kind ∷ p .identity .capacity ∷ p .identity .device ∷ [])
     ++ storedBytes (p .stored)
-    ++ (bit (p .wel) ∷ bit (p .armed) ∷ bit (p .asleep) ∷ [])
+    ++ (bit (p .wel) ∷ bit (p .armed) ∷ bit (p .asleep) ∷ p .live ∷ [])
 
 -- what it does
 unfoldable pub phaseBytes : Cells → List ℕ
@@ -106,6 +109,7 @@ written p bs = cond (eqb (length bs) recordLength) (recordBytes p) bs
 abbrev pub bytesChanged : Change → List ℕ → List ℕ → List ℕ
 bytesChanged Same i bs = bs
 bytesChanged (Marked armed) i bs = set bs armedAt (bit armed)
+bytesChanged (Live v) i bs = set (set bs armedAt 0) liveAt v
 bytesChanged (Became q f d) i bs = header q (cellsOf f) ++ pageAfter d i (drop headerLength bs)
 
 -- a buffer with the change written; bytes of another length are left as they are

@@ -16,7 +16,7 @@ use Rattle.paper.specs.Calls.{zeroRecord}
 use Rattle.cells.specs.declared.Cells.{Cells}
 use Rattle.cells.specs.Phases.{cells, cellsOf, phaseOf}
 use Rattle.record_bytes.specs.declared.Found.{Found}
-use Rattle.record_bytes.specs.Layout.{storedAt, welAt, armedAt, asleepAt, phaseAt, kindAt, valueAt, baseAt, countAt, doneAt, headerLength, recordLength, header}
+use Rattle.record_bytes.specs.Layout.{storedAt, welAt, armedAt, asleepAt, liveAt, phaseAt, kindAt, valueAt, baseAt, countAt, doneAt, headerLength, recordLength, header}
 
 -- the number that k bytes from a place on are
 abbrev pub numberAt : List ℕ → ℕ → ℕ → ℕ
@@ -28,12 +28,12 @@ cellsIn bs = cells (getD bs phaseAt 0) (getD bs kindAt 0) (getD bs valueAt 0) (n
 
 -- the registers that stand in the bytes f 0, f 1, ..
 abbrev pub storedOf : (ℕ → ℕ) → Stored
-storedOf f = record { status = f storedAt; function = f (storedAt + 1) }
+storedOf f = record { status = f storedAt; function = f (storedAt + 1); extended = f (storedAt + 2) }
 
 -- the fields of a part at their places, whatever stands there
 unfoldable pub partIn : List ℕ → Part
 partIn bs =
-    record { blocks = numberAt bs 0 2; identity = record { maker = getD bs 2 0; kind = getD bs 3 0; capacity = getD bs 4 0; device = getD bs 5 0 }; stored = storedOf (λ j. getD bs j 0); wel = eqb (getD bs welAt 0) 1; armed = eqb (getD bs armedAt 0) 1; asleep = eqb (getD bs asleepAt 0) 1 }
+    record { blocks = numberAt bs 0 2; identity = record { maker = getD bs 2 0; kind = getD bs 3 0; capacity = getD bs 4 0; device = getD bs 5 0 }; stored = storedOf (λ j. getD bs j 0); wel = eqb (getD bs welAt 0) 1; armed = eqb (getD bs armedAt 0) 1; asleep = eqb (getD bs asleepAt 0) 1; live = getD bs liveAt 0 }
 
 -- the phase so
 abbrev pub phaseIn : List ℕ → Phase

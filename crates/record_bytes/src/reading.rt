@@ -38,6 +38,7 @@ fn stored_in(bytes: &[u8]) -> Stored
     Stored {
         status: bytes[places::STATUS],
         function: bytes[places::FUNCTION],
+        extended: bytes[places::EXTENDED],
     }
 }
 
@@ -62,6 +63,7 @@ fn part_in(bytes: &[u8]) -> Part
         wel: bytes[places::WEL] == 1,
         armed: bytes[places::ARMED] == 1,
         asleep: bytes[places::ASLEEP] == 1,
+        live: bytes[places::LIVE],
     }
 }
 

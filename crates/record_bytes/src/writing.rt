@@ -1,7 +1,7 @@
 // A record, and what a call makes of it, written as bytes.
 ghost use mathlib.Core.Path.{_≡_};
 ghost use mathlib.Core.List.{[], _++_};
-ghost use lib.ListN.{length, drop, replicate};
+ghost use lib.ListN.{length, drop};
 ghost use Rattle.paper.specs.Sizes.{pageBytes};
 ghost use Rattle.paper.specs.Commands.{pageAfter};
 ghost use Rattle.address.specs.Bytes.{highFirstBytes};
@@ -32,9 +32,11 @@ fn part_bytes(part: Part) -> [u8; places::PHASE]
         identity.device,
         stored.status,
         stored.function,
+        stored.extended,
         wel,
         armed,
         asleep,
+        part.live,
     ]
 }
 
@@ -56,14 +58,11 @@ fn write_part(part: Part, bytes: &mut [u8])
     bytes::copy(&front, bytes);
 }
 
-// A number written over eight zeros. What is zero is there already.
+// A number written over eight bytes.
 fn write_number(number: usize, bytes: &mut [u8])
-    requires { ⌜ now bytes ≡ replicate 8 0 ⌝ }
+    requires { ⌜ length (now bytes) ≡ 8 ⌝ }
     ensures { λ _. ⌜ now (bytes .exit) ≡ highFirstBytes 8 number ⌝ }
 {
-    if number == 0 {
-        return;
-    }
     let eight = address::high_first_bytes(number);
     bytes::copy(&eight, bytes);
 }
@@ -74,6 +73,7 @@ fn write_cells(phase: Phase, bytes: &mut [u8])
     ensures { λ _. ⌜ now (bytes .exit) ≡ phaseBytes (cellsOf phase) ⌝ }
 {
     let cells = cells::cells_of(phase);
+    // The proof begins with these zeros. Each byte is written after them, and the compiler leaves them out.
     runs::fill(bytes, 0);
     bytes[0] = cells.phase;
     bytes[1] = cells.kind;
@@ -100,8 +100,8 @@ fn write_header(part: Part, phase: Phase, bytes: &mut [u8])
     requires { ⌜ length (now bytes) ≡ recordLength ⌝ }
     ensures { λ _. ⌜ now (bytes .exit) ≡ header part (cellsOf phase) ++ drop headerLength (now (bytes .entry)) ⌝ }
 {
-    write_part(part, bytes);
     write_phase(phase, &mut bytes[places::PHASE..places::PAGE]);
+    write_part(part, bytes);
 }
 
 // A record written as its bytes. A buffer of another length is left as it is.
@@ -145,6 +145,10 @@ pub fn write_change(change: Change, input: &[u8], bytes: &mut [u8])
         Change::Marked(armed) => {
             bytes[places::ARMED] = words::bit_of(armed);
         }
+        Change::Live(live) => {
+            bytes[places::ARMED] = 0;
+            bytes[places::LIVE] = live;
+        }
         Change::Became(part, phase, becomes) => {
             write_header(part, phase, bytes);
             write_page(becomes, input, &mut bytes[places::PAGE..places::END]);
@@ -165,6 +169,10 @@ pub fn write_after(change: Change, bytes: &mut [u8])
         Change::Same => {}
         Change::Marked(mark) => {
             bytes[places::ARMED] = words::bit_of(mark);
+        }
+        Change::Live(byte) => {
+            bytes[places::ARMED] = 0;
+            bytes[places::LIVE] = byte;
         }
         Change::Became(part, phase, page) => {
             write_header(part, phase, bytes);

@@ -7,7 +7,7 @@ use native.Mathlib.Omega.{arith}
 use borrow.Author.Tests.{not-true}
 use Rattle.types.specs.declared.Phase.{Phase}
 use Rattle.types.specs.declared.Work.the-variants.{NoWork}
-use Rattle.types.specs.declared.Register.the-variants.{Status, Function}
+use Rattle.types.specs.declared.Register.the-variants.{Status, Function, Extended}
 use Rattle.types.specs.declared.Command.the-variants.{Wake, ArmReset, Reset}
 use Rattle.types.specs.declared.Identity.{Identity}
 use Rattle.types.specs.declared.Stored.{Stored}
@@ -16,7 +16,7 @@ use Rattle.types.specs.declared.Answer.{Answer}
 use Rattle.types.specs.declared.Record.{Record}
 use Rattle.words.specs.Logic.{_and_, _or_, unless, _orElse_}
 use Rattle.paper.specs.Sizes.{sizeOk}
-use Rattle.paper.specs.Registers.{held}
+use Rattle.paper.specs.Registers.{held, storedBits}
 use Rattle.paper.specs.Phases.{isBusy}
 use Rattle.paper.specs.Records.{marked, fresh}
 use Rattle.paper.specs.Soundness.{sleepOk, sound, bitsOk}
@@ -27,7 +27,7 @@ use Rattle.paper.specs.History.{recordAfterCall}
 use Rattle.paper.proofs.Phases.{busy-not-idle}
 use Rattle.paper.proofs.Soundness.{recordOf, sound-parts}
 use Rattle.paper.proofs.Answers.{executes, ignores, arm-number, reset-number}
-use Rattle.reset.specs.Closing.{wake, arm, storedBits, answerToReset}
+use Rattle.reset.specs.Closing.{wake, arm, answerToReset}
 
 -- ABh is executed, but on a busy part ignored with 22
 wake-number : (p : Part) (f : Phase) (wp busy : Bool) → isBusy f ≡ busy → commandNumber (columns Wake) NoWork p f (0xAB ∷ []) wp ≡ unless (not busy) 22
@@ -72,4 +72,6 @@ powered-as n id g h =
     let b : held Function (g .function) % 16 ≡ 0 = omega arith in
     let c : held Status (held Status (g .status)) ≡ held Status (g .status) = omega arith in
     let d : held Function (held Function (g .function)) ≡ held Function (g .function) = omega arith in
-    rw (h, a, b, c, d)
+    let e : held Extended (g .extended) % 32 ≡ 0 = omega arith in
+    let f : held Extended (held Extended (g .extended)) ≡ held Extended (g .extended) = omega arith in
+    rw (h, a, b, c, d, e, f)

@@ -3,15 +3,13 @@ use Prim.Native.Nat.{ℕ}
 use mathlib.Core.Path.{_≡_}
 use mathlib.Core.Bool.{Bool, true}
 use mathlib.Core.List.{List, [], _∷_, _++_}
-use Rattle.types.specs.declared.Register.the-variants.{Status, Function}
 use Rattle.types.specs.declared.Identity.{Identity}
-use Rattle.types.specs.declared.Stored.{Stored}
 use Rattle.types.specs.declared.PoweredUp.{PoweredUp}
 use Rattle.types.specs.declared.Answer.{Answer}
 use Rattle.types.specs.declared.Record.{Record}
 use Rattle.words.specs.Logic.{_and_}
 use Rattle.paper.specs.Sizes.{arrayBytes, rowsBytes}
-use Rattle.paper.specs.Registers.{held, withBytes}
+use Rattle.paper.specs.Registers.{storedBits}
 use Rattle.paper.specs.Calls.{poweredUp, transacted}
 use Rattle.paper.specs.History.{Call, transaction, recordAfterCall, recordAfterCalls, history, standsAside}
 
@@ -41,10 +39,6 @@ untilReset w1 w2 b c = wake w1 ∷ (b ++ (arm w2 ∷ c))
 -- and 99h
 abbrev pub closing : Bool → Bool → Bool → List Call → List Call → List Call
 closing w1 w2 w3 b c = wake w1 ∷ (b ++ (arm w2 ∷ (c ++ (reset w3 ∷ []))))
-
--- the stored bits of registers, without those that other fields define
-abbrev pub storedBits : Stored → Stored
-storedBits s = withBytes (held Status (s .status)) (held Function (s .function)) s
 
 -- a part of n blocks and an identity, powered up with the stored register bits of the record q
 abbrev pub poweredAs : ℕ → Identity → Record → PoweredUp

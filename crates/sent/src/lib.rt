@@ -166,5 +166,7 @@ pub fn begins(effect: Effect, blocks: u16, input: &[u8]) -> Work
         Effect::Wakes => Work::NoWork,
         Effect::Arms => Work::NoWork,
         Effect::Resets => Work::NoWork,
+        Effect::SetsLive => Work::NoWork,
+        Effect::ClearsErrors => Work::NoWork,
     }
 }

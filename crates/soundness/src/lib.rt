@@ -3,6 +3,7 @@ ghost use mathlib.Core.Path.{_≡_};
 ghost use lib.ListN.{drop};
 ghost use Rattle.types.specs.declared.Phase.the-variants.{Idle};
 ghost use Rattle.words.specs.Lists.{allZero};
+ghost use Rattle.paper.specs.Sizes.{sizeOk};
 ghost use Rattle.paper.specs.Soundness.{latchOk, phaseOk, keptIn, partSound, sound};
 ghost use Rattle.paper.proofs.Soundness.{recordOf};
 ghost use Rattle.soundness.specs.Judged.{workIn, workOk};
@@ -89,27 +90,32 @@ fn is_zero_from(page: &[u8], from: usize) -> bool
     runs::zero_from(page, from)
 }
 
-// Whether a record is sound that is an idle part with page data: the tests that are not met by being idle.
-fn is_sound_idle(part: Part, page: &[u8]) -> bool
+// Whether a record is sound that is an idle part with page data, where its size was tested: the tests that are not met by
+// being idle.
+fn is_sound_idle(size: bool, part: Part, page: &[u8]) -> bool
+    requires { ⌜ size ≡ sizeOk (part .blocks) ⌝ }
     ensures { λ r. ⌜ r ≡ sound (recordOf part Idle (now (page .entry))) ⌝ }
 {
     let stored = part.stored;
-    let size = sizes::size_ok(part.blocks as u64);
     let bits = record::bits_ok(Phase::Idle, part.wel, stored);
     let kept = runs::zero_from(page, 0);
     words::both(size, words::both(bits, kept))
 }
 
-// Whether a record is sound that is a part in a phase with page data: an idle one by fewer tests. A transaction asks
-// it, which mostly finds the part idle.
+// Whether a record is sound that is a part in a phase with page data: an idle one by fewer tests. The size is tested
+// before, so that a caller who tests it too has it tested once. A transaction asks it, which mostly finds the part idle.
 pub fn is_sound_in(part: Part, phase: Phase, page: &[u8]) -> bool
     ensures { λ r. ⌜ r ≡ sound (recordOf part phase (now (page .entry))) ⌝ }
 {
+    let size = sizes::size_ok(part.blocks as u64);
     if phases::is_idle(phase) {
-        return is_sound_idle(part, page);
+        return is_sound_idle(size, part, page);
     }
-    let whole = is_sound_part(part, phase);
-    let kept = is_zero_from(page, kept_in(phase));
+    // copied here, so that an idle part and its phase are not put into memory for this call
+    let working = part;
+    let doing = phase;
+    let whole = is_sound_part(working, doing);
+    let kept = is_zero_from(page, kept_in(doing));
     words::both(whole, kept)
 }
 

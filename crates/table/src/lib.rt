@@ -81,6 +81,10 @@ pub fn columns_of(command: Command) -> Columns
         Command::Reset => line(Exactly(1), NO, Awake, Bare, Armed, None, 0, Resets),
         Command::RowErase => line(Exactly(4), WEL, Rest, InRow, Any, None, 0, Erases(Row)),
         Command::RowProgram => line(AtLeast(5), WEL, Rest, InRow, Any, None, 0, Programs(Rows)),
+        Command::ReadExtended => line(AtLeast(1), NO, Awake, Bare, Any, ExtendedByte, 1, Looks),
+        Command::SetStored => line(Exactly(2), WEL, Rest, Bare, Any, None, 0, Writes(Extended)),
+        Command::SetLive => line(Exactly(2), NO, Rest, Bare, Any, None, 0, SetsLive),
+        Command::ClearErrors => line(Exactly(1), NO, Rest, Bare, Any, None, 0, ClearsErrors),
     }
 }
 
@@ -146,6 +150,7 @@ pub fn drives_any(source: Source) -> bool
         Source::IdentityBytes => true,
         Source::MakerPair => true,
         Source::DeviceByte => true,
+        Source::ExtendedByte => true,
     }
 }
 

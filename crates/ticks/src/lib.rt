@@ -104,6 +104,10 @@ fn register_written(register: Register, value: u8, stored: Stored) -> Stored
             next.function = (stored.function / 16 | value / 16) * 16;
             next
         }
+        Register::Extended => {
+            next.extended = value;
+            next
+        }
     }
 }
 

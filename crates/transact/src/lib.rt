@@ -1,20 +1,24 @@
 // A transaction: array and rows are lent shared, so that it cannot write them.
 ghost use mathlib.Core.Path.{_≡_};
-ghost use mathlib.Core.Bool.{true};
+ghost use mathlib.Core.Bool.{true, false};
 ghost use mathlib.Core.List.{[], _∷_};
 ghost use Prim.Native.Nat.{_<_};
 ghost use lib.ListN.{length, take, drop};
 ghost use Rattle.types.specs.declared.Decoded.the-variants.{Known};
+ghost use Rattle.types.specs.declared.Change.the-variants.{Marked};
 ghost use Rattle.paper.specs.Sizes.{sizeOk, arrayBytes, rowsBytes};
 ghost use Rattle.paper.specs.Address.{rowBase, rowByte};
+ghost use Rattle.paper.specs.Registers.{extendedRead};
 ghost use Rattle.paper.specs.Reads.{undriven, outputOf};
-ghost use Rattle.paper.specs.Calls.{ignored, outcomeTo, outcomeOf, transacted, outputTo, outputAfter, transactedOutput};
+ghost use Rattle.paper.specs.Commands.{changeBarred};
+ghost use Rattle.paper.specs.Calls.{outcomeTo, outcomeOf, transacted, outputTo, outputAfter, transactedOutput};
 ghost use Rattle.transact.specs.Shown.{shown, HasBytes};
 use types::Answer;
 use types::Change;
 use types::Columns;
 use types::Command;
 use types::Decoded;
+use types::Effect;
 use types::Outcome;
 use types::Part;
 use types::Phase;
@@ -40,6 +44,14 @@ fn repeat_from(byte: u8, output: &mut [u8], from: usize)
     let first = words::lesser(from, end);
     runs::blank(&mut output[0..first]);
     runs::fill(&mut output[first..end], byte);
+}
+
+// The extended read register as it is read: bits 7..5 and the error bits of the live byte, bit 4 1, and bit 0 WIP.
+fn extended_read(part: Part) -> u8
+    ensures { λ r. ⌜ r ≡ extendedRead (part .live) (part .stored .status) ⌝ }
+{
+    let live = part.live;
+    live / 32 * 32 + 16 + live / 2 % 8 * 2 + part.stored.status % 2
 }
 
 // The row that was named, from the byte that was named on.
@@ -80,23 +92,30 @@ fn show(k: Columns, part: Part, array: &[u8], rows: &[u8], input: &[u8], output:
             drive_from(&bytes, at, output, from);
         }
         Source::DeviceByte => repeat_from(identity.device, output, from),
+        Source::ExtendedByte => repeat_from(extended_read(part), output, from),
     }
 }
 
-// The part ignores a transaction of n bytes with a number: nothing is driven.
-fn ignore(
-    decoded: Decoded,
-    number: u8,
-    part: Part,
-    phase: Phase,
-    n: usize,
-    output: &mut [u8],
-) -> Outcome
-    ensures { λ r. ⌜ (r ≡ ignored decoded number part phase n) × (now (output .exit) ≡ undriven (length (now (output .entry)))) ⌝ }
+// The part ignores a transaction of n bytes with a number: nothing is driven, and all that changes is the armed mark.
+fn ignore(number: u8, n: usize, output: &mut [u8]) -> Outcome
+    ensures { λ r. ⌜ (r ≡ record { change = Marked false; number = number; first = n }) × (now (output .exit) ≡ undriven (length (now (output .entry)))) ⌝ }
 {
     runs::blank(output);
     Outcome {
         change: Change::Marked(false),
+        number: number,
+        first: n,
+    }
+}
+
+// It ignores one with a number that sets the error bits of the command, if it has any.
+fn bar(effect: Effect, number: u8, part: Part, n: usize, output: &mut [u8]) -> Outcome
+    ensures { λ r. ⌜ (r ≡ record { change = changeBarred effect part; number = number; first = n }) × (now (output .exit) ≡ undriven (length (now (output .entry)))) ⌝ }
+{
+    runs::blank(output);
+    let change = effects::change_barred(effect, part);
+    Outcome {
+        change: change,
         number: number,
         first: n,
     }
@@ -121,11 +140,14 @@ fn answer_to(
     let effect = k.effect;
     let work = sent::begins(effect, part.blocks, input);
     let number = ignoring::command_number(k, work, part, phase, input, wp);
+    if number == 28 {
+        return bar(effect, number, part, n, output);
+    }
     if number != 0 {
-        return ignore(Decoded::Known(command), number, part, phase, n, output);
+        return ignore(number, n, output);
     }
     show(k, part, array, rows, input, output);
-    let change = effects::change_by(effect, work, part, phase);
+    let change = effects::change_by(effect, work, part, phase, input);
     let first = table::first_driven(k, n);
     Outcome {
         change: change,
@@ -168,7 +190,7 @@ pub fn transact_part(
     }
     let decoded = decode::decode(sent::byte_at(input, 0));
     let Decoded::Known(command) = decoded else {
-        return ignore(Decoded::Unknown, 20, part, phase, n, output);
+        return ignore(20, n, output);
     };
     answer_to(command, part, phase, array, rows, wp, input, output)
 }

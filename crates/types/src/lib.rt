@@ -44,6 +44,7 @@ pub enum EraseUnit {
 pub enum Register {
     Status,
     Function,
+    Extended,
 }
 
 // What a part is busy with or suspended from. A base is the place in its memory of the unit's or
@@ -62,7 +63,7 @@ pub enum Operation {
         base: usize,
         done: usize,
     },
-    // A status or function write, with the byte that it holds. It takes one tick.
+    // A register write, with the byte that it holds. It takes one tick.
     Write {
         register: Register,
         value: u8,
@@ -91,13 +92,15 @@ pub struct Identity {
 }
 
 // The registers of a part: their stored bits, which power-up takes and reset keeps, and among them those that
-// other fields define (WIP, WEL, ESUS and PSUS).
+// other fields define (WIP, WEL, ESUS and PSUS). Of the extended read register it is the stored byte.
 pub struct Stored {
     pub status: u8,
     pub function: u8,
+    pub extended: u8,
 }
 
-// What a part is, whatever it does.
+// What a part is, whatever it does. The live byte of the extended read register has its bits 7..5 and the error bits:
+// 3 E_ERR, 2 P_ERR, 1 PROT_E.
 pub struct Part {
     pub blocks: u16,
     pub identity: Identity,
@@ -105,6 +108,7 @@ pub struct Part {
     pub wel: bool,
     pub armed: bool,
     pub asleep: bool,
+    pub live: u8,
 }
 
 // The record of a part: what it is, what it does, and the 256 bytes of page data.
@@ -121,15 +125,16 @@ pub enum Data {
     Zero,
 }
 
-// What a call makes of a record: the same; the same but for the armed mark; or part and phase anew, and page data
-// so.
+// What a call makes of a record: the same; the same but for the armed mark; unarmed, and the same but for the live byte;
+// or part and phase anew, and page data so.
 pub enum Change {
     Same,
     Marked(bool),
+    Live(u8),
     Became(Part, Phase, Data),
 }
 
-// The commands, in the order of the command table.
+// The commands, in the order of the command table; then those of the extended read register.
 pub enum Command {
     Read,
     FastRead,
@@ -155,6 +160,10 @@ pub enum Command {
     Reset,
     RowErase,
     RowProgram,
+    ReadExtended,
+    SetStored,
+    SetLive,
+    ClearErrors,
 }
 
 // What decoding a first byte gives: a command, or that the byte is in no row of the table.
@@ -179,6 +188,7 @@ pub enum Source {
     IdentityBytes,
     MakerPair,
     DeviceByte,
+    ExtendedByte,
 }
 
 // What an executed command does with the record.
@@ -195,6 +205,8 @@ pub enum Effect {
     Wakes,
     Arms,
     Resets,
+    SetsLive,
+    ClearsErrors,
 }
 
 // When a command is taken: at rest, awake and idle; also while suspended; also while busy; whenever the part is awake;

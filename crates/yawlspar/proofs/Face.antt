@@ -18,7 +18,7 @@ use Rattle.words.specs.Logic.{_and_}
 use Rattle.words.proofs.Tests.{and-l, and-r, unless-zero, orElse-zero, orElse-on, orElse-first}
 use Rattle.paper.specs.Sizes.{pageBytes}
 use Rattle.paper.specs.Soundness.{sound}
-use Rattle.paper.specs.Registers.{withBytes}
+use Rattle.paper.specs.Registers.{withBytes, withExtended}
 use Rattle.paper.specs.Numbers.{laterRefusal, laterTickNumber}
 use Rattle.paper.specs.Calls.{noStored, poweredUp, outcomeOf, outputAfter, ticked, tickedMemory}
 use Rattle.paper.proofs.Sizes.{size-range}
@@ -127,6 +127,7 @@ pub record Given (l : ℕ) (q : Asked) : Type 0 where
   pub device : q .device ≤ 255
   pub status-byte : q .status ≤ 255
   pub function-byte : q .function ≤ 255
+  pub extended-byte : q .extended ≤ 255
 
 pub given : (l : ℕ) (q : Asked) → givenNumber l q ≡ 0 → Given l q
 unfolding givenNumber
@@ -138,12 +139,13 @@ given l q e =
     let q3 = and-r _ _ q2 in
     let q4 = and-r _ _ q3 in
     let q5 = and-r _ _ q4 in
-    record { whole = eqb-true _ _ (and-l _ _ w); few = size-range (q .blocks) (unless-zero _ 0 (z .0)) .1; maker = leb-true _ _ (and-l _ _ q1); kind = leb-true _ _ (and-l _ _ q2); capacity = leb-true _ _ (and-l _ _ q3); device = leb-true _ _ (and-l _ _ q4); status-byte = leb-true _ _ (and-l _ _ q5); function-byte = leb-true _ _ (and-r _ _ q5) }
+    let q6 = and-r _ _ q5 in
+    record { whole = eqb-true _ _ (and-l _ _ w); few = size-range (q .blocks) (unless-zero _ 0 (z .0)) .1; maker = leb-true _ _ (and-l _ _ q1); kind = leb-true _ _ (and-l _ _ q2); capacity = leb-true _ _ (and-l _ _ q3); device = leb-true _ _ (and-l _ _ q4); status-byte = leb-true _ _ (and-l _ _ q5); function-byte = leb-true _ _ (and-l _ _ q6); extended-byte = leb-true _ _ (and-r _ _ q6) }
 
--- power-up with a status and a function in registers that have nothing else
-pub up-with : (q : Asked) (s : Stored) → s ≡ noStored → poweredUp (q .blocks) (identityOf q) (withBytes (q .status) (q .function) s) ≡ upOf q
+-- power-up with these bytes in registers that have nothing else
+pub up-with : (q : Asked) (s : Stored) → s ≡ noStored → poweredUp (q .blocks) (identityOf q) (withBytes (q .status) (q .function) (withExtended (q .extended) s)) ≡ upOf q
 up-with q s e =
-    ap (λ (x : Stored). poweredUp (q .blocks) (identityOf q) (withBytes (q .status) (q .function) x)) e
+    ap (λ (x : Stored). poweredUp (q .blocks) (identityOf q) (withBytes (q .status) (q .function) (withExtended (q .extended) x))) e
 
 module _ (q : Asked) (bs : List ℕ) (k : ℕ) (g : k ≡ givenNumber (length bs) q) where
   pub given-number : (k ≡ 0 → ⊥) → k ≡ upNumber (length bs) q

@@ -13,7 +13,7 @@ use Rattle.types.specs.declared.Ticked.{Ticked}
 use Rattle.types.specs.declared.PoweredUp.{PoweredUp}
 use Rattle.words.specs.Logic.{_and_, unless, _orElse_, whenZero}
 use Rattle.paper.specs.Sizes.{sizeOk}
-use Rattle.paper.specs.Registers.{withBytes}
+use Rattle.paper.specs.Registers.{withBytes, withExtended}
 use Rattle.paper.specs.Soundness.{sound}
 use Rattle.paper.specs.Numbers.{laterRefusal, laterTickNumber}
 use Rattle.paper.specs.Commands.{changed}
@@ -38,10 +38,11 @@ pub record Asked : Type 0 where
   pub device : ℕ
   pub status : ℕ
   pub function : ℕ
+  pub extended : ℕ
 
-abbrev pub asked : ℕ → ℕ → ℕ → ℕ → ℕ → ℕ → ℕ → Asked
-asked n m t c d status function =
-    record { blocks = n; maker = m; kind = t; capacity = c; device = d; status = status; function = function }
+abbrev pub asked : ℕ → ℕ → ℕ → ℕ → ℕ → ℕ → ℕ → ℕ → Asked
+asked n m t c d status function extended =
+    record { blocks = n; maker = m; kind = t; capacity = c; device = d; status = status; function = function; extended = extended }
 
 -- 1 for a bad size; 5 for a buffer of l bytes that is no record's, or a number that no byte holds
 unfoldable pub givenNumber : ℕ → Asked → ℕ
@@ -53,7 +54,8 @@ givenNumber l q =
     and isByte (q .capacity)
     and isByte (q .device)
     and isByte (q .status)
-    and isByte (q .function)) 5
+    and isByte (q .function)
+    and isByte (q .extended)) 5
 
 -- the identity and the registers that it is given
 abbrev pub identityOf : Asked → Identity
@@ -61,7 +63,7 @@ identityOf q =
     record { maker = q .maker; kind = q .kind; capacity = q .capacity; device = q .device }
 
 abbrev pub registersOf : Asked → Stored
-registersOf q = withBytes (q .status) (q .function) noStored
+registersOf q = withBytes (q .status) (q .function) (withExtended (q .extended) noStored)
 
 -- power-up of a part of that size, with that identity and these registers
 abbrev pub upOf : Asked → PoweredUp

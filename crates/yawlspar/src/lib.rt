@@ -20,7 +20,7 @@ fn pack(number: u8, place: usize) -> u64
     (number as u64) + 256 * (place as u64)
 }
 
-// Whether power-up can take what it is given: the size, the buffer's length, and the six bytes.
+// Whether power-up can take what it is given: the size, the buffer's length, and the seven bytes.
 fn given_number(
     length: usize,
     blocks: u64,
@@ -30,8 +30,9 @@ fn given_number(
     device: u64,
     status: u64,
     function: u64,
+    extended: u64,
 ) -> u8
-    ensures { λ r. ⌜ r ≡ givenNumber length (asked blocks maker kind capacity device status function) ⌝ }
+    ensures { λ r. ⌜ r ≡ givenNumber length (asked blocks maker kind capacity device status function extended) ⌝ }
 {
     let size = sizes::size_ok(blocks);
     let whole = length == places::END;
@@ -41,10 +42,9 @@ fn given_number(
     let d = device <= 255;
     let s = status <= 255;
     let f = function <= 255;
-    let bytes = words::both(
-        m,
-        words::both(t, words::both(c, words::both(d, words::both(s, f)))),
-    );
+    let e = extended <= 255;
+    let registers = words::both(s, words::both(f, e));
+    let bytes = words::both(m, words::both(t, words::both(c, words::both(d, registers))));
     let fits = words::both(whole, bytes);
     words::number_or(size, 1, words::number_or(fits, 5, 0))
 }
@@ -60,9 +60,10 @@ pub extern "C" fn yawlspar_power_up(
     device: u64,
     status: u64,
     function: u64,
+    extended: u64,
 ) -> u64
-    ensures answer { λ r. ⌜ r ≡ powerUpAnswer (length (now (bytes .entry))) (asked blocks maker kind capacity device status function) ⌝ }
-    ensures bytes { λ _. ⌜ now (bytes .exit) ≡ powerUpBytes (asked blocks maker kind capacity device status function) (now (bytes .entry)) ⌝ }
+    ensures answer { λ r. ⌜ r ≡ powerUpAnswer (length (now (bytes .entry))) (asked blocks maker kind capacity device status function extended) ⌝ }
+    ensures bytes { λ _. ⌜ now (bytes .exit) ≡ powerUpBytes (asked blocks maker kind capacity device status function extended) (now (bytes .entry)) ⌝ }
 {
     let number = given_number(
         bytes.len(),
@@ -73,6 +74,7 @@ pub extern "C" fn yawlspar_power_up(
         device,
         status,
         function,
+        extended,
     );
     if number != 0 {
         return number as u64;
@@ -86,6 +88,7 @@ pub extern "C" fn yawlspar_power_up(
     let mut stored = record::no_stored();
     stored.status = status as u8;
     stored.function = function as u8;
+    stored.extended = extended as u8;
     let up = record::power_up(blocks as u16, identity, stored);
     if up.number != 0 {
         return up.number as u64;

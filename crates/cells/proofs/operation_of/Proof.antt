@@ -32,6 +32,9 @@ write-in-requires c κs = search needs
 write-in-requires-2 : tie.Need-write-in-requires-2
 write-in-requires-2 c κs = search needs
 
+write-in-requires-3 : tie.Need-write-in-requires-3
+write-in-requires-3 c κs = search needs
+
 returns : tie.Need-returns
 unfolding operationOf
 returns c = rw (c .before .match .keys1) (c .program-in .ensures)
@@ -66,8 +69,12 @@ returns-8 c = rw (c .before .match .keys8) (c .write-in .ensures)
 
 returns-9 : tie.Need-returns-9
 unfolding operationOf
-returns-9 c = let r = c .before .match .rest in
-    rw (ne-eqb _ _ (r .0 .0 .0 .0 .0 .0 .0 .1), ne-eqb _ _ (r .0 .0 .0 .0 .0 .0 .1), ne-eqb _ _ (r .0 .0 .0 .0 .0 .1), ne-eqb _ _ (r .0 .0 .0 .0 .1), ne-eqb _ _ (r .0 .0 .0 .1), ne-eqb _ _ (r .0 .0 .1), ne-eqb _ _ (r .0 .1), ne-eqb _ _ (r .1)) (c .write-in2 .ensures)
+returns-9 c = rw (c .before .match .keys9) (c .write-in2 .ensures)
+
+returns-10 : tie.Need-returns-10
+unfolding operationOf
+returns-10 c = let r = c .before .match .rest in
+    rw (ne-eqb _ _ (r .0 .0 .0 .0 .0 .0 .0 .0 .1), ne-eqb _ _ (r .0 .0 .0 .0 .0 .0 .0 .1), ne-eqb _ _ (r .0 .0 .0 .0 .0 .0 .1), ne-eqb _ _ (r .0 .0 .0 .0 .0 .1), ne-eqb _ _ (r .0 .0 .0 .0 .1), ne-eqb _ _ (r .0 .0 .0 .1), ne-eqb _ _ (r .0 .0 .1), ne-eqb _ _ (r .0 .1), ne-eqb _ _ (r .1)) (c .write-in3 .ensures)
 
 pub operation-of-spec : {M : Type 1} → statement M
 operation-of-spec =
@@ -82,6 +89,7 @@ operation-of-spec =
     erase-in-requires-5
     write-in-requires
     write-in-requires-2
+    write-in-requires-3
     returns
     returns-2
     returns-3
@@ -90,4 +98,5 @@ operation-of-spec =
     returns-6
     returns-7
     returns-8
-    returns-9)
+    returns-9
+    returns-10)

@@ -15,6 +15,15 @@ mark-requires c κs = search needs
 enum-known-change-2 : tie.Need-enum-known-change-2
 enum-known-change-2 c = search needs
 
+mark-requires-2 : tie.Need-mark-requires-2
+mark-requires-2 c κs = search needs
+
+set-live-requires : tie.Need-set-live-requires
+set-live-requires c κs = search needs
+
+enum-known-change-3 : tie.Need-enum-known-change-3
+enum-known-change-3 c = search needs
+
 page-after-requires : tie.Need-page-after-requires
 page-after-requires c κs = search needs
 
@@ -25,7 +34,10 @@ returns-2 : tie.Need-returns-2
 returns-2 c = rw (c .before .before .before .change .given .1, c .mark .ensures)
 
 returns-3 : tie.Need-returns-3
-returns-3 c = rw (c .before .before .change2 .given .1, c .page-after .ensures)
+returns-3 c = rw (c .before .before .before .before .change2 .given .1, c .set-live .ensures, c .before .mark2 .ensures)
+
+returns-4 : tie.Need-returns-4
+returns-4 c = rw (c .before .before .change3 .given .1, c .page-after .ensures)
 
 pub apply-spec : {M : Type 1} → statement M
 apply-spec =
@@ -35,7 +47,11 @@ apply-spec =
     enum-known-change
     mark-requires
     enum-known-change-2
+    mark-requires-2
+    set-live-requires
+    enum-known-change-3
     page-after-requires
     returns
     returns-2
-    returns-3)
+    returns-3
+    returns-4)

@@ -81,6 +81,24 @@ enum-told-12 c = search needs
 fresh-part-requires : tie.Need-fresh-part-requires
 fresh-part-requires c κs = search needs
 
+enum-told-13 : tie.Need-enum-told-13
+enum-told-13 c = search needs
+
+byte-at-requires : tie.Need-byte-at-requires
+byte-at-requires c κs = search needs
+
+held-byte-requires : tie.Need-held-byte-requires
+held-byte-requires c κs = search needs
+
+add-live : tie.Need-add-live
+add-live c = search needs
+
+enum-told-14 : tie.Need-enum-told-14
+enum-told-14 c = search needs
+
+held-byte-requires-2 : tie.Need-held-byte-requires-2
+held-byte-requires-2 c κs = search needs
+
 returns : tie.Need-returns
 returns c = rw (c .enum-told .given .1)
 
@@ -117,6 +135,12 @@ returns-11 c = rw (c .enum-told11 .given .1)
 returns-12 : tie.Need-returns-12
 returns-12 c = rw (c .before .enum-told12 .given .1, c .fresh-part .ensures)
 
+returns-13 : tie.Need-returns-13
+returns-13 c = rw (c .before .before .before .enum-told13 .given .1, c .before .held-byte .ensures, c .before .before .byte-at .ensures)
+
+returns-14 : tie.Need-returns-14
+returns-14 c = rw (c .before .enum-told14 .given .1, c .held-byte2 .ensures)
+
 pub change-by-spec : {M : Type 1} → statement M
 change-by-spec =
     tie.close
@@ -147,6 +171,12 @@ change-by-spec =
     enum-told-11
     enum-told-12
     fresh-part-requires
+    enum-told-13
+    byte-at-requires
+    held-byte-requires
+    add-live
+    enum-told-14
+    held-byte-requires-2
     returns
     returns-2
     returns-3
@@ -158,4 +188,6 @@ change-by-spec =
     returns-9
     returns-10
     returns-11
-    returns-12)
+    returns-12
+    returns-13
+    returns-14)

@@ -1,4 +1,4 @@
--- `record::bits_ok` meets its contract: it joins the two tests as the definition does.
+-- `record::bits_ok` meets its contract: it joins the tests as the definition does.
 use borrow.Author.Needs.{needs}
 use Rattle.paper.specs.Soundness.{bitsOk}
 use Rattle.record.proofs.bits_ok.Statement.{statement}
@@ -13,9 +13,13 @@ function-low-requires c κs = search needs
 both-requires : tie.Need-both-requires
 both-requires c κs = search needs
 
+both-requires-2 : tie.Need-both-requires-2
+both-requires-2 c κs = search needs
+
 returns : tie.Need-returns
 unfolding bitsOk
-returns c = rw (c .both .ensures, c .before .function-low .ensures, c .before .before .before .status-low .ensures)
+returns c = rw (c .both2 .ensures, c .before .both .ensures, c .before .before .before .function-low .ensures, c .before .before .before .before .before .status-low .ensures)
 
 pub bits-ok-spec : {M : Type 1} → statement M
-bits-ok-spec = tie.close (tie.spec status-low-requires function-low-requires both-requires returns)
+bits-ok-spec =
+    tie.close (tie.spec status-low-requires function-low-requires both-requires both-requires-2 returns)

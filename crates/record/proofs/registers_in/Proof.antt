@@ -18,14 +18,17 @@ held-byte-requires-2 c κs = search needs
 function-low-requires : tie.Need-function-low-requires
 function-low-requires c κs = search needs
 
+held-byte-requires-3 : tie.Need-held-byte-requires-3
+held-byte-requires-3 c κs = search needs
+
 add-next : tie.Need-add-next
-add-next c = let a = c .before .before .before .before .args in omega (arith, c .before .before .before .held-byte .ensures, c .before .before .status-low .ensures, status-low-le (a .phase) (a .wel))
+add-next c = let a = c .before .before .before .before .before .args in omega (arith, c .before .before .before .before .held-byte .ensures, c .before .before .before .status-low .ensures, status-low-le (a .phase) (a .wel))
 
 add-next-2 : tie.Need-add-next-2
-add-next-2 c = let a = c .before .before .before .before .args in omega (arith, c .before .held-byte2 .ensures, c .function-low .ensures, function-low-le (a .phase))
+add-next-2 c = let a = c .before .before .before .before .before .args in omega (arith, c .before .before .held-byte2 .ensures, c .before .function-low .ensures, function-low-le (a .phase))
 
 returns : tie.Need-returns
-returns c = rw (c .before .before .before .held-byte .ensures, c .before .before .status-low .ensures, c .before .held-byte2 .ensures, c .function-low .ensures)
+returns c = rw (c .before .before .before .before .held-byte .ensures, c .before .before .before .status-low .ensures, c .before .before .held-byte2 .ensures, c .before .function-low .ensures, c .held-byte3 .ensures)
 
 pub registers-in-spec : {M : Type 1} → statement M
 registers-in-spec =
@@ -35,6 +38,7 @@ registers-in-spec =
     status-low-requires
     held-byte-requires-2
     function-low-requires
+    held-byte-requires-3
     add-next
     add-next-2
     returns)

@@ -48,6 +48,12 @@ enum-told-8 c = search needs
 enum-told-9 : tie.Need-enum-told-9
 enum-told-9 c = search needs
 
+enum-told-10 : tie.Need-enum-told-10
+enum-told-10 c = search needs
+
+enum-told-11 : tie.Need-enum-told-11
+enum-told-11 c = search needs
+
 returns : tie.Need-returns
 returns c = search needs
 
@@ -84,6 +90,12 @@ returns-11 c = search needs
 returns-12 : tie.Need-returns-12
 returns-12 c = search needs
 
+returns-13 : tie.Need-returns-13
+returns-13 c = search needs
+
+returns-14 : tie.Need-returns-14
+returns-14 c = search needs
+
 pub begins-spec : {M : Type 1} → statement M
 begins-spec =
     tie.close
@@ -103,6 +115,8 @@ begins-spec =
     enum-told-7
     enum-told-8
     enum-told-9
+    enum-told-10
+    enum-told-11
     returns
     returns-2
     returns-3
@@ -114,4 +128,6 @@ begins-spec =
     returns-9
     returns-10
     returns-11
-    returns-12)
+    returns-12
+    returns-13
+    returns-14)

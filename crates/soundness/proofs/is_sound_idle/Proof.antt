@@ -6,12 +6,6 @@ use borrow.Author.Needs.{needs}
 use Rattle.soundness.proofs.is_sound_idle.Statement.{statement}
 use Rattle.soundness.proofs.is_sound_idle.Tie as tie
 
-cast-size-ok : tie.Need-cast-size-ok
-cast-size-ok c = search needs
-
-size-ok-requires : tie.Need-size-ok-requires
-size-ok-requires c κs = search needs
-
 bits-ok-requires : tie.Need-bits-ok-requires
 bits-ok-requires c κs = search needs
 
@@ -25,14 +19,12 @@ both-requires-2 : tie.Need-both-requires-2
 both-requires-2 c κs = search needs
 
 returns : tie.Need-returns
-returns c = rw (c .both2 .ensures, c .before .both .ensures, c .before .before .zero-from .ensures, c .before .before .before .bits-ok .ensures, c .before .before .before .before .size-ok .ensures) (sym (idle-sound-as (c .before .before .before .before .before .before .before .before .args .part) (now (c .before .before .before .before .before .before .before .before .args .page))))
+returns c = rw (c .both2 .ensures, c .before .both .ensures, c .before .before .zero-from .ensures, c .before .before .before .bits-ok .ensures, c .before .before .before .before .before .before .pre) (sym (idle-sound-as (c .before .before .before .before .before .before .args .part) (now (c .before .before .before .before .before .before .args .page))))
 
 pub is-sound-idle-spec : {M : Type 1} → statement M
 is-sound-idle-spec =
     tie.close
     (tie.spec
-    cast-size-ok
-    size-ok-requires
     bits-ok-requires
     zero-from-requires
     both-requires

@@ -9,14 +9,20 @@ use borrow.Author.Needs.{needs}
 use Rattle.soundness.proofs.is_sound_in.Statement.{statement}
 use Rattle.soundness.proofs.is_sound_in.Tie as tie
 
+cast-size-ok : tie.Need-cast-size-ok
+cast-size-ok c = search needs
+
+size-ok-requires : tie.Need-size-ok-requires
+size-ok-requires c κs = search needs
+
 is-idle-requires : tie.Need-is-idle-requires
 is-idle-requires c κs = search needs
 
 is-sound-idle-requires : tie.Need-is-sound-idle-requires
-is-sound-idle-requires c κs = search needs
+is-sound-idle-requires c κs = c .before .before .size-ok .ensures
 
 returns : tie.Need-returns
-returns c = let a = c .before .before .before .before .args in c .is-sound-idle .ensures ∙ ap (λ (f : Phase). sound (recordOf (a .part) f (now (a .page)))) (sym (idle-is (a .phase) (sym (c .before .before .is-idle .ensures) ∙ c .before .if1 .taken)))
+returns c = let a = c .before .before .before .before .before .before .args in c .is-sound-idle .ensures ∙ ap (λ (f : Phase). sound (recordOf (a .part) f (now (a .page)))) (sym (idle-is (a .phase) (sym (c .before .before .is-idle .ensures) ∙ c .before .if1 .taken)))
 
 is-sound-part-requires : tie.Need-is-sound-part-requires
 is-sound-part-requires c κs = search needs
@@ -38,6 +44,8 @@ pub is-sound-in-spec : {M : Type 1} → statement M
 is-sound-in-spec =
     tie.close
     (tie.spec
+    cast-size-ok
+    size-ok-requires
     is-idle-requires
     is-sound-idle-requires
     returns

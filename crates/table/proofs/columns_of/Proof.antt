@@ -147,6 +147,30 @@ enum-told-24 c = search needs
 line-requires-24 : tie.Need-line-requires-24
 line-requires-24 c κs = search needs
 
+enum-told-25 : tie.Need-enum-told-25
+enum-told-25 c = search needs
+
+line-requires-25 : tie.Need-line-requires-25
+line-requires-25 c κs = search needs
+
+enum-told-26 : tie.Need-enum-told-26
+enum-told-26 c = search needs
+
+line-requires-26 : tie.Need-line-requires-26
+line-requires-26 c κs = search needs
+
+enum-told-27 : tie.Need-enum-told-27
+enum-told-27 c = search needs
+
+line-requires-27 : tie.Need-line-requires-27
+line-requires-27 c κs = search needs
+
+enum-told-28 : tie.Need-enum-told-28
+enum-told-28 c = search needs
+
+line-requires-28 : tie.Need-line-requires-28
+line-requires-28 c κs = search needs
+
 returns : tie.Need-returns
 returns c = rw (c .before .enum-told .given .1) (c .line .ensures)
 
@@ -219,6 +243,18 @@ returns-23 c = rw (c .before .enum-told23 .given .1) (c .line23 .ensures)
 returns-24 : tie.Need-returns-24
 returns-24 c = rw (c .before .enum-told24 .given .1) (c .line24 .ensures)
 
+returns-25 : tie.Need-returns-25
+returns-25 c = rw (c .before .enum-told25 .given .1) (c .line25 .ensures)
+
+returns-26 : tie.Need-returns-26
+returns-26 c = rw (c .before .enum-told26 .given .1) (c .line26 .ensures)
+
+returns-27 : tie.Need-returns-27
+returns-27 c = rw (c .before .enum-told27 .given .1) (c .line27 .ensures)
+
+returns-28 : tie.Need-returns-28
+returns-28 c = rw (c .before .enum-told28 .given .1) (c .line28 .ensures)
+
 pub columns-of-spec : {M : Type 1} → statement M
 columns-of-spec =
     tie.close
@@ -271,6 +307,14 @@ columns-of-spec =
     line-requires-23
     enum-told-24
     line-requires-24
+    enum-told-25
+    line-requires-25
+    enum-told-26
+    line-requires-26
+    enum-told-27
+    line-requires-27
+    enum-told-28
+    line-requires-28
     returns
     returns-2
     returns-3
@@ -294,4 +338,8 @@ columns-of-spec =
     returns-21
     returns-22
     returns-23
-    returns-24)
+    returns-24
+    returns-25
+    returns-26
+    returns-27
+    returns-28)

@@ -16,11 +16,18 @@ enum-told-2 c = search needs
 mul-next : tie.Need-mul-next
 mul-next c = let a = c .before .before .before .args in let h : bitOr (a .stored .function / 16) (a .value / 16) < 16 = or-lt 4 (a .stored .function / 16) (a .value / 16) (omega arith) (omega arith) in omega arith
 
+enum-told-3 : tie.Need-enum-told-3
+enum-told-3 c = search needs
+
 returns : tie.Need-returns
 returns c = rw (c .enum-told .given .1)
 
 returns-2 : tie.Need-returns-2
 returns-2 c = rw (c .before .enum-told2 .given .1)
 
+returns-3 : tie.Need-returns-3
+returns-3 c = rw (c .enum-told3 .given .1)
+
 pub register-written-spec : {M : Type 1} → statement M
-register-written-spec = tie.close (tie.spec enum-told enum-told-2 mul-next returns returns-2)
+register-written-spec =
+    tie.close (tie.spec enum-told enum-told-2 mul-next enum-told-3 returns returns-2 returns-3)

@@ -2,7 +2,7 @@
 use mathlib.Core.Path.{refl, sym, _∙_}
 use denote.Ref.{now}
 use borrow.Author.Needs.{needs}
-use Rattle.types.specs.declared.Source.the-variants.{ArrayBytes, RowBytes, StatusByte, FunctionByte, IdentityBytes, MakerPair, DeviceByte}
+use Rattle.types.specs.declared.Source.the-variants.{ArrayBytes, RowBytes, StatusByte, FunctionByte, IdentityBytes, MakerPair, DeviceByte, ExtendedByte}
 use Rattle.transact.proofs.Outputs.{driven-output, some-bytes, blank-output, row-inside}
 use Rattle.transact.proofs.show.Statement.{statement}
 use Rattle.transact.proofs.show.Tie as tie
@@ -76,6 +76,15 @@ enum-told-8 c = search needs
 repeat-from-requires-3 : tie.Need-repeat-from-requires-3
 repeat-from-requires-3 c κs = search needs
 
+enum-told-9 : tie.Need-enum-told-9
+enum-told-9 c = search needs
+
+extended-read-requires : tie.Need-extended-read-requires
+extended-read-requires c κs = search needs
+
+repeat-from-requires-4 : tie.Need-repeat-from-requires-4
+repeat-from-requires-4 c κs = search needs
+
 same-length : tie.Need-same-length
 same-length c = search needs
 
@@ -148,6 +157,15 @@ returns-8 c =
     let a = s .args in
     c .before .before .repeat-from3 .ensures ∙ rw (s .pre .1) (sym (driven-output (a .k) (a .part) (now (a .array)) (now (a .rows)) (now (a .input)) DeviceByte (c .before .before .before .before .enum-told8 .given .1) refl))
 
+same-length-9 : tie.Need-same-length-9
+same-length-9 c = search needs
+
+returns-9 : tie.Need-returns-9
+returns-9 c =
+    let s = c .before .before .before .before .before .before .before .before .before .before .before .before in
+    let a = s .args in
+    c .before .before .repeat-from4 .ensures ∙ rw (s .pre .1, c .before .before .before .before .extended-read .ensures) (sym (driven-output (a .k) (a .part) (now (a .array)) (now (a .rows)) (now (a .input)) ExtendedByte (c .before .before .before .before .before .enum-told9 .given .1) refl))
+
 pub show-spec : {M : Type 1} → statement M
 show-spec =
     tie.close
@@ -173,6 +191,9 @@ show-spec =
     drive-from-requires-3
     enum-told-8
     repeat-from-requires-3
+    enum-told-9
+    extended-read-requires
+    repeat-from-requires-4
     same-length
     returns
     same-length-2
@@ -188,4 +209,6 @@ show-spec =
     same-length-7
     returns-7
     same-length-8
-    returns-8)
+    returns-8
+    same-length-9
+    returns-9)

@@ -26,6 +26,9 @@ both-requires-5 c κs = search needs
 both-requires-6 : tie.Need-both-requires-6
 both-requires-6 c κs = search needs
 
+both-requires-7 : tie.Need-both-requires-7
+both-requires-7 c κs = search needs
+
 number-or-requires : tie.Need-number-or-requires
 number-or-requires c κs = search needs
 
@@ -34,7 +37,7 @@ number-or-requires-2 c κs = search needs
 
 returns : tie.Need-returns
 unfolding givenNumber
-returns c = rw (c .number-or2 .ensures, c .before .number-or .ensures, orElse-none, c .before .before .both6 .ensures, c .before .before .before .both5 .ensures, c .before .before .before .before .both4 .ensures, c .before .before .before .before .before .both3 .ensures, c .before .before .before .before .before .before .both2 .ensures, c .before .before .before .before .before .before .before .both .ensures, c .before .before .before .before .before .before .before .before .size-ok .ensures)
+returns c = rw (c .number-or2 .ensures, c .before .number-or .ensures, orElse-none, c .before .before .both7 .ensures, c .before .before .before .both6 .ensures, c .before .before .before .before .both5 .ensures, c .before .before .before .before .before .both4 .ensures, c .before .before .before .before .before .before .both3 .ensures, c .before .before .before .before .before .before .before .both2 .ensures, c .before .before .before .before .before .before .before .before .both .ensures, c .before .before .before .before .before .before .before .before .before .size-ok .ensures)
 
 pub given-number-spec : {M : Type 1} → statement M
 given-number-spec =
@@ -47,6 +50,7 @@ given-number-spec =
     both-requires-4
     both-requires-5
     both-requires-6
+    both-requires-7
     number-or-requires
     number-or-requires-2
     returns)

@@ -18,13 +18,10 @@ cast-result c = search needs
 returns : tie.Need-returns
 returns c =
     let a = c .before .before .before .args in
-    let q = asked (a .blocks) (a .maker) (a .kind) (a .capacity) (a .device) (a .status) (a .function) in
+    let q = asked (a .blocks) (a .maker) (a .kind) (a .capacity) (a .device) (a .status) (a .function) (a .extended) in
     let g = c .before .given-number in
     let e = given-number q (now (a .bytes)) (g .result) (g .ensures) (c .if1 .taken) in
     (omega (arith, e), no-bytes q (now (a .bytes)) (g .result) (g .ensures) _ e (c .if1 .taken))
-
-cast-t16 : tie.Need-cast-t16
-cast-t16 c = omega (arith, given _ _ (sym (c .before .given-number .ensures) ∙ c .if1 .left))
 
 cast-t17 : tie.Need-cast-t17
 cast-t17 c = omega (arith, given _ _ (sym (c .before .given-number .ensures) ∙ c .if1 .left))
@@ -35,6 +32,9 @@ cast-t18 c = omega (arith, given _ _ (sym (c .before .given-number .ensures) ∙
 cast-t19 : tie.Need-cast-t19
 cast-t19 c = omega (arith, given _ _ (sym (c .before .given-number .ensures) ∙ c .if1 .left))
 
+cast-t20 : tie.Need-cast-t20
+cast-t20 c = omega (arith, given _ _ (sym (c .before .given-number .ensures) ∙ c .if1 .left))
+
 no-stored-requires : tie.Need-no-stored-requires
 no-stored-requires c κs = search needs
 
@@ -43,6 +43,9 @@ cast-stored c = omega (arith, given _ _ (sym (c .before .before .given-number .e
 
 cast-stored-2 : tie.Need-cast-stored-2
 cast-stored-2 c = omega (arith, given _ _ (sym (c .before .before .given-number .ensures) ∙ c .before .if1 .left))
+
+cast-stored-3 : tie.Need-cast-stored-3
+cast-stored-3 c = omega (arith, given _ _ (sym (c .before .before .given-number .ensures) ∙ c .before .if1 .left))
 
 cast-power-up : tie.Need-cast-power-up
 cast-power-up c = omega (arith, given _ _ (sym (c .before .before .given-number .ensures) ∙ c .before .if1 .left))
@@ -56,7 +59,7 @@ cast-result-2 c = search needs
 returns-2 : tie.Need-returns-2
 returns-2 c =
     let a = c .before .before .before .before .before .before .before .before .args in
-    let q = asked (a .blocks) (a .maker) (a .kind) (a .capacity) (a .device) (a .status) (a .function) in
+    let q = asked (a .blocks) (a .maker) (a .kind) (a .capacity) (a .device) (a .status) (a .function) (a .extended) in
     let g = c .before .before .before .before .before .before .given-number in
     let u = c .before .before .before .power-up in
     let w = u .ensures ∙ up-with q _ (c .before .before .before .before .no-stored .ensures) in
@@ -72,7 +75,7 @@ same-length c = search needs
 returns-3 : tie.Need-returns-3
 returns-3 c =
     let a = c .before .before .before .before .before .before .before .before .before .before .before .before .args in
-    let q = asked (a .blocks) (a .maker) (a .kind) (a .capacity) (a .device) (a .status) (a .function) in
+    let q = asked (a .blocks) (a .maker) (a .kind) (a .capacity) (a .device) (a .status) (a .function) (a .extended) in
     let g = c .before .before .before .before .before .before .before .before .before .before .given-number in
     let u = c .before .before .before .before .before .before .before .power-up in
     let w = u .ensures ∙ up-with q _ (c .before .before .before .before .before .before .before .before .no-stored .ensures) in
@@ -88,13 +91,14 @@ yawlspar-power-up-spec =
     given-number-requires
     cast-result
     returns
-    cast-t16
     cast-t17
     cast-t18
     cast-t19
+    cast-t20
     no-stored-requires
     cast-stored
     cast-stored-2
+    cast-stored-3
     cast-power-up
     power-up-requires
     cast-result-2

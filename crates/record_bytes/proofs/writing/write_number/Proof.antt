@@ -1,4 +1,4 @@
--- `record_bytes::writing::write_number` meets its contract: eight zeros are the bytes of 0, and any other number's are copied over them.
+-- `record_bytes::writing::write_number` meets its contract: the number's eight bytes are copied over those that are there.
 use mathlib.Core.Path.{_∙_, ap}
 use lib.ListN.{length}
 use native.Mathlib.Omega.{arith}
@@ -8,9 +8,6 @@ use borrow.Author.Needs.{needs}
 use Rattle.record_bytes.proofs.writing.write_number.Statement.{statement}
 use Rattle.record_bytes.proofs.writing.write_number.Tie as tie
 
-returns : tie.Need-returns
-returns c = rw (c .if1 .taken) (c .before .before .pre)
-
 high-first-bytes-requires : tie.Need-high-first-bytes-requires
 high-first-bytes-requires c κs = search needs
 
@@ -18,23 +15,16 @@ slice-aggregate-copy : tie.Need-slice-aggregate-copy
 slice-aggregate-copy c = search needs
 
 copy-requires : tie.Need-copy-requires
-copy-requires c κs = omega (arith, ap length (c .before .before .before .before .before .pre))
+copy-requires c κs = omega (arith, c .before .before .before .before .pre)
 
 same-length : tie.Need-same-length
 same-length c = search needs
 
-returns-2 : tie.Need-returns-2
-returns-2 c =
+returns : tie.Need-returns
+returns c =
     let h = c .before .before .before .before .before .high-first-bytes in
-    c .before .before .copy .ensures .1 ∙ copied-whole (h .result) (now (c .before .before .before .before .before .before .before .before .args .bytes)) (omega (arith, ap length (c .before .before .before .before .before .before .before .before .pre), ap length (h .ensures))) ∙ h .ensures
+    c .before .before .copy .ensures .1 ∙ copied-whole (h .result) (now (c .before .before .before .before .before .before .before .args .bytes)) (omega (arith, c .before .before .before .before .before .before .before .pre, ap length (h .ensures))) ∙ h .ensures
 
 pub write-number-spec : {M : Type 1} → statement M
 write-number-spec =
-    tie.close
-    (tie.spec
-    returns
-    high-first-bytes-requires
-    slice-aggregate-copy
-    copy-requires
-    same-length
-    returns-2)
+    tie.close (tie.spec high-first-bytes-requires slice-aggregate-copy copy-requires same-length returns)
