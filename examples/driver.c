@@ -40,7 +40,7 @@ static void power_up(void)
 {
     memset(array, 0x00, sizeof array);
     memset(rows, 0xFF, sizeof rows);
-    must_not_refuse(yawlspar_power_up(record, sizeof record, BLOCKS, 0x9D, 0x60, 0x14, 0x13, 0x00, 0x00));
+    must_not_refuse(yawlspar_power_up(record, sizeof record, BLOCKS, 0x9D, 0x60, 0x14, 0x13, 0x00, 0x00, 0x00));
 }
 
 /* Clocks out `length` bytes and, in the same clocks, as many in. A part that ignores a transaction does so
@@ -76,6 +76,8 @@ enum command {
     RESET_ENABLE = 0x66,
     SUSPEND = 0x75,
     RESUME = 0x7A,
+    READ_EXTENDED = 0x81,
+    CLEAR_ERRORS = 0x82,
     READ_MAKER_DEVICE = 0x90,
     RESET = 0x99,
     READ_ID = 0x9F,
@@ -84,6 +86,9 @@ enum command {
 };
 
 #define WIP 0x01u
+#define E_ERR 0x08u
+#define P_ERR 0x04u
+#define PROT_E 0x02u
 #define PAGE_BYTES 256u
 #define POLL_TICKS 4u
 
@@ -248,6 +253,16 @@ static void software_reset(void)
     send_command(RESET);
 }
 
+/* Why writes did nothing: the part itself keeps in its extended read register what it refused. */
+static const char *refused_writes(uint8_t extended)
+{
+    if ((extended & PROT_E) == 0)
+        return "no write was refused";
+    if ((extended & E_ERR) != 0 && (extended & P_ERR) != 0)
+        return "an erase and a program were refused, protected";
+    return (extended & E_ERR) != 0 ? "an erase was refused, protected" : "a program was refused, protected";
+}
+
 /* ---- What the firmware does with it ---- */
 
 static unsigned erased_pages(uint32_t address, unsigned pages)
@@ -371,13 +386,28 @@ static void print_protected(void)
                first * BLOCK_BYTES, (first + count) * BLOCK_BYTES - 1);
 }
 
+static void print_refused(void)
+{
+    uint8_t extended = read_register(READ_EXTENDED);
+
+    printf("81h reads %02Xh: %s\n", extended, refused_writes(extended));
+}
+
 static void protect_blocks(void)
 {
+    static const uint8_t byte[] = {0x00};
+
     write_status(0x08);
     print_protected();
     printf("an erase in block 14:\n");
     start_erase(SECTOR_ERASE, 0x0E0000);
     printf("0E0000h holds %02Xh, status %02Xh\n", read_byte(0x0E0000), read_register(READ_STATUS));
+    print_refused();
+    printf("a program there:\n");
+    start_program(0x0E0000, byte, sizeof byte);
+    print_refused();
+    send_command(CLEAR_ERRORS);
+    print_refused();
     start_erase(SECTOR_ERASE, 0x0DF000);
     finish_sector(0x0DF000);
     write_status(0x30);
