@@ -92,7 +92,7 @@ uint64_t yawlspar_page_place(uint64_t start, uint64_t index);
  * the lowest is the answer. A call that is refused, with 1 to 6, leaves every byte of every buffer as it
  * was, and the number above is 0.
  */
-#define YAWLSPAR_RECORD_BYTES 296
+#define YAWLSPAR_RECORD_BYTES 333
 #define YAWLSPAR_NUMBER(r) ((r) & 255)
 #define YAWLSPAR_PLACE(r) ((r) >> 8)
 #define YAWLSPAR_TICKS(r) ((r) >> 8)
@@ -137,7 +137,8 @@ uint64_t yawlspar_power_up(uint8_t *record, size_t record_len, uint64_t blocks, 
  *   4  if output_len is not input_len;
  *   5  if the bytes hold no record, the record is not sound, or wp_high is neither 0 nor 1;
  *   20 to 28  if the part ignored the transaction: the output is FFh all over. With 28 an erase sets E_ERR and
- *             PROT_E, a program P_ERR and PROT_E in the extended read register, which 81h reads.
+ *             PROT_E, a program P_ERR and PROT_E in the extended read register, which 81h reads. 28 is also the
+ *             number of a program into the unit of a suspended erase.
  * Where the bytes hold no record there is no size to judge: the number is then 2, 3, 4 or 5.
  * YAWLSPAR_PLACE is the first driven place of the output, or input_len where nothing is driven.
  */

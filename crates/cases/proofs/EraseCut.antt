@@ -52,7 +52,7 @@ module _ (p : Record) (r : Ready p) (has : 3 < p .part .blocks) (free : Free (co
   busy-sound k h = turned-sound p r (Busy (erasing k)) true false refl (operation-ok k h) refl
 
   cut-sound : (k : ℕ) (armed : Bool) → k < 256 → sound (cut k armed) ≡ true
-  unfolding _and_
+  unfolding _and_ _or_
   cut-sound k armed h = turned-sound p r (Suspended (erasing k)) false armed refl (operation-ok k h) refl
 
   module _ (m l : ℕ) (hm : m < 256) (hl : l < 256) where
@@ -90,7 +90,7 @@ module _ (p : Record) (r : Ready p) (has : 3 < p .part .blocks) (free : Free (co
 
   module _ (k : ℕ) (h : k < 256) where
     suspends : ignoredNumber (Known Suspend) (busy k .part) (busy k .phase) (0x75 ∷ []) true ≡ 0
-    unfolding commandNumber _or_ unless _orElse_
+    unfolding commandNumber _and_ _or_ unless _orElse_
     suspends = rw (r .awake)
 
     pub erase-suspends : send (busy k) (0x75 ∷ []) ≡ did (cut k false) 1

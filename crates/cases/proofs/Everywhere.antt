@@ -66,7 +66,7 @@ unfolding addressIn highFirst
 at-FE n h = mod-eq-of-lt (omega arith)
 
 abbrev started : Part → Record
-started p = programming p (Program Array 0x000000 0xFE 3 0) three
+started p = programming p (Program Array 0xFE 0x000000 3 0) three
 
 three-begun : (p : Part) → 1 ≤ p .blocks → programming p (programOf Array (p .blocks) (0x02 ∷ 0x00 ∷ 0x00 ∷ 0xFE ∷ three)) three ≡ started p
 unfolding programOf pagePlace

@@ -7,3 +7,4 @@ pub mod Everywhere
 pub mod Cases
 pub mod States
 pub mod Worked
+pub mod WithinErase

@@ -17,7 +17,7 @@ use Rattle.paper.specs.Soundness.{sound}
 use Rattle.paper.specs.Table.{decoded, columns}
 use Rattle.paper.specs.Calls.{executed, answered}
 use Rattle.paper.specs.Ticks.{recordAfter, memoryAfter, workingTicks}
-use Rattle.paper.proofs.Soundness.{sound-parts}
+use Rattle.paper.proofs.Soundness.{recordOf, sound-parts}
 use Rattle.paper.proofs.Answers.{executes, ticks-run, ticks-memory}
 use Rattle.cases.proofs.Paper.{send, tick, arrayTicked, Ready, Free}
 use Rattle.cases.proofs.Parts.{did}
@@ -44,7 +44,7 @@ module _ (p : Record) (r : Ready p) (w : p .part .wel ≡ true) (h m l : ℕ) (d
     program-run =
         executes p (r .is-sound) true PageProgram input (omega arith) (omega arith) refl
         (program-number (p .part) input (sound-parts p (r .is-sound) .size) (omega arith) free (p .phase) (r .awake) (r .idle) w true)
-        ∙ ap (λ (f : Phase). answered (executed (columns PageProgram) (p .part) f input) input p) (r .idle)
+        ∙ ap (λ (f : Phase). answered (executed (columns PageProgram) (p .part) f input) input (recordOf (p .part) f (p .page))) (r .idle)
 
     pub program-ticks : (k : ℕ) → k ≤ tickLimit → tick (send p input .next) k ≡ record { next = recordAfter k begun; number = 0; done = workingTicks k begun }
     program-ticks k b = rw program-run (ticks-run begun begun-sound k b)

@@ -10,7 +10,7 @@ use Rattle.types.specs.declared.Register.the-variants.{Status, Extended}
 use Rattle.types.specs.declared.Operation.{Operation}
 use Rattle.types.specs.declared.Operation.the-variants.{Program, Erase, Write}
 use Rattle.types.specs.declared.Phase.{Phase}
-use Rattle.types.specs.declared.Phase.the-variants.{Idle, Busy, Suspended}
+use Rattle.types.specs.declared.Phase.the-variants.{Idle, Busy, Suspended, Nested}
 use Rattle.types.specs.declared.Length.{Length}
 use Rattle.types.specs.declared.Length.the-variants.{Exactly, AtLeast}
 use Rattle.types.specs.declared.Record.{Record}
@@ -60,10 +60,10 @@ abbrev pub whileBusy : ℕ → List ℕ
 whileBusy s =
     22 ∷ 22 ∷ 0 ∷ 0 ∷ 22 ∷ 22 ∷ 22 ∷ 22 ∷ 22 ∷ 22 ∷ 22 ∷ 22 ∷ 22 ∷ 22 ∷ 22 ∷ 22 ∷ 22 ∷ 22 ∷ 22 ∷ s ∷ s ∷ 22 ∷ 22 ∷ 22 ∷ 0 ∷ 0 ∷ 22 ∷ 22 ∷ 0 ∷ 22 ∷ 22 ∷ 22 ∷ []
 
--- the reads, 7Ah, 30h and 66h, and 99h where it is armed, are taken while suspended
-abbrev pub whileSuspended : List ℕ
-whileSuspended =
-    0 ∷ 0 ∷ 0 ∷ 0 ∷ 0 ∷ 0 ∷ 0 ∷ 0 ∷ 23 ∷ 23 ∷ 23 ∷ 23 ∷ 23 ∷ 23 ∷ 23 ∷ 23 ∷ 23 ∷ 23 ∷ 23 ∷ 23 ∷ 23 ∷ 0 ∷ 0 ∷ 23 ∷ 0 ∷ 0 ∷ 23 ∷ 23 ∷ 0 ∷ 23 ∷ 23 ∷ 23 ∷ []
+-- the reads, 7Ah, 30h and 66h, and 99h where it is armed, are taken while suspended; 06h, 04h and 02h where an erase is, and 02h then asks for WEL and for a page outside the suspended unit
+abbrev pub whileSuspended : ℕ → ℕ → List ℕ
+whileSuspended enables programs =
+    0 ∷ 0 ∷ 0 ∷ 0 ∷ 0 ∷ 0 ∷ 0 ∷ 0 ∷ enables ∷ enables ∷ 23 ∷ 23 ∷ programs ∷ 23 ∷ 23 ∷ 23 ∷ 23 ∷ 23 ∷ 23 ∷ 23 ∷ 23 ∷ 0 ∷ 0 ∷ 23 ∷ 0 ∷ 0 ∷ 23 ∷ 23 ∷ 0 ∷ 23 ∷ 23 ∷ 23 ∷ []
 
 -- the codes, as they stand in the table: 03 0B 05 48 9F 90 AB 68 06 04 01 42 02 D7 20 52 D8 C7 60 75 B0 7A 30 B9 66 99 64 62 81 85 83 82
 pub record States : Type 0 where
@@ -77,13 +77,18 @@ pub record States : Type 0 where
   pub busy-sector : numbers (recordWith (Busy (Erase Sector 4096 3)) true true false) codes ≡ whileBusy 0
   pub busy-chip : numbers (recordWith (Busy (Erase Chip 0 5)) true true false) codes ≡ whileBusy 25
   pub busy-row : numbers (recordWith (Busy (Erase Row 256 0)) true true false) codes ≡ whileBusy 25
-  pub busy-row-program : numbers (recordWith (Busy (Program Rows 512 7 1 0)) true true false) codes ≡ whileBusy 25
+  pub busy-row-program : numbers (recordWith (Busy (Program Rows 7 512 1 0)) true true false) codes ≡ whileBusy 25
   pub busy-write : numbers (recordWith (Busy (Write Status 0)) true true false) codes ≡ whileBusy 25
   pub busy-extended : numbers (recordWith (Busy (Write Extended 0x20)) true true false) codes ≡ whileBusy 25
-  pub suspended-program : numbers (recordWith (Suspended program) false true false) codes ≡ whileSuspended
-  pub suspended-sector : numbers (recordWith (Suspended (Erase Sector 4096 3)) false true false) codes ≡ whileSuspended
+  pub suspended-program : numbers (recordWith (Suspended program) false true false) codes ≡ whileSuspended 23 23
+  pub suspended-sector : numbers (recordWith (Suspended (Erase Sector 4096 3)) false true false) codes ≡ whileSuspended 0 26
+  pub suspended-sector-with-wel : numbers (recordWith (Suspended (Erase Sector 4096 3)) true true false) codes ≡ whileSuspended 0 0
+  -- 02h at 000000h, in the suspended sector
+  pub suspended-target-with-wel : numbers (recordWith (Suspended (Erase Sector 0 3)) true true false) codes ≡ whileSuspended 0 28
+  -- busy within a suspended erase: the inner program can not be suspended
+  pub nested-program : numbers (recordWith (Nested (Erase Sector 4096 3) program) true true false) codes ≡ whileBusy 25
 
 pub states : States
 unfolding transacted outcomeOf transactionRefusal sizeNumber rowsNumber lengthNumber outputNumber soundNumber commandNumber sound partSound operationOk bitsOk pageOk sizeOk decoded addressIn highFirst rowOk rowPlace question among blockRow cellOf locked barred noData pagePlace programOf eraseOf writeOf _and_ _or_ unless _orElse_
 states =
-    record { idle = refl; idle-without-wel = refl; asleep = refl; busy-program = refl; busy-sector = refl; busy-chip = refl; busy-row = refl; busy-row-program = refl; busy-write = refl; busy-extended = refl; suspended-program = refl; suspended-sector = refl }
+    record { idle = refl; idle-without-wel = refl; asleep = refl; busy-program = refl; busy-sector = refl; busy-chip = refl; busy-row = refl; busy-row-program = refl; busy-write = refl; busy-extended = refl; suspended-program = refl; suspended-sector = refl; suspended-sector-with-wel = refl; suspended-target-with-wel = refl; nested-program = refl }

@@ -47,7 +47,7 @@ recordAt status function wel armed f page =
 
 -- A5h, 5Ah and 3Ch programmed at 000010h, with k ticks done
 abbrev pub program : ℕ → Operation
-program k = Program Array 0x000000 0x10 3 k
+program k = Program Array 0x10 0x000000 3 k
 
 -- the three bytes as page data
 abbrev pub kept : List ℕ

@@ -1,39 +1,47 @@
--- A phase comes back from its cells.
+-- What an operation is, or none, comes back from its cells.
 use Prim.Native.Nat.{ℕ}
 use mathlib.Core.Path.{_≡_, refl, ap}
+use mathlib.Core.Bool.{false}
+use lib.Dec.{eqb}
 use Rattle.types.specs.declared.Memory.the-variants.{Array, Rows}
 use Rattle.types.specs.declared.EraseUnit.the-variants.{Sector, Block32, Block64, Chip, Row}
 use Rattle.types.specs.declared.Register.the-variants.{Status, Function, Extended}
 use Rattle.types.specs.declared.Operation.{Operation}
 use Rattle.types.specs.declared.Operation.the-variants.{Program, Erase, Write}
-use Rattle.types.specs.declared.Phase.{Phase}
-use Rattle.types.specs.declared.Phase.the-variants.{Idle, Busy, Suspended}
-use Rattle.cells.specs.Phases.{cells, operationCells, cellsOf, operationOf, phaseOf}
+use Rattle.types.specs.declared.Work.{Work}
+use Rattle.types.specs.declared.Work.the-variants.{NoWork, At}
+use Rattle.cells.specs.Operations.{cells, cellsOf, workCells, operationOf, operationIn, workOf}
 
-operation-back : (f : ℕ) (o : Operation) → operationOf (operationCells f o .kind) (operationCells f o) ≡ o
+-- an operation has a kind
+some-kind : (o : Operation) → eqb (cellsOf o .kind) 0 ≡ false
+some-kind (Program Array s b k d) = refl
+some-kind (Program Rows s b k d) = refl
+some-kind (Erase Sector b d) = refl
+some-kind (Erase Block32 b d) = refl
+some-kind (Erase Block64 b d) = refl
+some-kind (Erase Chip b d) = refl
+some-kind (Erase Row b d) = refl
+some-kind (Write Status v) = refl
+some-kind (Write Function v) = refl
+some-kind (Write Extended v) = refl
+
+operation-back : (o : Operation) → operationIn (cellsOf o) ≡ o
 unfolding operationOf
-operation-back f (Program Array b s k d) = refl
-operation-back f (Program Rows b s k d) = refl
-operation-back f (Erase Sector b d) = refl
-operation-back f (Erase Block32 b d) = refl
-operation-back f (Erase Block64 b d) = refl
-operation-back f (Erase Chip b d) = refl
-operation-back f (Erase Row b d) = refl
-operation-back f (Write Status v) = refl
-operation-back f (Write Function v) = refl
-operation-back f (Write Extended v) = refl
+operation-back (Program Array s b k d) = refl
+operation-back (Program Rows s b k d) = refl
+operation-back (Erase Sector b d) = refl
+operation-back (Erase Block32 b d) = refl
+operation-back (Erase Block64 b d) = refl
+operation-back (Erase Chip b d) = refl
+operation-back (Erase Row b d) = refl
+operation-back (Write Status v) = refl
+operation-back (Write Function v) = refl
+operation-back (Write Extended v) = refl
 
-operation-phase : (f : ℕ) (o : Operation) → operationCells f o .phase ≡ f
-operation-phase f (Program m b s k d) = refl
-operation-phase f (Erase u b d) = refl
-operation-phase f (Write r v) = refl
+pub work-back : (w : Work) → workOf (workCells w) ≡ w
+work-back NoWork = refl
+work-back (At o) = rw (some-kind o) (ap At (operation-back o))
 
-pub phase-back : (f : Phase) → phaseOf (cellsOf f) ≡ f
-unfolding phaseOf
-phase-back Idle = refl
-phase-back (Busy o) = rw (operation-phase 1 o) (ap Busy (operation-back 1 o))
-phase-back (Suspended o) = rw (operation-phase 2 o) (ap Suspended (operation-back 2 o))
-
--- cells whose base, count and ticks done are one by one the same
-pub same-cells : (f k v b b′ n n′ d d′ : ℕ) → b ≡ b′ → n ≡ n′ → d ≡ d′ → cells f k v b n d ≡ cells f k v b′ n′ d′
-same-cells f k v b b′ n n′ d d′ p q r = rw (p, q, r)
+-- cells of which base, count and ticks done are one by one the same
+pub same-cells : (k v b b′ n n′ d d′ : ℕ) → b ≡ b′ → n ≡ n′ → d ≡ d′ → cells k v b n d ≡ cells k v b′ n′ d′
+same-cells k v b b′ n n′ d d′ p q r = rw (p, q, r)

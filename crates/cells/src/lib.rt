@@ -1,16 +1,13 @@
-// A phase in plain numbers, its cells, and the phase of cells. A phase that is made into cells comes back.
+// An operation in plain numbers, its cells, and the operation of cells. One that is made into cells comes back.
 ghost use mathlib.Core.Path.{_≡_};
-ghost use Rattle.cells.specs.Phases.{programKind, eraseKind, writeKind, operationCells, cellsOf, programIn, eraseIn, writeIn, operationOf, phaseOf};
+ghost use Rattle.cells.specs.Operations.{programKind, eraseKind, writeKind, cellsOf, programIn, eraseIn, writeIn, operationOf, operationIn};
 use types::EraseUnit;
 use types::Memory;
 use types::Operation;
-use types::Phase;
 use types::Register;
 
-// Which phase it is, the kind of its operation, and that operation's numbers.
-// What a phase or an operation does not have is 0.
+// The kind of an operation, and its cells. What an operation does not have is 0.
 pub struct Cells {
-    pub phase: u8,
     pub kind: u8,
     pub value: u8,
     pub base: usize,
@@ -52,9 +49,9 @@ fn write_kind(register: Register) -> u8
     }
 }
 
-// The cells of a phase with an operation.
-fn operation_cells(phase: u8, op: Operation) -> Cells
-    ensures { λ r. ⌜ r ≡ operationCells phase op ⌝ }
+// The cells of an operation.
+pub fn cells_of(op: Operation) -> Cells
+    ensures { λ r. ⌜ r ≡ cellsOf op ⌝ }
 {
     match op {
         Operation::Program {
@@ -66,7 +63,6 @@ fn operation_cells(phase: u8, op: Operation) -> Cells
         } => {
             let kind = program_kind(memory);
             Cells {
-                phase: phase,
                 kind: kind,
                 value: start,
                 base: base,
@@ -77,7 +73,6 @@ fn operation_cells(phase: u8, op: Operation) -> Cells
         Operation::Erase { unit, base, done } => {
             let kind = erase_kind(unit);
             Cells {
-                phase: phase,
                 kind: kind,
                 value: 0,
                 base: base,
@@ -88,7 +83,6 @@ fn operation_cells(phase: u8, op: Operation) -> Cells
         Operation::Write { register, value } => {
             let kind = write_kind(register);
             Cells {
-                phase: phase,
                 kind: kind,
                 value: value,
                 base: 0,
@@ -99,25 +93,7 @@ fn operation_cells(phase: u8, op: Operation) -> Cells
     }
 }
 
-// The cells of a phase.
-pub fn cells_of(phase: Phase) -> Cells
-    ensures { λ r. ⌜ r ≡ cellsOf phase ⌝ }
-{
-    match phase {
-        Phase::Idle => Cells {
-            phase: 0,
-            kind: 0,
-            value: 0,
-            base: 0,
-            count: 0,
-            done: 0,
-        },
-        Phase::Busy(op) => operation_cells(1, op),
-        Phase::Suspended(op) => operation_cells(2, op),
-    }
-}
-
-// The program of a memory that stands in cells.
+// The program of a memory that has these cells.
 fn program_in(memory: Memory, cells: Cells) -> Operation
     ensures { λ r. ⌜ r ≡ programIn memory cells ⌝ }
 {
@@ -130,7 +106,7 @@ fn program_in(memory: Memory, cells: Cells) -> Operation
     }
 }
 
-// The erase of a unit that stands in cells.
+// The erase of a unit that has them.
 fn erase_in(unit: EraseUnit, cells: Cells) -> Operation
     ensures { λ r. ⌜ r ≡ eraseIn unit cells ⌝ }
 {
@@ -141,7 +117,7 @@ fn erase_in(unit: EraseUnit, cells: Cells) -> Operation
     }
 }
 
-// The write of a register that stands in cells.
+// The write of a register that has them.
 fn write_in(register: Register, cells: Cells) -> Operation
     ensures { λ r. ⌜ r ≡ writeIn register cells ⌝ }
 {
@@ -169,14 +145,9 @@ fn operation_of(kind: u8, cells: Cells) -> Operation
     }
 }
 
-// The phase of cells, whatever stands there: a kind that is none is a write of the extended read register, a phase that is none is suspended.
-pub fn phase_of(cells: Cells) -> Phase
-    ensures { λ r. ⌜ r ≡ phaseOf cells ⌝ }
+// The operation of cells, whatever stands there: a kind that is none is a write of the extended read register.
+pub fn operation_in(cells: Cells) -> Operation
+    ensures { λ r. ⌜ r ≡ operationIn cells ⌝ }
 {
-    let phase = cells.phase;
-    match phase {
-        0 => Phase::Idle,
-        1 => Phase::Busy(operation_of(cells.kind, cells)),
-        _ => Phase::Suspended(operation_of(cells.kind, cells)),
-    }
+    operation_of(cells.kind, cells)
 }

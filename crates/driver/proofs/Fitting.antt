@@ -1,5 +1,5 @@
 -- A sound record whose page data is a page fits its bytes, so that it is read back from them; and calls keep page data a page.
-use Prim.Native.Nat.{ℕ, zero, suc, _+_, _-_, _^_, _≤_, _<_}
+use Prim.Native.Nat.{ℕ, zero, suc, _+_, _-_, _^_, _≤_}
 use mathlib.Core.Path.{_≡_, refl, _∙_}
 use mathlib.Core.Bool.{Bool, true, false, cond}
 use mathlib.Core.List.{List}
@@ -12,20 +12,20 @@ use Rattle.types.specs.declared.Memory.the-variants.{Array, Rows}
 use Rattle.types.specs.declared.Operation.{Operation}
 use Rattle.types.specs.declared.Operation.the-variants.{Program, Erase, Write}
 use Rattle.types.specs.declared.Phase.{Phase}
-use Rattle.types.specs.declared.Phase.the-variants.{Idle, Busy, Suspended}
+use Rattle.types.specs.declared.Phase.the-variants.{Idle, Busy, Suspended, Nested}
 use Rattle.types.specs.declared.Work.{Work}
 use Rattle.types.specs.declared.Work.the-variants.{NoWork, At}
 use Rattle.types.specs.declared.Stored.{Stored}
 use Rattle.types.specs.declared.Data.{Data}
 use Rattle.types.specs.declared.Data.the-variants.{Kept, Sent, Zero}
 use Rattle.types.specs.declared.Change.{Change}
-use Rattle.types.specs.declared.Change.the-variants.{Same, Marked, Live, Became}
+use Rattle.types.specs.declared.Change.the-variants.{Same, Marked, Live, Anew, Runs, Became}
 use Rattle.types.specs.declared.Record.{Record}
 use Rattle.words.proofs.Tests.{and-l, and-r}
 use Rattle.paper.specs.Sizes.{memoryBytes, pageBytes}
 use Rattle.paper.specs.Program.{dataSent, keptCount, passedCount, pageData, noData}
 use Rattle.paper.specs.Erase.{memoryOf, unitBytes}
-use Rattle.paper.specs.Phases.{running}
+use Rattle.paper.specs.Phases.{running, halted}
 use Rattle.paper.specs.Operations.{ticksInAll, ticksDone, advancedBy}
 use Rattle.paper.specs.Soundness.{phaseOk, sound}
 use Rattle.paper.specs.Commands.{pageAfter, changed}
@@ -33,35 +33,40 @@ use Rattle.paper.specs.Ticks.{finished, advanced, worked, tickedAt, recordAfter
 use Rattle.paper.proofs.Sizes.{size-range}
 use Rattle.paper.proofs.Pages.{unit-pages-le}
 use Rattle.paper.proofs.Soundness.{InOrder, in-order, sound-parts}
-use Rattle.cells.specs.declared.Cells.{Cells}
-use Rattle.cells.specs.Phases.{operationCells, cellsOf}
-use Rattle.record_bytes.specs.Read.{Fits}
-
--- the numbers of a phase fit eight bytes each
-record Small (s : Cells) : Type 0 where
-  base : s .base < 2 ^ 64
-  count : s .count < 2 ^ 64
-  done : s .done < 2 ^ 64
+use Rattle.cells.specs.Operations.{cellsOf, workCells}
+use Rattle.record_bytes.specs.Read.{Fitting, Fits}
 
 memory-few : (m : Memory) (n : ℕ) → n ≤ 16 → memoryBytes m n ≤ 2 ^ 20
 memory-few Array n h = omega arith
 memory-few Rows n h = omega arith
 
 -- an operation that is in order on a part of at most 16 blocks
-operation-small : (f n : ℕ) (g : Stored) (o : Operation) → n ≤ 16 → InOrder o n g → Small (operationCells f o)
-operation-small f n g (Program m b s k d) few i =
+operation-fits : (n : ℕ) (g : Stored) (o : Operation) → n ≤ 16 → InOrder o n g → Fitting (cellsOf o)
+operation-fits n g (Program m s b k d) few i =
     let inside : b + pageBytes ≤ memoryBytes m n = leb-true _ _ (i .within) in
     let kept : k ≤ pageBytes = leb-true _ _ (and-l _ _ (and-r _ _ (i .content))) in
     record { base = omega (arith, memory-few m n few); count = omega arith; done = omega (arith, i .going) }
-operation-small f n g (Erase u b d) few i =
+operation-fits n g (Erase u b d) few i =
     let inside : b + unitBytes u n ≤ memoryBytes (memoryOf u) n = leb-true _ _ (i .within) in
     record { base = omega (arith, memory-few (memoryOf u) n few); count = omega arith; done = omega (arith, i .going, unit-pages-le u n (omega arith)) }
-operation-small f n g (Write r v) few i = record { base = omega arith; count = omega arith; done = omega arith }
+operation-fits n g (Write r v) few i = record { base = omega arith; count = omega arith; done = omega arith }
 
-phase-small : (f : Phase) (n : ℕ) (g : Stored) → n ≤ 16 → phaseOk f n g ≡ true → Small (cellsOf f)
-phase-small Idle n g few h = record { base = omega arith; count = omega arith; done = omega arith }
-phase-small (Busy o) n g few h = operation-small 1 n g o few (in-order o n g h)
-phase-small (Suspended o) n g few h = operation-small 2 n g o few (in-order o n g (and-r _ _ h))
+-- no operation
+none-fits : Fitting (workCells NoWork)
+none-fits = record { base = omega arith; count = omega arith; done = omega arith }
+
+-- what runs, and what is suspended
+running-fits : (f : Phase) (n : ℕ) (g : Stored) → n ≤ 16 → phaseOk f n g ≡ true → Fitting (workCells (running f))
+running-fits Idle n g few h = none-fits
+running-fits (Busy o) n g few h = operation-fits n g o few (in-order o n g h)
+running-fits (Suspended o) n g few h = none-fits
+running-fits (Nested e o) n g few h = operation-fits n g o few (in-order o n g (and-r _ _ (and-r _ _ h)))
+
+halted-fits : (f : Phase) (n : ℕ) (g : Stored) → n ≤ 16 → phaseOk f n g ≡ true → Fitting (workCells (halted f))
+halted-fits Idle n g few h = none-fits
+halted-fits (Busy o) n g few h = none-fits
+halted-fits (Suspended o) n g few h = operation-fits n g o few (in-order o n g (and-r _ _ h))
+halted-fits (Nested e o) n g few h = operation-fits n g e few (in-order e n g (and-l _ _ (and-r _ _ h)))
 
 -- so many bytes of page data
 abbrev pub Page : Record → Type 0
@@ -71,8 +76,9 @@ pub sound-fits : (p : Record) → sound p ≡ true → Page p → Fits p
 sound-fits p s h =
     let t = sound-parts p s in
     let few : p .part .blocks ≤ 16 = size-range (p .part .blocks) (t .size) .1 in
-    let c = phase-small (p .phase) (p .part .blocks) (p .part .stored) few (t .phase-ok) in
-    record { blocks = omega arith; base = c .base; count = c .count; done = c .done; page = h }
+    let n = p .part .blocks in
+    let g = p .part .stored in
+    record { blocks = omega arith; runs = running-fits (p .phase) n g few (t .phase-ok); suspended = halted-fits (p .phase) n g few (t .phase-ok); page = h }
 
 -- page data of what was sent, and of nothing
 data-page : (d : List ℕ) → length (pageData d) ≡ pageBytes
@@ -93,6 +99,8 @@ pub changed-page : (c : Change) (i : List ℕ) (p : Record) → Page p → Page 
 changed-page Same i p h = h
 changed-page (Marked armed) i p h = h
 changed-page (Live v) i p h = h
+changed-page (Anew q) i p h = h
+changed-page (Runs q w d) i p h = after-page d i (p .page) h
 changed-page (Became q f d) i p h = after-page d i (p .page) h
 
 -- and so do ticks

@@ -1,7 +1,7 @@
 // What a command that is executed, or barred with 28, makes of the record, and the record after a change.
 ghost use mathlib.Core.Path.{_≡_};
 ghost use Rattle.paper.specs.Records.{marked, resting, withLive};
-ghost use Rattle.paper.specs.Commands.{pageAfter, changed, settles, starts, changeBy, errorsOf, changeBarred};
+ghost use Rattle.paper.specs.Commands.{pageAfter, changed, unarmed, settles, starts, changeBy, errorsOf, changeBarred};
 use types::Change;
 use types::Data;
 use types::Effect;
@@ -42,12 +42,19 @@ fn rest(part: Part, asleep: bool) -> Part
     next
 }
 
-// The part, unarmed, in a phase with a latch.
-fn settle(part: Part, phase: Phase, wel: bool, page: Data) -> Change
-    ensures { λ r. ⌜ r ≡ settles part phase wel page ⌝ }
+// The part anew, unarmed.
+fn unarm(part: Part) -> Change
+    ensures { λ r. ⌜ r ≡ unarmed part ⌝ }
+{
+    Change::Anew(mark(part, false))
+}
+
+// The part, unarmed, in another phase with another latch.
+fn settle(part: Part, phase: Phase, wel: bool) -> Change
+    ensures { λ r. ⌜ r ≡ settles part phase wel ⌝ }
 {
     let next = mark(record::settle(part, phase, wel), false);
-    Change::Became(next, phase, page)
+    Change::Became(next, phase, Data::Kept)
 }
 
 // The part busy with what a command begins.
@@ -56,7 +63,13 @@ fn start(work: Work, part: Part, phase: Phase, page: Data) -> Change
 {
     match work {
         Work::NoWork => Change::Marked(false),
-        Work::At(op) => settle(part, phases::started_in(phase, op), true, page),
+        Work::At(op) => {
+            let next = mark(
+                record::settle(part, phases::working_on(phase, op), true),
+                false,
+            );
+            Change::Runs(next, Work::At(op), page)
+        }
     }
 }
 
@@ -69,15 +82,15 @@ pub fn change_by(effect: Effect, work: Work, part: Part, phase: Phase, input: &[
     let stored = part.stored;
     match effect {
         Effect::Looks => Change::Marked(false),
-        Effect::Enables => settle(part, phase, true, Data::Kept),
-        Effect::Disables => settle(part, phase, false, Data::Kept),
+        Effect::Enables => unarm(record::settle(part, phase, true)),
+        Effect::Disables => unarm(record::settle(part, phase, false)),
         Effect::Programs(_) => start(work, part, phase, Data::Sent),
         Effect::Erases(_) => start(work, part, phase, Data::Kept),
         Effect::Writes(_) => start(work, part, phase, Data::Kept),
-        Effect::Suspends => settle(part, phases::suspended_in(phase), false, Data::Kept),
-        Effect::Resumes => settle(part, phases::resumed_in(phase), true, Data::Kept),
-        Effect::Sleeps => Change::Became(mark(rest(part, true), false), phase, Data::Kept),
-        Effect::Wakes => Change::Became(mark(rest(part, false), false), phase, Data::Kept),
+        Effect::Suspends => settle(part, phases::suspended_in(phase), false),
+        Effect::Resumes => settle(part, phases::resumed_in(phase), true),
+        Effect::Sleeps => unarm(rest(part, true)),
+        Effect::Wakes => unarm(rest(part, false)),
         Effect::Arms => Change::Marked(true),
         Effect::Resets => {
             let next = record::fresh_part(part.blocks, identity, stored);
@@ -157,6 +170,24 @@ pub fn apply(change: Change, input: &[u8], state: Record) -> Record
                 part: next,
                 phase: phase,
                 page: page,
+            }
+        }
+        Change::Anew(part) => {
+            let phase = state.phase;
+            Record {
+                part: part,
+                phase: phase,
+                page: page,
+            }
+        }
+        Change::Runs(part, work, becomes) => {
+            let phase = state.phase;
+            let working = phases::running_in(phase, work);
+            let held = page_after(becomes, input, page);
+            Record {
+                part: part,
+                phase: working,
+                page: held,
             }
         }
         Change::Became(part, phase, becomes) => {

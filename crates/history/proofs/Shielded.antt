@@ -35,8 +35,8 @@ use Rattle.paper.proofs.Phases.{rest-idle}
 use Rattle.paper.proofs.Soundness.{InOrder, running-in-order}
 use Rattle.paper.proofs.Kept.{run-sound}
 use Rattle.paper.proofs.CallKept.{call-sound}
+use Rattle.paper.proofs.Histories.{bytes-append}
 use Rattle.history.specs.Run.{Run}
-use Rattle.history.proofs.Touches.{bytes-append}
 use Rattle.history.proofs.Told.{run-told}
 
 -- the bytes of the array that are shielded are those of the protected blocks: first <= block < first + count, under the record's registers
@@ -83,7 +83,7 @@ module _ (at n : ℕ) (g : Stored) where
   spares Rows Rows t h shut = failed Rows at n g t shut h
 
   -- the place that a program narrows next
-  program-free : (m : Memory) (b s k d : ℕ) → InOrder (Program m b s k d) n g → eqb at (b + pagePlace s d) ≡ true → free m at n g ≡ true
+  program-free : (m : Memory) (b s k d : ℕ) → InOrder (Program m s b k d) n g → eqb at (b + pagePlace s d) ≡ true → free m at n g ≡ true
   unfolding pagePlace
   program-free m b s k d i t =
       let e : at ≡ b + (s + d) % pageBytes = eqb-true _ _ t in
@@ -97,7 +97,7 @@ module _ (at n : ℕ) (g : Stored) where
       unit-free n g at b u (eqb-true _ _ (i .begins)) (omega arith) (omega (arith, i .going)) (i .open-target)
 
   next-spares : (m : Memory) (o : Operation) (d : List ℕ) (x : ℕ) → InOrder o n g → not (free m at n g) ≡ true → byteAfter m at (nextTouch o d) x ≡ x
-  next-spares m (Program w b s k c) d x i shut = ap (λ (t : Bool). cond t (narrowedByte x (getD d c 0)) x) (spares m w (eqb at (b + pagePlace s c)) (program-free w b s k c i) shut)
+  next-spares m (Program w s b k c) d x i shut = ap (λ (t : Bool). cond t (narrowedByte x (getD d c 0)) x) (spares m w (eqb at (b + pagePlace s c)) (program-free w b s k c i) shut)
   next-spares m (Erase u b c) d x i shut = ap (λ (t : Bool). cond t erasedByte x) (spares m (memoryOf u) (leb (b + c * pageBytes) at and ltb at (b + c * pageBytes + pageBytes)) (erase-free u b c i) shut)
   next-spares m (Write r v) d x i shut = refl
 

@@ -16,8 +16,9 @@ use Rattle.paper.specs.Numbers.{tickNumber}
 use Rattle.paper.specs.Calls.{ticked, tickedMemory}
 use Rattle.paper.specs.History.{Call, transaction, ticks, recordAfterCall, recordAfterCalls, callTouches, history, byteAfterAll}
 use Rattle.paper.proofs.CallKept.{call-sound, call-size}
+use Rattle.paper.proofs.Histories.{bytes-append}
 use Rattle.history.specs.Run.{Run, done, sends, waits}
-use Rattle.history.proofs.Touches.{bytes-append, memory-at, ticked-length}
+use Rattle.history.proofs.Touches.{memory-at, ticked-length}
 
 -- a tick call on a part's own memory, refused or not
 module _ (p : Record) (n : ℕ) where

@@ -30,6 +30,7 @@ use Rattle.paper.specs.History.{tickTouches, byteAfter, byteAfterAll}
 use Rattle.paper.proofs.Pages.{erased-length, narrowed-length}
 use Rattle.paper.proofs.Soundness.{InOrder, running-in-order}
 use Rattle.paper.proofs.Kept.{run-sound, run-size}
+use Rattle.paper.proofs.Histories.{bytes-append}
 
 -- a place of a memory after a page of it was set to FFh
 module _ (xs : List ℕ) (b at : ℕ) (h : b + pageBytes ≤ length xs) where
@@ -120,7 +121,7 @@ touched-length Rows (narrow Rows a d) xs = narrowed-length xs a d
 
 -- what the next tick of a sound record reaches
 next-fits : (o : Operation) (g : List ℕ) (n : ℕ) (s : Stored) → InOrder o n s → Fits (nextTouch o g) n
-next-fits (Program m b c k d) g n s i = omega arith
+next-fits (Program m c b k d) g n s i = omega arith
 next-fits (Erase u b d) g n s i =
     let w : b + unitBytes u n ≤ memoryBytes (memoryOf u) n = leb-true _ _ (i .within) in
     omega (arith, i .going, w)
@@ -133,11 +134,6 @@ module _ (p : Record) (s : sound p ≡ true) where
 
   touch-fits : Fits (touchOf p) (p .part .blocks)
   touch-fits = fits-at (running (p .phase)) refl
-
--- touches, then some more
-pub bytes-append : (m : Memory) (at : ℕ) (ts us : List Touch) (x : ℕ) → byteAfterAll m at (ts ++ us) x ≡ byteAfterAll m at us (byteAfterAll m at ts x)
-bytes-append m at [] us x = refl
-bytes-append m at (t ∷ ts) us x = bytes-append m at ts us (byteAfter m at t x)
 
 -- a memory after n ticks
 pub memory-length : (m : Memory) (n : ℕ) (p : Record) (xs : List ℕ) → length (memoryAfter m n p xs) ≡ length xs

@@ -1,7 +1,11 @@
 // Why a command is ignored: the numbers 21 to 28, in the paper's order.
 ghost use mathlib.Core.Path.{_≡_};
-ghost use Rattle.paper.specs.Phases.{workIs};
+ghost use mathlib.Core.Bool.{not};
+ghost use Rattle.words.specs.Logic.{_or_};
+ghost use Rattle.paper.specs.Phases.{workIs, anyOperation, eraseHalted, isSuspended};
+ghost use Rattle.paper.specs.Table.{takenSuspended};
 ghost use Rattle.paper.specs.Operations.{canSuspend};
+ghost use Rattle.paper.specs.Suspend.{suspendable};
 ghost use Rattle.paper.specs.Numbers.{stateOk, addressOk, pinOk, writeOk, freeOk, commandNumber};
 use types::Columns;
 use types::Named;
@@ -10,6 +14,7 @@ use types::Part;
 use types::Phase;
 use types::Register;
 use types::Stored;
+use types::Taken;
 use types::Wanted;
 use types::Work;
 
@@ -22,13 +27,31 @@ fn can_suspend(work: Work) -> bool
     }
 }
 
+fn is_any(work: Work) -> bool
+    ensures { λ r. ⌜ r ≡ workIs anyOperation work ⌝ }
+{
+    match work {
+        Work::NoWork => false,
+        Work::At(_) => true,
+    }
+}
+
+// Something runs that can be suspended, and nothing is suspended already.
+fn suspendable(phase: Phase) -> bool
+    ensures { λ r. ⌜ r ≡ suspendable phase ⌝ }
+{
+    let runs = can_suspend(phases::running(phase));
+    let halted = is_any(phases::halted(phase));
+    words::both(runs, !halted)
+}
+
 // 25: something runs that can be suspended, something can be resumed, the reset is armed.
 fn state_ok(wanted: Wanted, part: Part, phase: Phase) -> bool
     ensures { λ r. ⌜ r ≡ stateOk wanted part phase ⌝ }
 {
     match wanted {
         Wanted::Any => true,
-        Wanted::Running => can_suspend(phases::running(phase)),
+        Wanted::Running => suspendable(phase),
         Wanted::Halted => phases::is_suspended(phase),
         Wanted::Armed => part.armed,
     }
@@ -66,18 +89,29 @@ fn write_ok(op: Operation, stored: Stored, wp: bool) -> bool
     }
 }
 
-// 28: what a command begins is not protected, locked or barred.
-fn free_ok(work: Work, part: Part, wp: bool) -> bool
-    ensures { λ r. ⌜ r ≡ freeOk work part wp ⌝ }
+// 28: what a command begins is not protected or locked, no program into the suspended unit, and not barred.
+fn free_ok(work: Work, part: Part, phase: Phase, wp: bool) -> bool
+    ensures { λ r. ⌜ r ≡ freeOk work part phase wp ⌝ }
 {
     let stored = part.stored;
     match work {
         Work::NoWork => true,
         Work::At(op) => {
             let free = operations::target_free(op, part.blocks, stored);
-            words::both(free, write_ok(op, stored, wp))
+            let apart = operations::outside_of(phases::halted(phase), part.blocks, op);
+            words::both(free, words::both(apart, write_ok(op, stored, wp)))
         }
     }
+}
+
+// 23: the part is not suspended, or the command is taken then. What it is suspended from is looked at only where it is.
+fn suspended_ok(taken: Taken, phase: Phase) -> bool
+    ensures { λ r. ⌜ r ≡ (takenSuspended taken (eraseHalted phase) or not (isSuspended phase)) ⌝ }
+{
+    if !phases::is_suspended(phase) {
+        return true;
+    }
+    table::taken_suspended(taken, phases::erase_halted(phase))
 }
 
 // The number 21 to 28 that a known command answers, which begins the work, 0 where it is executed. WP# is high where
@@ -98,12 +132,12 @@ pub fn command_number(
     let named = k.named;
     let awake = words::either(table::taken_asleep(taken), !part.asleep);
     let at_rest = words::either(table::taken_busy(taken), !phases::is_busy(phase));
-    let whole = words::either(table::taken_suspended(taken), !phases::is_suspended(phase));
+    let whole = suspended_ok(taken, phase);
     let long = table::length_ok(length, input.len());
     let state = state_ok(wanted, part, phase);
     let latch = words::either(!k.wel, part.wel);
     let address = address_ok(named, input);
-    let free = free_ok(work, part, wp);
+    let free = free_ok(work, part, phase, wp);
     let n27 = words::number_or(address, 27, words::number_or(free, 28, 0));
     let n25 = words::number_or(state, 25, words::number_or(latch, 26, n27));
     let n23 = words::number_or(whole, 23, words::number_or(long, 24, n25));

@@ -6,6 +6,7 @@ use Rattle.operations.proofs.kept_by.Reads as kept-by
 use Rattle.operations.proofs.can_suspend.Reads as can-suspend
 use Rattle.operations.proofs.held_byte.Reads as held-byte
 use Rattle.operations.proofs.target_free.Reads as target-free
+use Rattle.operations.proofs.outside_of.Reads as outside-of
 use Rattle.operations.proofs.operation_ok.Reads as operation-ok
 
 pub ticks-in-all-one : OneResult ticks-in-all.Learnt
@@ -25,6 +26,9 @@ held-byte-one κ a x y s t p q = agree p q
 
 pub target-free-one : OneResult target-free.Learnt
 target-free-one κ a x y s t p q = agree p q
+
+pub outside-of-one : OneResult outside-of.Learnt
+outside-of-one κ a x y s t p q = agree p q
 
 pub operation-ok-one : OneResult operation-ok.Learnt
 operation-ok-one κ a x y s t p q = agree p q

@@ -1,17 +1,20 @@
 // An operation: its ticks, its target, and what it keeps.
 ghost use mathlib.Core.Path.{_≡_};
 ghost use Prim.Native.Nat.{_+_};
-ghost use lib.Dec.{leb};
-ghost use Rattle.paper.specs.Sizes.{memoryBytes};
+ghost use lib.Dec.{ltb, leb};
+ghost use Rattle.types.specs.declared.Operation.the-variants.{Program, Erase};
+ghost use Rattle.words.specs.Logic.{_and_};
+ghost use Rattle.paper.specs.Sizes.{memoryBytes, sameMemory};
 ghost use Rattle.paper.specs.Protection.{codeOf};
 ghost use Rattle.paper.specs.Registers.{held};
-ghost use Rattle.paper.specs.Operations.{ticksInAll, ticksDone, aligned, inside, free, unitFree, targetFree, memorySuspends, unitSuspends, canSuspend, keptBy};
-ghost use Rattle.paper.specs.Soundness.{contentOk, operationOk};
+ghost use Rattle.paper.specs.Operations.{ticksInAll, ticksDone, free, unitFree, targetFree, memorySuspends, unitSuspends, canSuspend, inUnit, outside, outsideOf, keptBy};
+ghost use Rattle.paper.specs.Soundness.{operationOk};
 use types::EraseUnit;
 use types::Memory;
 use types::Operation;
 use types::Register;
 use types::Stored;
+use types::Work;
 
 // The ticks that an operation takes in all on a part of so many blocks.
 pub fn ticks_in_all(op: Operation, blocks: u16) -> usize
@@ -89,16 +92,6 @@ pub fn held_byte(register: Register, byte: u8) -> u8
     }
 }
 
-fn is_aligned(op: Operation, blocks: u16) -> bool
-    ensures { λ r. ⌜ r ≡ aligned op blocks ⌝ }
-{
-    match op {
-        Operation::Program { base, .. } => base / types::PAGE_BYTES * types::PAGE_BYTES == base,
-        Operation::Erase { unit, base, .. } => pages::unit_base(unit, blocks, base) == base,
-        Operation::Write { .. } => true,
-    }
-}
-
 fn memory_bytes(memory: Memory, blocks: u16) -> usize
     ensures { λ r. ⌜ r ≡ memoryBytes memory blocks ⌝ }
 {
@@ -116,23 +109,6 @@ fn ends_within(base: usize, size: usize, all: usize) -> bool
         return false;
     }
     base <= all - size
-}
-
-fn is_inside(op: Operation, blocks: u16) -> bool
-    ensures { λ r. ⌜ r ≡ inside op blocks ⌝ }
-{
-    match op {
-        Operation::Program { memory, base, .. } => ends_within(
-            base,
-            types::PAGE_BYTES,
-            memory_bytes(memory, blocks),
-        ),
-        Operation::Erase { unit, base, .. } => {
-            let size = pages::unit_pages(unit, blocks) * types::PAGE_BYTES;
-            ends_within(base, size, memory_bytes(pages::unit_memory(unit), blocks))
-        }
-        Operation::Write { .. } => true,
-    }
 }
 
 // The code BP3..BP0 of a status register.
@@ -181,19 +157,81 @@ pub fn target_free(op: Operation, blocks: u16, stored: Stored) -> bool
     }
 }
 
-fn content_ok(op: Operation) -> bool
-    ensures { λ r. ⌜ r ≡ contentOk op ⌝ }
+fn same_memory(a: Memory, b: Memory) -> bool
+    ensures { λ r. ⌜ r ≡ sameMemory a b ⌝ }
+{
+    match a {
+        Memory::Array => match b {
+            Memory::Array => true,
+            Memory::Rows => false,
+        },
+        Memory::Rows => match b {
+            Memory::Array => false,
+            Memory::Rows => true,
+        },
+    }
+}
+
+// Whether a place is one of size bytes from a base on.
+fn lies_within(place: usize, base: usize, size: usize) -> bool
+    ensures { λ r. ⌜ r ≡ (leb base place and ltb place (base + size)) ⌝ }
+{
+    if place < base {
+        return false;
+    }
+    place - base < size
+}
+
+// Whether a place of a memory lies in its unit, if it is an erase.
+fn in_unit(op: Operation, blocks: u16, memory: Memory, place: usize) -> bool
+    ensures { λ r. ⌜ r ≡ inUnit op blocks memory place ⌝ }
 {
     match op {
-        Operation::Program { start, count, .. } => {
-            let some = 1 <= count;
-            let few = count <= types::PAGE_BYTES;
-            let in_page = (start as usize) < 256;
-            words::both(some, words::both(few, in_page))
+        Operation::Program { .. } => false,
+        Operation::Erase { unit, base, .. } => {
+            let size = pages::unit_pages(unit, blocks) * types::PAGE_BYTES;
+            let same = same_memory(memory, pages::unit_memory(unit));
+            words::both(same, lies_within(place, base, size))
         }
-        Operation::Erase { .. } => true,
-        Operation::Write { register, value } => held_byte(register, value) == value,
+        Operation::Write { .. } => false,
     }
+}
+
+// Whether an operation lies outside the unit of another: the page of a program does.
+fn is_outside(outer: Operation, blocks: u16, op: Operation) -> bool
+    ensures { λ r. ⌜ r ≡ outside outer blocks op ⌝ }
+{
+    match op {
+        Operation::Program { memory, base, .. } => !in_unit(outer, blocks, memory, base),
+        Operation::Erase { .. } => true,
+        Operation::Write { .. } => true,
+    }
+}
+
+// Whether it lies outside the suspended unit, where one is suspended.
+pub fn outside_of(halted: Work, blocks: u16, op: Operation) -> bool
+    ensures { λ r. ⌜ r ≡ outsideOf halted blocks op ⌝ }
+{
+    match halted {
+        Work::NoWork => true,
+        Work::At(outer) => is_outside(outer, blocks, op),
+    }
+}
+
+// Whether it can be at an erase of a unit.
+fn erase_ok(unit: EraseUnit, base: usize, done: usize, blocks: u16, stored: Stored) -> bool
+    ensures { λ r. ⌜ r ≡ operationOk (Erase unit base done) blocks stored ⌝ }
+{
+    let pages = pages::unit_pages(unit, blocks);
+    let begins = pages::unit_base(unit, blocks, base) == base;
+    let within = ends_within(
+        base,
+        pages * types::PAGE_BYTES,
+        memory_bytes(pages::unit_memory(unit), blocks),
+    );
+    let open = is_unit_free(unit, base, blocks, stored);
+    let going = done < pages;
+    words::both(begins, words::both(within, words::both(open, going)))
 }
 
 // Whether a part of so many blocks with these registers can be at an operation: its target is aligned,
@@ -201,13 +239,25 @@ fn content_ok(op: Operation) -> bool
 pub fn operation_ok(op: Operation, blocks: u16, stored: Stored) -> bool
     ensures { λ r. ⌜ r ≡ operationOk op blocks stored ⌝ }
 {
-    let begins = is_aligned(op, blocks);
-    let within = is_inside(op, blocks);
-    let open = target_free(op, blocks, stored);
-    let going = ticks_done(op) < ticks_in_all(op, blocks);
-    let content = content_ok(op);
-    words::both(
-        begins,
-        words::both(within, words::both(open, words::both(going, content))),
-    )
+    match op {
+        Operation::Program {
+            memory,
+            start,
+            base,
+            count,
+            done,
+        } => {
+            let begins = base / types::PAGE_BYTES * types::PAGE_BYTES == base;
+            let within = ends_within(base, types::PAGE_BYTES, memory_bytes(memory, blocks));
+            let open = is_free(memory, base, blocks, stored);
+            let going = done < count;
+            let few = count <= types::PAGE_BYTES;
+            words::both(
+                begins,
+                words::both(within, words::both(open, words::both(going, few))),
+            )
+        }
+        Operation::Erase { unit, base, done } => erase_ok(unit, base, done, blocks, stored),
+        Operation::Write { register, value } => held_byte(register, value) == value,
+    }
 }

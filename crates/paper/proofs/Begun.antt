@@ -13,25 +13,27 @@ use Rattle.types.specs.declared.EraseUnit.{EraseUnit}
 use Rattle.types.specs.declared.EraseUnit.the-variants.{Sector, Block32, Block64, Chip, Row}
 use Rattle.types.specs.declared.Register.{Register}
 use Rattle.types.specs.declared.Register.the-variants.{Status, Function, Extended}
+use Rattle.types.specs.declared.Operation.{Operation}
 use Rattle.types.specs.declared.Phase.{Phase}
-use Rattle.types.specs.declared.Phase.the-variants.{Idle, Busy}
+use Rattle.types.specs.declared.Phase.the-variants.{Idle, Busy, Suspended, Nested}
 use Rattle.types.specs.declared.Stored.{Stored}
 use Rattle.types.specs.declared.Part.{Part}
 use Rattle.types.specs.declared.Record.{Record}
 use Rattle.words.specs.Lists.{allZero}
-use Rattle.words.proofs.Tests.{and-l, and-in}
+use Rattle.words.proofs.Tests.{and-l, and-r, and-in}
 use Rattle.paper.specs.Sizes.{sizeOk, arrayBytes, memoryBytes, pageBytes, downTo}
 use Rattle.paper.specs.Address.{addressSent, addressIn, rowOk, rowPlace, placeIn}
 use Rattle.paper.specs.Program.{pageBase, pagePlace, dataSent, keptCount, passedCount, pageData, programOf}
 use Rattle.paper.specs.Erase.{memoryOf, unitPages, unitBytes, unitBase, eraseOf}
 use Rattle.paper.specs.Registers.{held, writeOf}
+use Rattle.paper.specs.Phases.{isErase}
 use Rattle.paper.specs.Records.{settled}
-use Rattle.paper.specs.Operations.{targetFree}
+use Rattle.paper.specs.Operations.{targetFree, outside}
 use Rattle.paper.specs.Soundness.{latchOk, operationOk, phaseOk, keptIn, pageOk, sound}
 use Rattle.paper.proofs.Sizes.{size-range}
 use Rattle.paper.proofs.KeptBytes.{zeros-after}
 use Rattle.paper.proofs.MadeSound.{made-sound}
-use Rattle.paper.proofs.Soundness.{recordOf, sound-of, sound-in, awake-ok, in-order-whole}
+use Rattle.paper.proofs.Soundness.{recordOf, sound-of, sound-in, awake-ok, in-order-whole, in-nest-whole}
 
 -- a row address is valid where the memory asks for one
 abbrev pub Valid : Memory → List ℕ → Type 0
@@ -134,6 +136,17 @@ module _ (p : Part) (size : sizeOk (p .blocks) ≡ true) (awake : p .asleep ≡ 
   program-begun m i l v f =
       settled-sound (Busy (programOf m (p .blocks) i)) true (pageData (dataSent i)) refl
       (program-ok m (p .blocks) (p .stored) i (size-range (p .blocks) size .0) l v f) (zeros-after (dataSent i))
+
+  -- the same within a suspended erase, of a page of the array outside of its unit
+  pub program-nested : (e : Operation) (i : List ℕ) → 5 ≤ length i → isErase e ≡ true → phaseOk (Suspended e) (p .blocks) (p .stored) ≡ true
+      → targetFree (programOf Array (p .blocks) i) (p .blocks) (p .stored) ≡ true → outside e (p .blocks) (programOf Array (p .blocks) i) ≡ true
+      → sound (recordOf (settled p (Nested e (programOf Array (p .blocks) i)) true) (Nested e (programOf Array (p .blocks) i)) (pageData (dataSent i))) ≡ true
+  unfolding programOf pageOk
+  program-nested e i l h g f a =
+      let o = programOf Array (p .blocks) i in
+      let q = program-ok Array (p .blocks) (p .stored) i (size-range (p .blocks) size .0) l tt f in
+      let k = in-nest-whole e o (p .blocks) (record { erases = h; suspends = and-l _ _ g; programs = refl; array-page = refl; apart = a }) in
+      settled-sound (Nested e o) true (pageData (dataSent i)) refl (and-in k (and-in (and-r _ _ g) q)) (zeros-after (dataSent i))
 
   -- a phase that keeps no page data, where there is none
   module _ (d : List ℕ) (none : allZero d ≡ true) where

@@ -10,6 +10,7 @@ use Rattle.types.specs.declared.EraseUnit.{EraseUnit}
 use Rattle.types.specs.declared.Register.{Register}
 use Rattle.types.specs.declared.Work.the-variants.{NoWork}
 use Rattle.types.specs.declared.Effect.the-variants.{Programs, Erases, Writes}
+use Rattle.types.specs.declared.Phase.{Phase}
 use Rattle.types.specs.declared.Stored.{Stored}
 use Rattle.types.specs.declared.Part.{Part}
 use Rattle.types.specs.declared.Record.{Record}
@@ -75,5 +76,5 @@ program-sets m live =
 pub writes-set-none : (r : Register) → errorsOf (Writes r) ≡ 0
 writes-set-none r = refl
 
-pub others-answer-none : (p : Part) (wp : Bool) → freeOk NoWork p wp ≡ true
-others-answer-none p wp = refl
+pub others-answer-none : (p : Part) (f : Phase) (wp : Bool) → freeOk NoWork p f wp ≡ true
+others-answer-none p f wp = refl

@@ -1,7 +1,7 @@
 -- What power-up and ticks keep: the record that power-up gives is sound and, not refused, as asked; ticks keep a record sound and its size; at most as many ticks do work as are asked.
 use Prim.Native.Nat.{ℕ, zero, suc, _+_, _≤_, _<_}
 use mathlib.Core.Path.{_≡_, refl, ap, _∙_, subst}
-use mathlib.Core.Bool.{Bool, true, false, cond}
+use mathlib.Core.Bool.{Bool, true, false, cond, false≢true}
 use mathlib.Core.List.{List}
 use native.Mathlib.Omega.{arith}
 use lib.ListN.{drop}
@@ -10,7 +10,7 @@ use borrow.Author.Tests.{eqb-true, eqb-false, ltb-true}
 use Rattle.types.specs.declared.Operation.{Operation}
 use Rattle.types.specs.declared.Operation.the-variants.{Program, Erase, Write}
 use Rattle.types.specs.declared.Phase.{Phase}
-use Rattle.types.specs.declared.Phase.the-variants.{Idle, Busy, Suspended}
+use Rattle.types.specs.declared.Phase.the-variants.{Idle, Busy, Suspended, Nested}
 use Rattle.types.specs.declared.Work.{Work}
 use Rattle.types.specs.declared.Work.the-variants.{NoWork, At}
 use Rattle.types.specs.declared.Identity.{Identity}
@@ -20,25 +20,29 @@ use Rattle.types.specs.declared.PoweredUp.{PoweredUp}
 use Rattle.types.specs.declared.Record.{Record}
 use Rattle.words.specs.Logic.{_and_, _or_}
 use Rattle.words.specs.Lists.{allZero}
-use Rattle.words.proofs.Tests.{unless-zero, orElse-zero, bit-le}
+use Rattle.words.proofs.Tests.{and-l, and-r, and-in, or-true, unless-zero, orElse-zero, bit-le}
 use Rattle.paper.specs.Sizes.{sizeOk}
 use Rattle.paper.specs.Program.{noData}
-use Rattle.paper.specs.Phases.{running, isBusy, goingOn}
+use Rattle.paper.specs.Phases.{running, isProgram, isErase, isBusy, workingOn}
 use Rattle.paper.specs.Records.{made, freshPart, fresh}
 use Rattle.paper.specs.Operations.{ticksInAll, ticksDone, advancedBy, keptBy}
 use Rattle.paper.specs.Registers.{storedAfter}
-use Rattle.paper.specs.Soundness.{bitsOk, pageOk, sound}
+use Rattle.paper.specs.Soundness.{latchOk, nestOk, bitsOk, pageOk, sound}
 use Rattle.paper.specs.Numbers.{powerUpNumber}
 use Rattle.paper.specs.Calls.{noIdentity, noStored, zeroRecord, poweredUp}
 use Rattle.paper.specs.Ticks.{finished, advanced, worked, tickedAt, tickOnce, recordAfter, workingTicks}
 use Rattle.paper.proofs.Phases.{no-work-at, at-same}
 use Rattle.paper.proofs.MadeSound.{made-sound}
-use Rattle.paper.proofs.Soundness.{Sound, recordOf, sound-parts, sound-of, sound-whole, InOrder, in-order, in-order-whole}
+use Rattle.paper.proofs.Soundness.{Sound, recordOf, sound-parts, sound-of, sound-whole, InOrder, in-order, in-order-whole, in-nest}
+
+no-data-zero : allZero noData ≡ true
+unfolding noData _and_
+no-data-zero = refl
 
 -- an idle part with WEL 0 and page data zero, asleep or awake
 pub idle-sound : (p : Part) (g : Stored) → sizeOk (p .blocks) ≡ true → sound (recordOf (made p g Idle false) Idle noData) ≡ true
-unfolding _or_ pageOk noData _and_
-idle-sound p g s = sound-of (made p g Idle false) Idle noData (made-sound p g Idle false s refl refl refl) refl
+unfolding _or_ pageOk
+idle-sound p g s = sound-of (made p g Idle false) Idle noData (made-sound p g Idle false s refl refl refl) no-data-zero
 
 pub fresh-sound : (n : ℕ) (id : Identity) (g : Stored) → sizeOk n ≡ true → sound (fresh n id g) ≡ true
 fresh-sound n id g s = idle-sound (freshPart n id g) g s
@@ -73,14 +77,31 @@ module _ (n : ℕ) (id : Identity) (g : Stored) where
 -- an operation with ticks more done that are not the last is in order, and keeps as many bytes
 module _ (t n : ℕ) (g : Stored) where
   advanced-in-order : (o : Operation) → InOrder o n g → ticksDone o + t < ticksInAll o n → InOrder (advancedBy t o) n g
-  advanced-in-order (Program m b s k d) i h = record { begins = i .begins; within = i .within; open-target = i .open-target; going = h; content = i .content }
+  advanced-in-order (Program m s b k d) i h = record { begins = i .begins; within = i .within; open-target = i .open-target; going = h; content = i .content }
   advanced-in-order (Erase u b d) i h = record { begins = i .begins; within = i .within; open-target = i .open-target; going = h; content = i .content }
   advanced-in-order (Write r v) i h = i
 
 advanced-keeps : (t : ℕ) (o : Operation) → keptBy (advancedBy t o) ≡ keptBy o
-advanced-keeps t (Program m b s k d) = refl
+advanced-keeps t (Program m s b k d) = refl
 advanced-keeps t (Erase u b d) = refl
 advanced-keeps t (Write r v) = refl
+
+-- and lies as far from a suspended unit
+advanced-nests : (t : ℕ) (e o : Operation) (n : ℕ) → nestOk e (advancedBy t o) n ≡ nestOk e o n
+advanced-nests t e (Program m s b k d) n = refl
+advanced-nests t e (Erase u b d) n = refl
+advanced-nests t e (Write r v) n = refl
+
+-- a program's last tick writes no register, and an erase keeps no byte of page data
+program-stores : (o : Operation) (g : Stored) → isProgram o ≡ true → storedAfter o g ≡ g
+program-stores (Program m s b k d) g e = refl
+program-stores (Erase u b d) g e = refl
+program-stores (Write r v) g e = absurd (false≢true e)
+
+erase-keeps : (o : Operation) → isErase o ≡ true → keptBy o ≡ 0
+erase-keeps (Program m s b k d) e = absurd (false≢true e)
+erase-keeps (Erase u b d) e = refl
+erase-keeps (Write r v) e = refl
 
 -- a tick that is not the last
 module _ (p : Part) (g : List ℕ) where
@@ -91,16 +112,43 @@ module _ (p : Part) (g : List ℕ) where
       sound-whole p (Busy (advancedBy 1 o)) g
       (record { size = s .size; sleep = s .sleep; latch = s .latch; phase-ok = in-order-whole (advancedBy 1 o) (p .blocks) (p .stored) i; bits = s .bits; page-ok = ap (λ (k : ℕ). allZero (drop k g)) (advanced-keeps 1 o) ∙ s .page-ok })
 
-  going-sound : (f : Phase) (o : Operation) → running f ≡ At o → Sound p f g → ticksDone o + 1 < ticksInAll o (p .blocks) → sound (recordOf p (goingOn f (advancedBy 1 o)) g) ≡ true
+  nested-sound : (e o : Operation) → Sound p (Nested e o) g → ticksDone o + 1 < ticksInAll o (p .blocks) → sound (recordOf p (Nested e (advancedBy 1 o)) g) ≡ true
+  unfolding bitsOk pageOk
+  nested-sound e o s h =
+      let both-ok = and-r _ _ (s .phase-ok) in
+      let i = advanced-in-order 1 (p .blocks) (p .stored) o (in-order o (p .blocks) (p .stored) (and-r _ _ both-ok)) h in
+      sound-whole p (Nested e (advancedBy 1 o)) g
+      (record {
+        size = s .size;
+        sleep = s .sleep;
+        latch = s .latch;
+        phase-ok = and-in (advanced-nests 1 e o (p .blocks) ∙ and-l _ _ (s .phase-ok)) (and-in (and-l _ _ both-ok) (in-order-whole (advancedBy 1 o) (p .blocks) (p .stored) i));
+        bits = s .bits;
+        page-ok = ap (λ (k : ℕ). allZero (drop k g)) (advanced-keeps 1 o) ∙ s .page-ok;
+      })
+
+  going-sound : (f : Phase) (o : Operation) → running f ≡ At o → Sound p f g → ticksDone o + 1 < ticksInAll o (p .blocks) → sound (recordOf p (workingOn f (advancedBy 1 o)) g) ≡ true
   going-sound Idle o e s h = absurd (no-work-at e)
   going-sound (Busy x) o e s h = busy-sound o (subst (λ (y : Operation). Sound p (Busy y) g) (at-same e) s) h
   going-sound (Suspended x) o e s h = absurd (no-work-at e)
+  going-sound (Nested y x) o e s h = nested-sound y o (subst (λ (z : Operation). Sound p (Nested y z) g) (at-same e) s) h
 
-  -- and the last
+  -- and the last: a part that was nested is suspended from the outer erase again
+  outer-sound : (e o : Operation) → Sound p (Nested e o) g → sound (finished (recordOf p (Nested e o) g) o) ≡ true
+  unfolding pageOk
+  outer-sound e o s =
+      let i = in-nest e o (p .blocks) (and-l _ _ (s .phase-ok)) in
+      let l : latchOk (Suspended e) false ≡ true = or-true (isErase e) in
+      let k : pageOk (Suspended e) noData ≡ true = ap (λ (j : ℕ). allZero (drop j noData)) (erase-keeps e (i .erases)) ∙ no-data-zero in
+      rw (program-stores o (p .stored) (i .programs))
+      (sound-of (made p (p .stored) (Suspended e) false) (Suspended e) noData
+      (made-sound p (p .stored) (Suspended e) false (s .size) (s .sleep) l (and-in (i .suspends) (and-l _ _ (and-r _ _ (s .phase-ok))))) k)
+
   finished-sound : (f : Phase) (o : Operation) → running f ≡ At o → Sound p f g → sound (finished (recordOf p f g) o) ≡ true
   finished-sound Idle o e s = absurd (no-work-at e)
   finished-sound (Busy x) o e s = idle-sound p (storedAfter o (p .stored)) (s .size)
   finished-sound (Suspended x) o e s = absurd (no-work-at e)
+  finished-sound (Nested y x) o e s = outer-sound y o (subst (λ (z : Operation). Sound p (Nested y z) g) (at-same e) s)
 
 module _ (p : Record) where
   worked-as : (o : Operation) → running (p .phase) ≡ At o → sound p ≡ true → (t : Bool) → ltb (ticksDone o + 1) (ticksInAll o (p .part .blocks)) ≡ t

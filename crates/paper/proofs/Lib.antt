@@ -20,3 +20,10 @@ pub mod Answers
 pub mod CallKept
 pub mod LocksKept
 pub mod ErrorsKept
+pub mod Histories
+pub mod Nested
+pub mod HaltedKept
+pub mod NestedBytes
+pub mod EraseBytes
+pub mod ErasedPages
+pub mod EraseResumed

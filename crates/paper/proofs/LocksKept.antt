@@ -24,7 +24,7 @@ use Rattle.types.specs.declared.Data.the-variants.{Kept, Sent}
 use Rattle.paper.specs.Sizes.{arrayBytes, rowsBytes}
 use Rattle.paper.specs.Protection.{locked}
 use Rattle.paper.specs.Registers.{registerWritten, storedAfter}
-use Rattle.paper.specs.Phases.{running, startedIn, suspendedIn, resumedIn, restOf}
+use Rattle.paper.specs.Phases.{running, workingOn, suspendedIn, resumedIn, restOf}
 use Rattle.paper.specs.Records.{functionLow, registersIn}
 use Rattle.paper.specs.Operations.{ticksInAll, ticksDone, advancedBy}
 use Rattle.paper.specs.Commands.{changed, begins, starts, changeBy}
@@ -61,7 +61,7 @@ module _ (k : ℕ) (g : Stored) (h : LockedIn k g) where
   written-locked Extended v = h
 
   after-locked : (o : Operation) → LockedIn k (storedAfter o g)
-  after-locked (Program m b s c d) = h
+  after-locked (Program m s b c d) = h
   after-locked (Erase u b d) = h
   after-locked (Write r v) = written-locked r v
 
@@ -76,7 +76,7 @@ Locked k p = LockedIn k (p .part .stored)
 module _ (k : ℕ) (p : Record) (h : Locked k p) where
   starts-locked : (w : Work) (d : Data) (i : List ℕ) → Locked k (changed (starts w (p .part) (p .phase) d) i p)
   starts-locked NoWork d i = h
-  starts-locked (At o) d i = made-locked k (p .part .stored) h (startedIn (p .phase) o) true
+  starts-locked (At o) d i = made-locked k (p .part .stored) h (workingOn (p .phase) o) true
 
   effect-locked : (e : Effect) (w : Work) (i : List ℕ) → Locked k (changed (changeBy e w (p .part) (p .phase) i) i p)
   effect-locked Looks w i = h

@@ -13,7 +13,7 @@ use Rattle.types.specs.declared.EraseUnit.the-variants.{Sector, Block32, Block6
 use Rattle.types.specs.declared.Operation.{Operation}
 use Rattle.types.specs.declared.Operation.the-variants.{Program, Erase, Write}
 use Rattle.types.specs.declared.Phase.{Phase}
-use Rattle.types.specs.declared.Phase.the-variants.{Idle, Busy, Suspended}
+use Rattle.types.specs.declared.Phase.the-variants.{Idle, Busy, Suspended, Nested}
 use Rattle.types.specs.declared.Register.the-variants.{Status, Function, Extended}
 use Rattle.types.specs.declared.Stored.{Stored}
 use Rattle.types.specs.declared.Part.{Part}
@@ -53,7 +53,7 @@ module _ (f : Phase) (wel : Bool) (g : Stored) where
   unit-stored Row b n = free-stored Rows b n
 
   target-stored : (o : Operation) (n : ℕ) → targetFree o n (registersIn f wel g) ≡ targetFree o n g
-  target-stored (Program m b s k d) n = free-stored m b n
+  target-stored (Program m s b k d) n = free-stored m b n
   target-stored (Erase u b d) n = unit-stored u b n
   target-stored (Write r v) n = refl
 
@@ -65,6 +65,7 @@ module _ (f : Phase) (wel : Bool) (g : Stored) where
   phase-stored Idle n = refl
   phase-stored (Busy o) n = operation-stored o n
   phase-stored (Suspended o) n = rw (operation-stored o n)
+  phase-stored (Nested e o) n = rw (operation-stored e n, operation-stored o n)
 
   bits-made : bitsOk f wel (registersIn f wel g) ≡ true
   unfolding bitsOk _and_

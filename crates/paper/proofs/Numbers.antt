@@ -15,7 +15,7 @@ use Rattle.types.specs.declared.Columns.{Columns}
 use Rattle.words.specs.Logic.{_and_, _or_}
 use Rattle.words.proofs.Tests.{and-l, and-r, unless-zero, orElse-zero}
 use Rattle.paper.specs.Sizes.{sizeOk, arrayBytes, rowsBytes, transactionLimit, tickLimit}
-use Rattle.paper.specs.Phases.{isBusy, isSuspended}
+use Rattle.paper.specs.Phases.{eraseHalted, isBusy, isSuspended}
 use Rattle.paper.specs.Table.{lengthOk, takenAsleep, takenBusy, takenSuspended}
 use Rattle.paper.specs.Soundness.{bitsOk}
 use Rattle.paper.specs.Numbers.{sizeNumber, rowsNumber, lengthNumber, outputNumber, soundNumber, ticksNumber, transactionRefusal, tickNumber, stateOk, addressOk, freeOk, commandNumber}
@@ -65,12 +65,12 @@ transaction-taken b sound a r n o e =
 pub record CommandTaken (k : Columns) (w : Work) (p : Part) (f : Phase) (i : List ℕ) (wp : Bool) : Type 0 where
   pub not-asleep : (takenAsleep (k .taken) or not (p .asleep)) ≡ true
   pub not-busy : (takenBusy (k .taken) or not (isBusy f)) ≡ true
-  pub not-suspended : (takenSuspended (k .taken) or not (isSuspended f)) ≡ true
+  pub not-suspended : (takenSuspended (k .taken) (eraseHalted f) or not (isSuspended f)) ≡ true
   pub length-ok : lengthOk (k .length) (length i) ≡ true
   pub state-ok : stateOk (k .wanted) p f ≡ true
   pub latch-ok : (not (k .wel) or p .wel) ≡ true
   pub address-ok : addressOk (k .named) i ≡ true
-  pub free-ok : freeOk w p wp ≡ true
+  pub free-ok : freeOk w p f wp ≡ true
 
 pub command-taken : (k : Columns) (w : Work) (p : Part) (f : Phase) (i : List ℕ) (wp : Bool) → commandNumber k w p f i wp ≡ 0 → CommandTaken k w p f i wp
 unfolding commandNumber

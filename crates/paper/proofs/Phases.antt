@@ -3,10 +3,10 @@ use mathlib.Core.Path.{_≡_, refl, sym, ap}
 use mathlib.Core.Bool.{Bool, true, false, false≢true}
 use Rattle.types.specs.declared.Operation.{Operation}
 use Rattle.types.specs.declared.Phase.{Phase}
-use Rattle.types.specs.declared.Phase.the-variants.{Idle, Busy, Suspended}
+use Rattle.types.specs.declared.Phase.the-variants.{Idle, Busy, Suspended, Nested}
 use Rattle.types.specs.declared.Work.{Work}
 use Rattle.types.specs.declared.Work.the-variants.{NoWork, At}
-use Rattle.paper.specs.Phases.{running, workIs, anyOperation, isBusy, isSuspended, isIdle, goingOn, restOf}
+use Rattle.paper.specs.Phases.{running, halted, workIs, anyOperation, isBusy, isSuspended, isIdle, phaseOf, workingOn, restOf}
 
 -- no operation is one
 abbrev isWork : Work → Bool
@@ -23,47 +23,74 @@ atOr x (At o) = o
 pub at-same : {x o : Operation} → At x ≡ At o → x ≡ o
 at-same {x} e = ap (atOr x) e
 
--- what goes on runs, and ends in the same rest
-pub going-runs : (f : Phase) (x o : Operation) → running f ≡ At x → running (goingOn f o) ≡ At o
-going-runs Idle x o e = absurd (no-work-at e)
-going-runs (Busy y) x o e = refl
-going-runs (Suspended y) x o e = absurd (no-work-at e)
+-- a phase is what runs and what is suspended, put together
+pub phase-works : (f : Phase) → phaseOf (running f) (halted f) ≡ f
+phase-works Idle = refl
+phase-works (Busy o) = refl
+phase-works (Suspended o) = refl
+phase-works (Nested e o) = refl
 
-pub going-on : (f : Phase) (x o : Operation) → goingOn (goingOn f x) o ≡ goingOn f o
+pub phase-runs : (w h : Work) → running (phaseOf w h) ≡ w
+phase-runs NoWork NoWork = refl
+phase-runs (At o) NoWork = refl
+phase-runs NoWork (At e) = refl
+phase-runs (At o) (At e) = refl
+
+pub phase-halts : (w h : Work) → halted (phaseOf w h) ≡ h
+phase-halts NoWork NoWork = refl
+phase-halts (At o) NoWork = refl
+phase-halts NoWork (At e) = refl
+phase-halts (At o) (At e) = refl
+
+-- what a part works on runs, and ends in the same rest
+pub going-runs : (f : Phase) (o : Operation) → running (workingOn f o) ≡ At o
+going-runs Idle o = refl
+going-runs (Busy y) o = refl
+going-runs (Suspended y) o = refl
+going-runs (Nested y z) o = refl
+
+pub going-on : (f : Phase) (x o : Operation) → workingOn (workingOn f x) o ≡ workingOn f o
 going-on Idle x o = refl
 going-on (Busy y) x o = refl
 going-on (Suspended y) x o = refl
+going-on (Nested y z) x o = refl
 
-pub going-same : (f : Phase) (o : Operation) → running f ≡ At o → goingOn f o ≡ f
+pub going-same : (f : Phase) (o : Operation) → running f ≡ At o → workingOn f o ≡ f
 going-same Idle o e = absurd (no-work-at e)
 going-same (Busy y) o e = ap Busy (sym (at-same e))
-going-same (Suspended y) o e = refl
+going-same (Suspended y) o e = absurd (no-work-at e)
+going-same (Nested y z) o e = ap (Nested y) (sym (at-same e))
 
-pub going-rest : (f : Phase) (o : Operation) → restOf (goingOn f o) ≡ restOf f
+pub going-rest : (f : Phase) (o : Operation) → restOf (workingOn f o) ≡ restOf f
 going-rest Idle o = refl
 going-rest (Busy y) o = refl
 going-rest (Suspended y) o = refl
+going-rest (Nested y z) o = refl
 
 -- the rest of what runs is no work
 pub rest-idle : (f : Phase) → running (restOf f) ≡ NoWork
 rest-idle Idle = refl
 rest-idle (Busy o) = refl
 rest-idle (Suspended o) = refl
+rest-idle (Nested e o) = refl
 
 -- a busy part is not idle
 pub busy-not-idle : (f : Phase) → isBusy f ≡ true → isIdle f ≡ false
 busy-not-idle Idle b = absurd (false≢true b)
 busy-not-idle (Busy o) b = refl
 busy-not-idle (Suspended o) b = refl
+busy-not-idle (Nested e o) b = refl
 
 -- neither busy nor suspended is idle
 pub idle-of : (f : Phase) → isBusy f ≡ false → isSuspended f ≡ false → f ≡ Idle
 idle-of Idle b s = refl
 idle-of (Busy o) b s = absurd (false≢true (sym b))
 idle-of (Suspended o) b s = absurd (false≢true (sym s))
+idle-of (Nested e o) b s = absurd (false≢true (sym b))
 
 -- and what is idle is that phase
 pub idle-is : (f : Phase) → isIdle f ≡ true → f ≡ Idle
 idle-is Idle e = refl
 idle-is (Busy o) e = absurd (false≢true e)
 idle-is (Suspended o) e = absurd (false≢true e)
+idle-is (Nested x o) e = absurd (false≢true e)

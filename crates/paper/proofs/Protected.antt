@@ -47,7 +47,7 @@ not-free-exactly b n s =
     (λ h. e .0 (not-false _ h), λ w. ap not (e .1 w))
 
 -- so the target of a page program, and that of SER, BER32 and BER64, which are the units that can be suspended: 28 and soundness ask for it. (CER goes by the bits.)
-pub program-exactly : (b p k d n : ℕ) (s : Stored) → (targetFree (Program Array b p k d) n s ≡ false) ↔ Blocked b n s
+pub program-exactly : (b p k d n : ℕ) (s : Stored) → (targetFree (Program Array p b k d) n s ≡ false) ↔ Blocked b n s
 program-exactly b p k d n s = not-free-exactly b n s
 
 pub erase-exactly : (u : EraseUnit) (b d n : ℕ) (s : Stored) → unitSuspends u ≡ true → (targetFree (Erase u b d) n s ≡ false) ↔ Blocked b n s

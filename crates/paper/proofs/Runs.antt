@@ -19,7 +19,7 @@ use Rattle.types.specs.declared.Record.{Record}
 use Rattle.words.specs.Logic.{bit}
 use Rattle.paper.specs.Program.{noData}
 use Rattle.paper.specs.Registers.{storedAfter}
-use Rattle.paper.specs.Phases.{running, workIs, anyOperation, goingOn, restOf}
+use Rattle.paper.specs.Phases.{running, workIs, anyOperation, workingOn, restOf}
 use Rattle.paper.specs.Records.{made}
 use Rattle.paper.specs.Operations.{ticksInAll, ticksDone, advancedBy, Touch, none, nextTouch, touched}
 use Rattle.paper.specs.Ticks.{finished, advanced, worked, tickedAt, tickOnce, touchAt, touchOf, works, recordAfter, memoryAfter, workingTicks, ran}
@@ -32,27 +32,27 @@ workBit w = bit (workIs anyOperation w)
 
 -- an operation with ticks more done
 pub by-none : (o : Operation) → advancedBy 0 o ≡ o
-by-none (Program m b s k d) = ap (Program m b s k) (add-zero d)
+by-none (Program m s b k d) = ap (Program m s b k) (add-zero d)
 by-none (Erase u b d) = ap (Erase u b) (add-zero d)
 by-none (Write r v) = refl
 
 by-more : (t : ℕ) (o : Operation) → advancedBy 1 (advancedBy t o) ≡ advancedBy (suc t) o
-by-more t (Program m b s k d) = let e : d + t + 1 ≡ d + suc t = omega arith in ap (Program m b s k) e
+by-more t (Program m s b k d) = let e : d + t + 1 ≡ d + suc t = omega arith in ap (Program m s b k) e
 by-more t (Erase u b d) = let e : d + t + 1 ≡ d + suc t = omega arith in ap (Erase u b) e
 by-more t (Write r v) = refl
 
 by-all : (t : ℕ) (o : Operation) (n : ℕ) → ticksInAll (advancedBy t o) n ≡ ticksInAll o n
-by-all t (Program m b s k d) n = refl
+by-all t (Program m s b k d) n = refl
 by-all t (Erase u b d) n = refl
 by-all t (Write r v) n = refl
 
 by-done : (t : ℕ) (o : Operation) (n : ℕ) → ticksDone o + t < ticksInAll o n → ticksDone (advancedBy t o) ≡ ticksDone o + t
-by-done t (Program m b s k d) n h = refl
+by-done t (Program m s b k d) n h = refl
 by-done t (Erase u b d) n h = refl
 by-done t (Write r v) n h = omega arith
 
 by-stored : (t : ℕ) (o : Operation) (g : Stored) → storedAfter (advancedBy t o) g ≡ storedAfter o g
-by-stored t (Program m b s k d) g = refl
+by-stored t (Program m s b k d) g = refl
 by-stored t (Erase u b d) g = refl
 by-stored t (Write r v) g = refl
 
@@ -70,14 +70,14 @@ module _ (p : Record) (o : Operation) (e : running (p .phase) ≡ At o) where
 module _ (p : Record) (o : Operation) (e : running (p .phase) ≡ At o) where
   -- the same with its operation at another point
   runs-at : (x : Operation) → running (advanced p x .phase) ≡ At x
-  runs-at x = going-runs (p .phase) o x e
+  runs-at x = going-runs (p .phase) x
 
   advanced-again : (x y : Operation) → advanced (advanced p x) y ≡ advanced p y
   advanced-again x y = ap (λ (f : Phase). recordOf (p .part) f (p .page)) (going-on (p .phase) x y)
 
   advanced-none : advanced p (advancedBy 0 o) ≡ p
   advanced-none =
-      ap (λ (f : Phase). recordOf (p .part) f (p .page)) (ap (goingOn (p .phase)) (by-none o) ∙ going-same (p .phase) o e)
+      ap (λ (f : Phase). recordOf (p .part) f (p .page)) (ap (workingOn (p .phase)) (by-none o) ∙ going-same (p .phase) o e)
 
   finished-from : (t : ℕ) → finished (advanced p (advancedBy t o)) (advancedBy t o) ≡ finished p o
   finished-from t =
@@ -108,10 +108,10 @@ module _ (p : Record) (o : Operation) (e : running (p .phase) ≡ At o) where
   run-past k (suc j) h = rw add-suc (ap tickOnce (run-past k j h) ∙ ap (tickedAt (finished p o)) (rest-idle (p .phase)))
 
   -- what k ticks reach
-  run-touch : (k : ℕ) → ticksDone o + k < ticksInAll o (p .part .blocks) → touchOf (recordAfter k p) ≡ nextTouch (advancedBy k o) (p .page)
+  pub run-touch : (k : ℕ) → ticksDone o + k < ticksInAll o (p .part .blocks) → touchOf (recordAfter k p) ≡ nextTouch (advancedBy k o) (p .page)
   run-touch k h = ap touchOf (run-record k h) ∙ ap (λ (w : Work). touchAt w (p .page)) (runs-at (advancedBy k o))
 
-  past-touch : touchOf (finished p o) ≡ none
+  pub past-touch : touchOf (finished p o) ≡ none
   past-touch = ap (λ (w : Work). touchAt w noData) (rest-idle (p .phase))
 
   pub run-memory : (m : Memory) (xs : List ℕ) (k : ℕ) → ticksDone o + k ≤ ticksInAll o (p .part .blocks) → memoryAfter m k p xs ≡ ran m k o (p .page) xs

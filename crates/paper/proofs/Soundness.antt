@@ -6,7 +6,7 @@ use mathlib.Core.List.{List}
 use borrow.Author.Tests.{ltb-true, lt-ltb}
 use Rattle.types.specs.declared.Operation.{Operation}
 use Rattle.types.specs.declared.Phase.{Phase}
-use Rattle.types.specs.declared.Phase.the-variants.{Idle, Busy, Suspended}
+use Rattle.types.specs.declared.Phase.the-variants.{Idle, Busy, Suspended, Nested}
 use Rattle.types.specs.declared.Work.the-variants.{At}
 use Rattle.types.specs.declared.Stored.{Stored}
 use Rattle.types.specs.declared.Part.{Part}
@@ -14,11 +14,11 @@ use Rattle.types.specs.declared.Record.{Record}
 use Rattle.words.specs.Logic.{_or_}
 use Rattle.words.proofs.Tests.{and-l, and-r, and-in}
 use Rattle.paper.specs.Sizes.{sizeOk}
-use Rattle.paper.specs.Phases.{running}
+use Rattle.paper.specs.Phases.{running, isProgram, isErase}
 use Rattle.paper.specs.Records.{marked, withLive}
-use Rattle.paper.specs.Operations.{ticksInAll, ticksDone, aligned, inside, targetFree}
+use Rattle.paper.specs.Operations.{ticksInAll, ticksDone, aligned, inside, targetFree, canSuspend, outside}
 use Rattle.paper.proofs.Phases.{no-work-at, at-same}
-use Rattle.paper.specs.Soundness.{sleepOk, latchOk, contentOk, operationOk, phaseOk, bitsOk, pageOk, partSound, sound}
+use Rattle.paper.specs.Soundness.{sleepOk, latchOk, contentOk, operationOk, nestOk, phaseOk, bitsOk, pageOk, partSound, sound}
 
 -- the parts of soundness, of a part in a phase with page data
 pub record Sound (p : Part) (f : Phase) (g : List ℕ) : Type 0 where
@@ -74,6 +74,7 @@ unfolding _or_
 awake-ok Idle = refl
 awake-ok (Busy o) = refl
 awake-ok (Suspended o) = refl
+awake-ok (Nested e o) = refl
 
 -- the parts of an operation that is in order
 pub record InOrder (o : Operation) (n : ℕ) (s : Stored) : Type 0 where
@@ -96,11 +97,32 @@ unfolding operationOk
 in-order-whole o n s i =
     and-in (i .begins) (and-in (i .within) (and-in (i .open-target) (and-in (lt-ltb _ _ (i .going)) (i .content))))
 
+-- the parts of a program that is in order within a suspended erase
+pub record InNest (e o : Operation) (n : ℕ) : Type 0 where
+  pub erases : isErase e ≡ true
+  pub suspends : canSuspend e ≡ true
+  pub programs : isProgram o ≡ true
+  pub array-page : canSuspend o ≡ true
+  pub apart : outside e n o ≡ true
+
+pub in-nest : (e o : Operation) (n : ℕ) → nestOk e o n ≡ true → InNest e o n
+in-nest e o n h =
+    let h1 = and-r _ _ h in
+    let h2 = and-r _ _ h1 in
+    let h3 = and-r _ _ h2 in
+    record { erases = and-l _ _ h; suspends = and-l _ _ h1; programs = and-l _ _ h2; array-page = and-l _ _ h3; apart = and-r _ _ h3 }
+
+pub in-nest-whole : (e o : Operation) (n : ℕ) → InNest e o n → nestOk e o n ≡ true
+in-nest-whole e o n i =
+    and-in (i .erases) (and-in (i .suspends) (and-in (i .programs) (and-in (i .array-page) (i .apart))))
+
 -- what runs on a sound part is in order
 running-ok : (f : Phase) (o : Operation) (n : ℕ) (s : Stored) → running f ≡ At o → phaseOk f n s ≡ true → operationOk o n s ≡ true
 running-ok Idle o n s e h = absurd (no-work-at e)
 running-ok (Busy x) o n s e h = ap (λ (y : Operation). operationOk y n s) (sym (at-same e)) ∙ h
 running-ok (Suspended x) o n s e h = absurd (no-work-at e)
+running-ok (Nested y x) o n s e h =
+    ap (λ (z : Operation). operationOk z n s) (sym (at-same e)) ∙ and-r _ _ (and-r _ _ h)
 
 pub running-in-order : (p : Record) (o : Operation) → running (p .phase) ≡ At o → sound p ≡ true → InOrder o (p .part .blocks) (p .part .stored)
 running-in-order p o e h =

@@ -2,7 +2,7 @@
 use Prim.Native.Nat.{ℕ}
 use mathlib.Core.Path.{_≡_, refl}
 use mathlib.Core.List.{List, [], _∷_}
-use mathlib.Core.Bool.{Bool, cond}
+use mathlib.Core.Bool.{Bool, true, false, cond}
 use Rattle.types.specs.declared.Columns.{Columns}
 use Rattle.paper.specs.Table.{Entry, codes, columns, takenAsleep, takenBusy, takenSuspended, isRead}
 
@@ -25,8 +25,12 @@ pub taken-busy : codesOf (λ (k : Columns). takenBusy (k .taken)) codes ≡ 0x05
 taken-busy = refl
 
 -- 23: suspended, code not a read, 7Ah, 30h, 66h, 99h
-pub taken-suspended : codesOf (λ (k : Columns). takenSuspended (k .taken)) codes ≡ 0x03 ∷ 0x0B ∷ 0x05 ∷ 0x48 ∷ 0x9F ∷ 0x90 ∷ 0xAB ∷ 0x68 ∷ 0x7A ∷ 0x30 ∷ 0x66 ∷ 0x99 ∷ 0x81 ∷ []
+pub taken-suspended : codesOf (λ (k : Columns). takenSuspended (k .taken) false) codes ≡ 0x03 ∷ 0x0B ∷ 0x05 ∷ 0x48 ∷ 0x9F ∷ 0x90 ∷ 0xAB ∷ 0x68 ∷ 0x7A ∷ 0x30 ∷ 0x66 ∷ 0x99 ∷ 0x81 ∷ []
 taken-suspended = refl
+
+-- and during erase suspend not 06h, 04h and 02h
+pub taken-erase-suspended : codesOf (λ (k : Columns). takenSuspended (k .taken) true) codes ≡ 0x03 ∷ 0x0B ∷ 0x05 ∷ 0x48 ∷ 0x9F ∷ 0x90 ∷ 0xAB ∷ 0x68 ∷ 0x06 ∷ 0x04 ∷ 0x02 ∷ 0x7A ∷ 0x30 ∷ 0x66 ∷ 0x99 ∷ 0x81 ∷ []
+taken-erase-suspended = refl
 
 -- the codes that need WEL
 pub needs-wel : codesOf (λ (k : Columns). k .wel) codes ≡ 0x01 ∷ 0x42 ∷ 0x02 ∷ 0xD7 ∷ 0x20 ∷ 0x52 ∷ 0xD8 ∷ 0xC7 ∷ 0x60 ∷ 0x64 ∷ 0x62 ∷ 0x85 ∷ []

@@ -17,8 +17,8 @@ use Rattle.types.specs.declared.Record.{Record}
 use Rattle.types.specs.declared.Data.{Data}
 use Rattle.types.specs.declared.Data.the-variants.{Kept, Sent, Zero}
 use Rattle.types.specs.declared.Change.{Change}
-use Rattle.types.specs.declared.Change.the-variants.{Same, Marked, Live, Became}
-use Rattle.paper.specs.Phases.{startedIn, suspendedIn, resumedIn}
+use Rattle.types.specs.declared.Change.the-variants.{Same, Marked, Live, Anew, Runs, Became}
+use Rattle.paper.specs.Phases.{runningIn, workingOn, suspendedIn, resumedIn}
 use Rattle.paper.specs.Records.{settled, freshPart, marked, resting, withLive}
 use Rattle.paper.specs.Program.{dataSent, pageData, noData, programOf}
 use Rattle.paper.specs.Erase.{eraseOf}
@@ -36,6 +36,8 @@ abbrev pub changed : Change → List ℕ → Record → Record
 changed Same i p = p
 changed (Marked armed) i p = record { part = marked (p .part) armed; phase = p .phase; page = p .page }
 changed (Live v) i p = record { part = withLive (marked (p .part) false) v; phase = p .phase; page = p .page }
+changed (Anew q) i p = record { part = q; phase = p .phase; page = p .page }
+changed (Runs q w d) i p = record { part = q; phase = runningIn (p .phase) w; page = pageAfter d i (p .page) }
 changed (Became q f d) i p = record { part = q; phase = f; page = pageAfter d i (p .page) }
 
 -- what a command begins on a part of n blocks, with the input i
@@ -55,33 +57,33 @@ begins Resets n i = NoWork
 begins SetsLive n i = NoWork
 begins ClearsErrors n i = NoWork
 
--- every transaction but an executed 66h leaves the part unarmed
-abbrev pub unarmed : Part → Phase → Data → Change
-unarmed p f d = Became (marked p false) f d
+-- every transaction but an executed 66h leaves the part unarmed: so the part anew
+abbrev pub unarmed : Part → Change
+unarmed p = Anew (marked p false)
 
--- the part in another phase with another latch
-abbrev pub settles : Part → Phase → Bool → Data → Change
-settles p f wel d = unarmed (settled p f wel) f d
+-- the part in another phase with another latch, and page data as it was
+abbrev pub settles : Part → Phase → Bool → Change
+settles p f wel = Became (marked (settled p f wel) false) f Kept
 
 -- the part busy with the operation that a command begins, which has no tick done; WEL stays 1
 abbrev pub starts : Work → Part → Phase → Data → Change
 starts NoWork p f d = Marked false
-starts (At o) p f d = settles p (startedIn f o) true d
+starts (At o) p f d = Runs (marked (settled p (workingOn f o) true) false) (At o) d
 
 -- what an executed command changes, of a part in a phase, where it begins w, with the input i
 abbrev pub changeBy : Effect → Work → Part → Phase → List ℕ → Change
 changeBy Looks w p f i = Marked false
-changeBy Enables w p f i = settles p f true Kept
-changeBy Disables w p f i = settles p f false Kept
+changeBy Enables w p f i = unarmed (settled p f true)
+changeBy Disables w p f i = unarmed (settled p f false)
 changeBy (Programs m) w p f i = starts w p f Sent
 changeBy (Erases u) w p f i = starts w p f Kept
 changeBy (Writes r) w p f i = starts w p f Kept
 -- WIP and WEL become 0, PSUS or ESUS 1
-changeBy Suspends w p f i = settles p (suspendedIn f) false Kept
+changeBy Suspends w p f i = settles p (suspendedIn f) false
 -- resume goes on with the next tick and sets WEL to 1
-changeBy Resumes w p f i = settles p (resumedIn f) true Kept
-changeBy Sleeps w p f i = unarmed (resting p true) f Kept
-changeBy Wakes w p f i = unarmed (resting p false) f Kept
+changeBy Resumes w p f i = settles p (resumedIn f) true
+changeBy Sleeps w p f i = unarmed (resting p true)
+changeBy Wakes w p f i = unarmed (resting p false)
 changeBy Arms w p f i = Marked true
 -- operation dropped, WEL 0, awake, unarmed, the live byte loaded: what power-up gives for the same size, identity and stored register bits
 changeBy Resets w p f i = Became (freshPart (p .blocks) (p .identity) (p .stored)) Idle Zero

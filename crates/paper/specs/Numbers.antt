@@ -25,8 +25,8 @@ use Rattle.words.specs.Logic.{_and_, _or_, unless, _orElse_}
 use Rattle.paper.specs.Sizes.{sizeOk, arrayBytes, rowsBytes, transactionLimit, tickLimit}
 use Rattle.paper.specs.Address.{rowOk}
 use Rattle.paper.specs.Protection.{barred}
-use Rattle.paper.specs.Phases.{isBusy, isSuspended}
-use Rattle.paper.specs.Operations.{targetFree}
+use Rattle.paper.specs.Phases.{halted, eraseHalted, isBusy, isSuspended}
+use Rattle.paper.specs.Operations.{targetFree, outsideOf}
 use Rattle.paper.specs.Soundness.{bitsOk}
 use Rattle.paper.specs.Table.{columns, lengthOk, takenAsleep, takenBusy, takenSuspended}
 use Rattle.paper.specs.Suspend.{suspendable, resumable}
@@ -96,26 +96,29 @@ pinOk Function s wp = true
 pinOk Extended s wp = true
 
 abbrev pub writeOk : Operation → Stored → Bool → Bool
-writeOk (Program m b k c d) s wp = true
+writeOk (Program m k b c d) s wp = true
 writeOk (Erase u b d) s wp = true
 writeOk (Write r v) s wp = pinOk r s wp
 
--- 28: protected, locked, or status write barred by the pin, of what a command begins
-abbrev pub freeOk : Work → Part → Bool → Bool
-freeOk NoWork p wp = true
-freeOk (At o) p wp = targetFree o (p .blocks) (p .stored) and writeOk o (p .stored) wp
+-- 28: protected, locked, a program into the suspended unit, or status write barred by the pin, of what a command begins
+abbrev pub freeOk : Work → Part → Phase → Bool → Bool
+freeOk NoWork p f wp = true
+freeOk (At o) p f wp =
+    targetFree o (p .blocks) (p .stored)
+    and outsideOf (halted f) (p .blocks) o
+    and writeOk o (p .stored) wp
 
 -- 21 to 28, of a command with these columns that begins w, on a part in a phase, with the input i, and with WP# high where wp is true: 0 where it is executed
 unfoldable pub commandNumber : Columns → Work → Part → Phase → List ℕ → Bool → ℕ
 commandNumber k w p f i wp =
     unless (takenAsleep (k .taken) or not (p .asleep)) 21
     orElse unless (takenBusy (k .taken) or not (isBusy f)) 22
-    orElse unless (takenSuspended (k .taken) or not (isSuspended f)) 23
+    orElse unless (takenSuspended (k .taken) (eraseHalted f) or not (isSuspended f)) 23
     orElse unless (lengthOk (k .length) (length i)) 24
     orElse unless (stateOk (k .wanted) p f) 25
     orElse unless (not (k .wel) or p .wel) 26
     orElse unless (addressOk (k .named) i) 27
-    orElse unless (freeOk w p wp) 28
+    orElse unless (freeOk w p f wp) 28
 
 -- 20 to 28: 20 where the first byte is in no row of the command table, even asleep or busy
 abbrev pub ignoredNumber : Decoded → Part → Phase → List ℕ → Bool → ℕ

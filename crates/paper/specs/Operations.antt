@@ -3,7 +3,7 @@ use Prim.Native.Nat.{ℕ, _+_, _*_, _/_}
 use mathlib.Core.List.{List}
 use mathlib.Core.Bool.{Bool, true, false, not, cond}
 use lib.ListN.{getD}
-use lib.Dec.{eqb, leb}
+use lib.Dec.{eqb, ltb, leb}
 use Rattle.types.specs.declared.Memory.{Memory}
 use Rattle.types.specs.declared.Memory.the-variants.{Array, Rows}
 use Rattle.types.specs.declared.EraseUnit.{EraseUnit}
@@ -11,6 +11,9 @@ use Rattle.types.specs.declared.EraseUnit.the-variants.{Sector, Block32, Block6
 use Rattle.types.specs.declared.Stored.{Stored}
 use Rattle.types.specs.declared.Operation.{Operation}
 use Rattle.types.specs.declared.Operation.the-variants.{Program, Erase, Write}
+use Rattle.types.specs.declared.Work.{Work}
+use Rattle.types.specs.declared.Work.the-variants.{NoWork, At}
+use Rattle.words.specs.Logic.{_and_}
 use Rattle.paper.specs.Sizes.{memoryBytes, sameMemory, pageBytes}
 use Rattle.paper.specs.Protection.{codeOf, protectedAt, locked}
 use Rattle.paper.specs.Program.{pageBase, pagePlace, narrowed}
@@ -18,31 +21,31 @@ use Rattle.paper.specs.Erase.{memoryOf, unitPages, unitBytes, unitBase, 
 
 -- its ticks in all: a program takes one tick per kept byte, an erase one per page, a register write one
 abbrev pub ticksInAll : Operation → ℕ → ℕ
-ticksInAll (Program m b s k d) n = k
+ticksInAll (Program m s b k d) n = k
 ticksInAll (Erase u b d) n = unitPages u n
 ticksInAll (Write r v) n = 1
 
 -- its ticks done
 abbrev pub ticksDone : Operation → ℕ
-ticksDone (Program m b s k d) = d
+ticksDone (Program m s b k d) = d
 ticksDone (Erase u b d) = d
 ticksDone (Write r v) = 0
 
 -- the operation with t ticks more done
 abbrev pub advancedBy : ℕ → Operation → Operation
-advancedBy t (Program m b s k d) = Program m b s k (d + t)
+advancedBy t (Program m s b k d) = Program m s b k (d + t)
 advancedBy t (Erase u b d) = Erase u b (d + t)
 advancedBy t (Write r v) = Write r v
 
 -- its target begins where a page or a unit begins
 abbrev pub aligned : Operation → ℕ → Bool
-aligned (Program m b s k d) n = eqb (pageBase b) b
+aligned (Program m s b k d) n = eqb (pageBase b) b
 aligned (Erase u b d) n = eqb (unitBase u n b) b
 aligned (Write r v) n = true
 
 -- its target is inside the part
 abbrev pub inside : Operation → ℕ → Bool
-inside (Program m b s k d) n = leb (b + pageBytes) (memoryBytes m n)
+inside (Program m s b k d) n = leb (b + pageBytes) (memoryBytes m n)
 inside (Erase u b d) n = leb (b + unitBytes u n) (memoryBytes (memoryOf u) n)
 inside (Write r v) n = true
 
@@ -61,7 +64,7 @@ unitFree Row b n s = free Rows b n s
 
 -- the operation's target is unprotected or unlocked under the registers
 abbrev pub targetFree : Operation → ℕ → Stored → Bool
-targetFree (Program m b s k d) n g = free m b n g
+targetFree (Program m s b k d) n g = free m b n g
 targetFree (Erase u b d) n g = unitFree u b n g
 targetFree (Write r v) n g = true
 
@@ -80,13 +83,30 @@ memorySuspends Rows = false
 
 -- only PP, SER, BER32 or BER64 is suspended
 abbrev pub canSuspend : Operation → Bool
-canSuspend (Program m b s k d) = memorySuspends m
+canSuspend (Program m s b k d) = memorySuspends m
 canSuspend (Erase u b d) = unitSuspends u
 canSuspend (Write r v) = false
 
+-- a place of a memory lies in its unit, if it is an erase
+abbrev pub inUnit : Operation → ℕ → Memory → ℕ → Bool
+inUnit (Program m s b k d) n w a = false
+inUnit (Erase u b d) n w a = sameMemory w (memoryOf u) and leb b a and ltb a (b + unitBytes u n)
+inUnit (Write r v) n w a = false
+
+-- an operation lies outside the unit of another: the page of a program does (nothing else is asked)
+abbrev pub outside : Operation → ℕ → Operation → Bool
+outside e n (Program m s b k d) = not (inUnit e n m b)
+outside e n (Erase u b d) = true
+outside e n (Write r v) = true
+
+-- and outside the suspended unit, where one is suspended
+abbrev pub outsideOf : Work → ℕ → Operation → Bool
+outsideOf NoWork n o = true
+outsideOf (At e) n o = outside e n o
+
 -- how many bytes of page data it keeps
 abbrev pub keptBy : Operation → ℕ
-keptBy (Program m b s k d) = k
+keptBy (Program m s b k d) = k
 keptBy (Erase u b d) = 0
 keptBy (Write r v) = 0
 
@@ -98,7 +118,7 @@ pub data Touch : Type 0 where
 
 -- what an operation's next tick reaches, with the page data g. A program tick writes one kept byte, in order of arrival; an erase tick sets the next page, lowest first
 abbrev pub nextTouch : Operation → List ℕ → Touch
-nextTouch (Program m b s k d) g = narrow m (b + pagePlace s d) (getD g d 0)
+nextTouch (Program m s b k d) g = narrow m (b + pagePlace s d) (getD g d 0)
 nextTouch (Erase u b d) g = blank (memoryOf u) (b + d * pageBytes)
 nextTouch (Write r v) g = none
 

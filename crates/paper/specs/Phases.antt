@@ -1,9 +1,9 @@
--- What a part does: it is idle, busy with one operation, or suspended from one. What runs, what is suspended, and the phases that follow. In the paper soundness goes by the cases of the phase too, and nothing else does.
+-- What a part does: it is idle, busy with one operation, suspended from one, or busy with a program within a suspended erase. What runs, what is suspended, and the phases that follow. In the paper soundness goes by the cases of the phase too, and nothing else does.
 use mathlib.Core.Bool.{Bool, true, false}
 use Rattle.types.specs.declared.Operation.{Operation}
 use Rattle.types.specs.declared.Operation.the-variants.{Program, Erase, Write}
 use Rattle.types.specs.declared.Phase.{Phase}
-use Rattle.types.specs.declared.Phase.the-variants.{Idle, Busy, Suspended}
+use Rattle.types.specs.declared.Phase.the-variants.{Idle, Busy, Suspended, Nested}
 use Rattle.types.specs.declared.Work.{Work}
 use Rattle.types.specs.declared.Work.the-variants.{NoWork, At}
 
@@ -12,12 +12,14 @@ abbrev pub running : Phase → Work
 running Idle = NoWork
 running (Busy o) = At o
 running (Suspended o) = NoWork
+running (Nested e o) = At o
 
--- what the part is suspended from
+-- what is suspended, also while a program runs within it
 abbrev pub halted : Phase → Work
 halted Idle = NoWork
 halted (Busy o) = NoWork
 halted (Suspended o) = At o
+halted (Nested e o) = At e
 
 -- there is an operation, and it passes a test
 abbrev pub workIs : (Operation → Bool) → Work → Bool
@@ -28,50 +30,65 @@ abbrev pub anyOperation : Operation → Bool
 anyOperation o = true
 
 abbrev pub isProgram : Operation → Bool
-isProgram (Program m b s k d) = true
+isProgram (Program m s b k d) = true
 isProgram (Erase u b d) = false
 isProgram (Write r v) = false
 
 abbrev pub isErase : Operation → Bool
-isErase (Program m b s k d) = false
+isErase (Program m s b k d) = false
 isErase (Erase u b d) = true
 isErase (Write r v) = false
 
--- the part is busy, or suspended, or idle
+-- an erase is suspended, also while a program runs within it
+abbrev pub eraseHalted : Phase → Bool
+eraseHalted f = workIs isErase (halted f)
+
+-- the part is busy: something runs
 abbrev pub isBusy : Phase → Bool
 isBusy f = workIs anyOperation (running f)
 
+-- or suspended: something is, and nothing runs
 abbrev pub isSuspended : Phase → Bool
-isSuspended f = workIs anyOperation (halted f)
+isSuspended Idle = false
+isSuspended (Busy o) = false
+isSuspended (Suspended o) = true
+isSuspended (Nested e o) = false
 
+-- or idle
 abbrev pub isIdle : Phase → Bool
 isIdle Idle = true
 isIdle (Busy o) = false
 isIdle (Suspended o) = false
+isIdle (Nested e o) = false
 
--- the phase of a part that begins an operation
-abbrev pub startedIn : Phase → Operation → Phase
-startedIn f o = Busy o
+-- the phase of a part where one thing runs, or nothing, and another is suspended, or nothing
+abbrev pub phaseOf : Work → Work → Phase
+phaseOf NoWork NoWork = Idle
+phaseOf (At o) NoWork = Busy o
+phaseOf NoWork (At e) = Suspended e
+phaseOf (At o) (At e) = Nested e o
 
--- the phase with what runs at another point
-abbrev pub goingOn : Phase → Operation → Phase
-goingOn Idle o = Idle
-goingOn (Busy x) o = Busy o
-goingOn (Suspended x) o = Suspended x
+-- the phase with other work running, or none: what is suspended stays so, and the work runs within
+abbrev pub runningIn : Phase → Work → Phase
+runningIn f w = phaseOf w (halted f)
 
--- the phase when what runs has ended
+-- the phase of a part that begins an operation, or is at another point of it
+abbrev pub workingOn : Phase → Operation → Phase
+workingOn f o = runningIn f (At o)
+
+-- the phase when what runs has ended: within a suspended erase, the part is suspended from it again
 abbrev pub restOf : Phase → Phase
-restOf Idle = Idle
-restOf (Busy o) = Idle
-restOf (Suspended o) = Suspended o
+restOf f = runningIn f NoWork
 
 -- the phase when what runs is suspended, and when what is suspended is resumed
 abbrev pub suspendedIn : Phase → Phase
 suspendedIn Idle = Idle
 suspendedIn (Busy o) = Suspended o
 suspendedIn (Suspended o) = Suspended o
+suspendedIn (Nested e o) = Nested e o
 
 abbrev pub resumedIn : Phase → Phase
 resumedIn Idle = Idle
 resumedIn (Busy o) = Busy o
 resumedIn (Suspended o) = Busy o
+resumedIn (Nested e o) = Nested e o

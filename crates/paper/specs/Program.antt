@@ -40,7 +40,7 @@ noData = replicate pageBytes 0
 -- the program that a transaction begins in a memory of a part of n blocks: of the page (row) of A, from the place in it of the first byte that counts
 unfoldable pub programOf : Memory → ℕ → List ℕ → Operation
 programOf m n i =
-    Program m (pageBase (placeIn m n i)) (pagePlace (placeIn m n i) (passedCount (dataSent i))) (keptCount (dataSent i)) 0
+    Program m (pagePlace (placeIn m n i) (passedCount (dataSent i))) (pageBase (placeIn m n i)) (keptCount (dataSent i)) 0
 
 -- new = old AND data
 abbrev pub narrowedByte : ℕ → ℕ → ℕ

@@ -10,15 +10,15 @@ use Rattle.types.specs.declared.Record.{Record}
 use Rattle.words.specs.Logic.{bit}
 use Rattle.paper.specs.Program.{noData}
 use Rattle.paper.specs.Registers.{withBytes, storedBits, liveLoaded}
-use Rattle.paper.specs.Phases.{halted, workIs, isProgram, isErase, isBusy}
+use Rattle.paper.specs.Phases.{halted, workIs, isProgram, eraseHalted, isBusy}
 
 -- WIP is 1 exactly while busy
 abbrev pub wip : Phase → ℕ
 wip f = bit (isBusy f)
 
--- ESUS while an erase is suspended, PSUS while a program is
+-- ESUS while an erase is suspended, also while a program runs within it; PSUS while a program is
 abbrev pub esus : Phase → ℕ
-esus f = bit (workIs isErase (halted f))
+esus f = bit (eraseHalted f)
 
 abbrev pub psus : Phase → ℕ
 psus f = bit (workIs isProgram (halted f))

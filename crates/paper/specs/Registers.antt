@@ -40,7 +40,7 @@ registerWritten Extended v s = withExtended v s
 
 -- the registers after an operation's last tick
 abbrev pub storedAfter : Operation → Stored → Stored
-storedAfter (Program m b s k d) g = g
+storedAfter (Program m s b k d) g = g
 storedAfter (Erase u b d) g = g
 storedAfter (Write r v) g = registerWritten r v g
 

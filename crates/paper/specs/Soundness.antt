@@ -7,31 +7,32 @@ use lib.Dec.{eqb, ltb, leb}
 use Rattle.types.specs.declared.Operation.{Operation}
 use Rattle.types.specs.declared.Operation.the-variants.{Program, Erase, Write}
 use Rattle.types.specs.declared.Phase.{Phase}
-use Rattle.types.specs.declared.Phase.the-variants.{Idle, Busy, Suspended}
+use Rattle.types.specs.declared.Phase.the-variants.{Idle, Busy, Suspended, Nested}
 use Rattle.types.specs.declared.Stored.{Stored}
 use Rattle.types.specs.declared.Part.{Part}
 use Rattle.types.specs.declared.Record.{Record}
 use Rattle.words.specs.Logic.{_and_, _or_}
 use Rattle.words.specs.Lists.{allZero}
 use Rattle.paper.specs.Sizes.{sizeOk, pageBytes}
-use Rattle.paper.specs.Phases.{isIdle}
+use Rattle.paper.specs.Phases.{isProgram, isErase, isIdle}
 use Rattle.paper.specs.Records.{statusLow, functionLow}
 use Rattle.paper.specs.Registers.{held}
-use Rattle.paper.specs.Operations.{ticksInAll, ticksDone, aligned, inside, targetFree, canSuspend, keptBy}
+use Rattle.paper.specs.Operations.{ticksInAll, ticksDone, aligned, inside, targetFree, canSuspend, outside, keptBy}
 
 -- asleep only if idle
 abbrev pub sleepOk : Phase → Bool → Bool
 sleepOk f asleep = isIdle f or not asleep
 
--- WEL is 1 while busy and 0 while suspended
+-- WEL is 1 while busy, 0 or 1 while an erase is suspended, 0 while a program is
 abbrev pub latchOk : Phase → Bool → Bool
 latchOk Idle wel = true
 latchOk (Busy o) wel = wel
-latchOk (Suspended o) wel = not wel
+latchOk (Suspended o) wel = isErase o or not wel
+latchOk (Nested e o) wel = wel
 
 -- kept data counts 1 to 256, its start in the page below 256; a write holds its byte with the bits zero that it does not store
 abbrev pub contentOk : Operation → Bool
-contentOk (Program m b s k d) = leb 1 k and leb k pageBytes and ltb s pageBytes
+contentOk (Program m s b k d) = leb 1 k and leb k pageBytes and ltb s pageBytes
 contentOk (Erase u b d) = true
 contentOk (Write r v) = eqb (held r v) v
 
@@ -44,11 +45,16 @@ operationOk o n s =
     and ltb (ticksDone o) (ticksInAll o n)
     and contentOk o
 
--- so the operation that a part is busy with or suspended from; only PP, SER, BER32 or BER64 is suspended
+-- within a suspended SER, BER32 or BER64 PP alone runs, and its page lies outside the suspended unit
+abbrev pub nestOk : Operation → Operation → ℕ → Bool
+nestOk e o n = isErase e and canSuspend e and isProgram o and canSuspend o and outside e n o
+
+-- so the operation that a part is busy with or suspended from, or both; only PP, SER, BER32 or BER64 is suspended
 abbrev pub phaseOk : Phase → ℕ → Stored → Bool
 phaseOk Idle n s = true
 phaseOk (Busy o) n s = operationOk o n s
 phaseOk (Suspended o) n s = canSuspend o and operationOk o n s
+phaseOk (Nested e o) n s = nestOk e o n and operationOk e n s and operationOk o n s
 
 -- stored register bits that other fields define (WIP, WEL, ESUS, PSUS) agree with them; function bits 1..0 are 0, and so are bits 4..0 of the extended read register's stored byte
 unfoldable pub bitsOk : Phase → Bool → Stored → Bool
@@ -57,11 +63,12 @@ bitsOk f wel s =
     and eqb (s .function % 16) (functionLow f)
     and eqb (s .extended % 32) 0
 
--- how many bytes of page data a phase keeps
+-- how many bytes of page data a phase keeps; within a suspended erase they belong to the inner program
 abbrev pub keptIn : Phase → ℕ
 keptIn Idle = 0
 keptIn (Busy o) = keptBy o
 keptIn (Suspended o) = keptBy o
+keptIn (Nested e o) = keptBy o
 
 -- page data holds zeros after the kept bytes of a running or suspended program, and is all zero otherwise
 unfoldable pub pageOk : Phase → List ℕ → Bool

@@ -17,7 +17,7 @@ use Rattle.types.specs.declared.Source.the-variants.{None, ArrayBytes, RowBytes
 use Rattle.types.specs.declared.Effect.{Effect}
 use Rattle.types.specs.declared.Effect.the-variants.{Looks, Enables, Disables, Programs, Erases, Writes, Suspends, Resumes, Sleeps, Wakes, Arms, Resets, SetsLive, ClearsErrors}
 use Rattle.types.specs.declared.Taken.{Taken}
-use Rattle.types.specs.declared.Taken.the-variants.{Rest, OrHalted, OrBusy, Awake, OrAsleep}
+use Rattle.types.specs.declared.Taken.the-variants.{Rest, Esus, OrHalted, OrBusy, Awake, OrAsleep}
 use Rattle.types.specs.declared.Named.{Named}
 use Rattle.types.specs.declared.Named.the-variants.{Bare, Place, InRow}
 use Rattle.types.specs.declared.Wanted.{Wanted}
@@ -78,11 +78,11 @@ columns ReadIdentity = line (AtLeast 1) no OrHalted Bare Any IdentityBytes 1 Loo
 columns ReadMakerDevice = line (AtLeast 4) no OrHalted Bare Any MakerPair 4 Looks
 columns Wake = line (AtLeast 1) no OrAsleep Bare Any DeviceByte 4 Wakes
 columns ReadRow = line (AtLeast 5) no OrHalted InRow Any RowBytes 5 Looks
-columns WriteEnable = line (Exactly 1) no Rest Bare Any None 0 Enables
-columns WriteDisable = line (Exactly 1) no Rest Bare Any None 0 Disables
+columns WriteEnable = line (Exactly 1) no Esus Bare Any None 0 Enables
+columns WriteDisable = line (Exactly 1) no Esus Bare Any None 0 Disables
 columns WriteStatus = line (Exactly 2) WEL Rest Bare Any None 0 (Writes Status)
 columns WriteFunction = line (Exactly 2) WEL Rest Bare Any None 0 (Writes Function)
-columns PageProgram = line (AtLeast 5) WEL Rest Place Any None 0 (Programs Array)
+columns PageProgram = line (AtLeast 5) WEL Esus Place Any None 0 (Programs Array)
 columns SectorErase = line (Exactly 4) WEL Rest Place Any None 0 (Erases Sector)
 columns BlockErase32 = line (Exactly 4) WEL Rest Place Any None 0 (Erases Block32)
 columns BlockErase64 = line (Exactly 4) WEL Rest Place Any None 0 (Erases Block64)
@@ -99,9 +99,10 @@ columns SetStored = line (Exactly 2) WEL Rest Bare Any None 0 (Writes Extended)
 columns SetLive = line (Exactly 2) no Rest Bare Any None 0 SetsLive
 columns ClearErrors = line (Exactly 1) no Rest Bare Any None 0 ClearsErrors
 
--- a command is taken while the part is asleep, busy, or suspended
+-- a command is taken while the part is asleep, busy, or suspended; in this from an erase or from a program
 abbrev pub takenAsleep : Taken → Bool
 takenAsleep Rest = false
+takenAsleep Esus = false
 takenAsleep OrHalted = false
 takenAsleep OrBusy = false
 takenAsleep Awake = false
@@ -109,17 +110,19 @@ takenAsleep OrAsleep = true
 
 abbrev pub takenBusy : Taken → Bool
 takenBusy Rest = false
+takenBusy Esus = false
 takenBusy OrHalted = false
 takenBusy OrBusy = true
 takenBusy Awake = true
 takenBusy OrAsleep = false
 
-abbrev pub takenSuspended : Taken → Bool
-takenSuspended Rest = false
-takenSuspended OrHalted = true
-takenSuspended OrBusy = false
-takenSuspended Awake = true
-takenSuspended OrAsleep = true
+abbrev pub takenSuspended : Taken → Bool → Bool
+takenSuspended Rest erase = false
+takenSuspended Esus erase = erase
+takenSuspended OrHalted erase = true
+takenSuspended OrBusy erase = false
+takenSuspended Awake erase = true
+takenSuspended OrAsleep erase = true
 
 -- a length that the table asks for
 abbrev pub lengthOk : Length → ℕ → Bool

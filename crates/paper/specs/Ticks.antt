@@ -13,11 +13,11 @@ use Rattle.types.specs.declared.Record.{Record}
 use Rattle.words.specs.Logic.{bit}
 use Rattle.paper.specs.Program.{noData}
 use Rattle.paper.specs.Registers.{storedAfter}
-use Rattle.paper.specs.Phases.{running, isBusy, goingOn, restOf}
+use Rattle.paper.specs.Phases.{running, isBusy, workingOn, restOf}
 use Rattle.paper.specs.Records.{made}
 use Rattle.paper.specs.Operations.{ticksInAll, ticksDone, advancedBy, Touch, none, nextTouch, touched}
 
--- the last tick makes the part idle and WEL 0. A tick never touches the armed mark
+-- the last tick makes the part idle, that of an inner program erase-suspended again, and WEL 0. A tick never touches the armed mark
 abbrev pub finishedPart : Part → Phase → Operation → Part
 finishedPart p f o = made p (storedAfter o (p .stored)) (restOf f) false
 
@@ -27,7 +27,7 @@ finished p o =
 
 -- any other tick leaves it at its operation
 abbrev pub advanced : Record → Operation → Record
-advanced p o = record { part = p .part; phase = goingOn (p .phase) o; page = p .page }
+advanced p o = record { part = p .part; phase = workingOn (p .phase) o; page = p .page }
 
 -- a tick of a part that works on an operation
 unfoldable pub worked : Record → Operation → Record

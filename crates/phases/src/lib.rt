@@ -1,6 +1,6 @@
 // What a part does: what runs, what is suspended, and the phases that follow.
 ghost use mathlib.Core.Path.{_≡_};
-ghost use Rattle.paper.specs.Phases.{running, halted, isBusy, isSuspended, isIdle, startedIn, goingOn, restOf, suspendedIn, resumedIn};
+ghost use Rattle.paper.specs.Phases.{running, halted, isProgram, isErase, eraseHalted, isBusy, isSuspended, isIdle, phaseOf, runningIn, workingOn, restOf, suspendedIn, resumedIn};
 use types::Operation;
 use types::Phase;
 use types::Work;
@@ -13,10 +13,11 @@ pub fn running(phase: Phase) -> Work
         Phase::Idle => Work::NoWork,
         Phase::Busy(op) => Work::At(op),
         Phase::Suspended(_) => Work::NoWork,
+        Phase::Nested(_, op) => Work::At(op),
     }
 }
 
-// What the part is suspended from.
+// What is suspended, also while a program runs within it.
 pub fn halted(phase: Phase) -> Work
     ensures { λ r. ⌜ r ≡ halted phase ⌝ }
 {
@@ -24,6 +25,39 @@ pub fn halted(phase: Phase) -> Work
         Phase::Idle => Work::NoWork,
         Phase::Busy(_) => Work::NoWork,
         Phase::Suspended(op) => Work::At(op),
+        Phase::Nested(outer, _) => Work::At(outer),
+    }
+}
+
+pub fn is_program(op: Operation) -> bool
+    ensures { λ r. ⌜ r ≡ isProgram op ⌝ }
+{
+    match op {
+        Operation::Program { .. } => true,
+        Operation::Erase { .. } => false,
+        Operation::Write { .. } => false,
+    }
+}
+
+pub fn is_erase(op: Operation) -> bool
+    ensures { λ r. ⌜ r ≡ isErase op ⌝ }
+{
+    match op {
+        Operation::Program { .. } => false,
+        Operation::Erase { .. } => true,
+        Operation::Write { .. } => false,
+    }
+}
+
+// Whether an erase is suspended, also while a program runs within it.
+pub fn erase_halted(phase: Phase) -> bool
+    ensures { λ r. ⌜ r ≡ eraseHalted phase ⌝ }
+{
+    match phase {
+        Phase::Idle => false,
+        Phase::Busy(_) => false,
+        Phase::Suspended(op) => is_erase(op),
+        Phase::Nested(outer, _) => is_erase(outer),
     }
 }
 
@@ -34,6 +68,7 @@ pub fn is_busy(phase: Phase) -> bool
         Phase::Idle => false,
         Phase::Busy(_) => true,
         Phase::Suspended(_) => false,
+        Phase::Nested(..) => true,
     }
 }
 
@@ -44,6 +79,7 @@ pub fn is_suspended(phase: Phase) -> bool
         Phase::Idle => false,
         Phase::Busy(_) => false,
         Phase::Suspended(_) => true,
+        Phase::Nested(..) => false,
     }
 }
 
@@ -54,28 +90,46 @@ pub fn is_idle(phase: Phase) -> bool
         Phase::Idle => true,
         Phase::Busy(..) => false,
         Phase::Suspended(..) => false,
+        Phase::Nested(..) => false,
     }
 }
 
-// The phase of a part that begins an operation.
-pub fn started_in(phase: Phase, begun: Operation) -> Phase
-    ensures { λ r. ⌜ r ≡ startedIn phase begun ⌝ }
+// The phase of a part where one thing runs, or nothing, and another is suspended, or nothing.
+pub fn phase_of(runs: Work, halted: Work) -> Phase
+    ensures { λ r. ⌜ r ≡ phaseOf runs halted ⌝ }
 {
-    Phase::Busy(begun)
+    match halted {
+        Work::NoWork => match runs {
+            Work::NoWork => Phase::Idle,
+            Work::At(op) => Phase::Busy(op),
+        },
+        Work::At(outer) => match runs {
+            Work::NoWork => Phase::Suspended(outer),
+            Work::At(op) => Phase::Nested(outer, op),
+        },
+    }
 }
 
-// The phase with what runs at another point.
-pub fn going_on(phase: Phase, op: Operation) -> Phase
-    ensures { λ r. ⌜ r ≡ goingOn phase op ⌝ }
+// The phase with other work running, or none: what is suspended stays so.
+pub fn running_in(phase: Phase, work: Work) -> Phase
+    ensures { λ r. ⌜ r ≡ runningIn phase work ⌝ }
+{
+    phase_of(work, halted(phase))
+}
+
+// The phase of a part that begins an operation: what is suspended stays so, and it runs within.
+pub fn working_on(phase: Phase, op: Operation) -> Phase
+    ensures { λ r. ⌜ r ≡ workingOn phase op ⌝ }
 {
     match phase {
-        Phase::Idle => Phase::Idle,
+        Phase::Idle => Phase::Busy(op),
         Phase::Busy(_) => Phase::Busy(op),
-        Phase::Suspended(halted) => Phase::Suspended(halted),
+        Phase::Suspended(from) => Phase::Nested(from, op),
+        Phase::Nested(outer, _) => Phase::Nested(outer, op),
     }
 }
 
-// The phase when what runs has ended.
+// The phase when what runs has ended: within a suspended erase, the part is suspended from it again.
 pub fn rest_of(phase: Phase) -> Phase
     ensures { λ r. ⌜ r ≡ restOf phase ⌝ }
 {
@@ -83,6 +137,7 @@ pub fn rest_of(phase: Phase) -> Phase
         Phase::Idle => Phase::Idle,
         Phase::Busy(_) => Phase::Idle,
         Phase::Suspended(from) => Phase::Suspended(from),
+        Phase::Nested(outer, _) => Phase::Suspended(outer),
     }
 }
 
@@ -94,6 +149,7 @@ pub fn suspended_in(phase: Phase) -> Phase
         Phase::Idle => Phase::Idle,
         Phase::Busy(op) => Phase::Suspended(op),
         Phase::Suspended(op) => Phase::Suspended(op),
+        Phase::Nested(outer, inner) => Phase::Nested(outer, inner),
     }
 }
 
@@ -105,5 +161,6 @@ pub fn resumed_in(phase: Phase) -> Phase
         Phase::Idle => Phase::Idle,
         Phase::Busy(op) => Phase::Busy(op),
         Phase::Suspended(op) => Phase::Busy(op),
+        Phase::Nested(outer, inner) => Phase::Nested(outer, inner),
     }
 }

@@ -16,13 +16,16 @@ use Rattle.words.specs.Logic.{bit}
 use Rattle.words.proofs.Tests.{and-l, and-r, and-in}
 use Rattle.words.proofs.Allowed.{agree}
 use Rattle.paper.specs.Sizes.{pageBytes}
+use Rattle.paper.specs.Phases.{running, halted}
+use Rattle.paper.proofs.Phases.{phase-works}
 use Rattle.paper.proofs.Soundness.{recordOf}
 use Rattle.address.proofs.Bytes.{number-back}
-use Rattle.cells.specs.Phases.{cellsOf, phaseOf}
-use Rattle.cells.proofs.Back.{phase-back, same-cells}
+use Rattle.cells.specs.declared.Cells.{Cells}
+use Rattle.cells.specs.Operations.{workCells, workOf}
+use Rattle.cells.proofs.Back.{work-back, same-cells}
 use Rattle.record_bytes.specs.declared.Found.{Found}
-use Rattle.record_bytes.specs.Layout.{headerLength, recordLength, partBytes, phaseBytes, header, recordBytes, written}
-use Rattle.record_bytes.specs.Read.{cellsIn, partIn, phaseIn, fieldsIn, holds, Held, nothing, held, recordIn, found, Fits}
+use Rattle.record_bytes.specs.Layout.{runningAt, haltedAt, headerLength, recordLength, partBytes, operationBytes, worksBytes, header, recordBytes, written}
+use Rattle.record_bytes.specs.Read.{cellsIn, workIn, partIn, phaseIn, fieldsIn, holds, Held, nothing, held, recordIn, found, Fitting, Fits}
 use Rattle.record_bytes.proofs.Laws.{header-length}
 use Rattle.record_bytes.proofs.Same.{same-bytes, one-list}
 
@@ -36,38 +39,48 @@ same-fields : (b b′ : ℕ) (i : Identity) (s : Stored) (w w′ a a′ z z′ :
 same-fields b b′ i s w w′ a a′ z z′ v eb ew ea ez = rw (eb, ew, ea, ez)
 
 page-back : (p : Record) → drop headerLength (recordBytes p) ≡ p .page
-unfolding recordBytes partBytes phaseBytes
+unfolding recordBytes partBytes worksBytes operationBytes
 page-back p = refl
 
+-- cells come back from their bytes
+cells-back : (s : Cells) → Fitting s → cellsIn (operationBytes s) ≡ s
+unfolding cellsIn operationBytes
+cells-back s h =
+    same-cells (s .kind) (s .value) _ _ _ _ _ _ (number-back 8 (s .base) (h .base)) (number-back 8 (s .count) (h .count)) (number-back 8 (s .done) (h .done))
+
 module _ (p : Record) (h : Fits p) where
-  cells-back : cellsIn (recordBytes p) ≡ cellsOf (p .phase)
-  unfolding cellsIn recordBytes partBytes phaseBytes
-  cells-back = same-cells _ _ _ _ _ _ _ _ _ (number-back 8 (cellsOf (p .phase) .base) (h .base)) (number-back 8 (cellsOf (p .phase) .count) (h .count)) (number-back 8 (cellsOf (p .phase) .done) (h .done))
+  running-back : workIn (recordBytes p) runningAt ≡ running (p .phase)
+  unfolding recordBytes partBytes worksBytes operationBytes
+  running-back = ap workOf (cells-back (workCells (running (p .phase))) (h .runs)) ∙ work-back (running (p .phase))
+
+  halted-back : workIn (recordBytes p) haltedAt ≡ halted (p .phase)
+  unfolding recordBytes partBytes worksBytes operationBytes
+  halted-back = ap workOf (cells-back (workCells (halted (p .phase))) (h .suspended)) ∙ work-back (halted (p .phase))
 
   part-back : partIn (recordBytes p) ≡ p .part
-  unfolding partIn recordBytes partBytes phaseBytes
+  unfolding partIn recordBytes partBytes worksBytes operationBytes
   part-back =
       same-fields _ _ (p .part .identity) (p .part .stored) _ _ _ _ _ _ (p .part .live) (number-back 2 (p .part .blocks) (h .blocks)) (mark-back (p .part .wel)) (mark-back (p .part .armed)) (mark-back (p .part .asleep))
 
   phase-in-back : phaseIn (recordBytes p) ≡ p .phase
-  phase-in-back = ap phaseOf cells-back ∙ phase-back (p .phase)
+  phase-in-back = rw (running-back, halted-back) (phase-works (p .phase))
 
   fields-back : fieldsIn (recordBytes p) ≡ p
   unfolding fieldsIn
   fields-back = rw (part-back, phase-in-back, page-back p)
 
-front : (p : Record) → take headerLength (recordBytes p) ≡ header (p .part) (cellsOf (p .phase))
+front : (p : Record) → take headerLength (recordBytes p) ≡ header (p .part) (p .phase)
 unfolding recordBytes
-front p = take-at (header (p .part) (cellsOf (p .phase))) (p .page) headerLength (header-length (p .part) (cellsOf (p .phase)))
+front p = take-at (header (p .part) (p .phase)) (p .page) headerLength (header-length (p .part) (p .phase))
 
 pub record-length : (p : Record) → length (p .page) ≡ pageBytes → length (recordBytes p) ≡ recordLength
 unfolding recordBytes
-record-length p h = length-append (header (p .part) (cellsOf (p .phase))) (p .page) ∙ simp (header-length (p .part) (cellsOf (p .phase)), h)
+record-length p h = length-append (header (p .part) (p .phase)) (p .page) ∙ simp (header-length (p .part) (p .phase), h)
 
 holds-back : (p : Record) → Fits p → holds (recordBytes p) ≡ true
 unfolding holds
 holds-back p h =
-    and-in (eq-eqb _ _ (record-length p (h .page))) (rw (part-back p h, phase-in-back p h, front p) (same-bytes (header (p .part) (cellsOf (p .phase)))))
+    and-in (eq-eqb _ _ (record-length p (h .page))) (rw (part-back p h, phase-in-back p h, front p) (same-bytes (header (p .part) (p .phase))))
 
 -- a buffer of a record's length is written
 pub written-in : (p : Record) (bs : List ℕ) → length bs ≡ recordLength → written p bs ≡ recordBytes p
@@ -98,7 +111,7 @@ ok-as bs false e = rw e
 pub own-bytes : (bs : List ℕ) → holds bs ≡ true → recordBytes (fieldsIn bs) ≡ bs
 unfolding holds recordBytes fieldsIn
 own-bytes bs e =
-    ap (λ (x : List ℕ). x ++ drop headerLength bs) (one-list (header (partIn bs) (cellsOf (phaseIn bs))) (take headerLength bs) (and-r _ _ e))
+    ap (λ (x : List ℕ). x ++ drop headerLength bs) (one-list (header (partIn bs) (phaseIn bs)) (take headerLength bs) (and-r _ _ e))
     ∙ take-append-drop headerLength bs
 
 exact-as : (bs : List ℕ) (p : Record) (t : Bool) → holds bs ≡ t → recordIn bs ≡ held p → bs ≡ recordBytes p

@@ -7,18 +7,20 @@ use lib.ListN.{length, set}
 use borrow.Author.Tests.{eq-eqb}
 use Rattle.types.specs.declared.Record.{Record}
 use Rattle.types.specs.declared.Change.{Change}
-use Rattle.types.specs.declared.Change.the-variants.{Same, Marked, Live, Became}
+use Rattle.types.specs.declared.Change.the-variants.{Same, Marked, Live, Anew, Runs, Became}
 use Rattle.words.specs.Logic.{bit}
 use Rattle.paper.specs.Records.{marked}
+use Rattle.paper.specs.Phases.{halted}
 use Rattle.paper.specs.Commands.{changed}
+use Rattle.paper.proofs.Phases.{phase-runs, phase-halts}
 use Rattle.paper.proofs.Soundness.{recordOf}
-use Rattle.record_bytes.specs.Layout.{armedAt, recordLength, partBytes, phaseBytes, recordBytes, bytesChanged, changeWritten}
+use Rattle.record_bytes.specs.Layout.{armedAt, recordLength, partBytes, operationBytes, worksBytes, recordBytes, bytesChanged, changeWritten}
 use Rattle.record_bytes.specs.Read.{recordIn}
 use Rattle.record_bytes.proofs.Back.{held-length, held-bytes}
 
 -- the armed mark at its place
 mark-set : (p : Record) (armed : Bool) → set (recordBytes p) armedAt (bit armed) ≡ recordBytes (recordOf (marked (p .part) armed) (p .phase) (p .page))
-unfolding recordBytes partBytes phaseBytes
+unfolding recordBytes partBytes worksBytes operationBytes
 mark-set p armed = refl
 
 changed-in : (c : Change) (i bs : List ℕ) → length bs ≡ recordLength → changeWritten c i bs ≡ bytesChanged c i bs
@@ -26,10 +28,12 @@ unfolding changeWritten
 changed-in c i bs l = rw (eq-eqb _ _ l)
 
 bytes-changed : (c : Change) (i : List ℕ) (p : Record) → bytesChanged c i (recordBytes p) ≡ recordBytes (changed c i p)
-unfolding recordBytes partBytes phaseBytes
+unfolding recordBytes partBytes worksBytes operationBytes
 bytes-changed Same i p = refl
 bytes-changed (Marked armed) i p = mark-set p armed
 bytes-changed (Live v) i p = refl
+bytes-changed (Anew q) i p = refl
+bytes-changed (Runs q w d) i p = rw (phase-runs w (halted (p .phase)), phase-halts w (halted (p .phase)))
 bytes-changed (Became q f d) i p = refl
 
 -- a change of the record that bytes hold

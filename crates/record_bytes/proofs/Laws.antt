@@ -1,24 +1,23 @@
 -- Bytes that are copied to their places, and read from them.
 use Prim.Native.Nat.{ℕ, _+_, _*_, _/_, _%_, _≤_}
 use mathlib.Core.Path.{_≡_, refl, sym, ap, _∙_}
-use mathlib.Core.Bool.{true, false≢true}
 use mathlib.Core.List.{List, [], _∷_, _++_, append-nil, append-assoc}
 use native.Mathlib.Omega.{arith}
-use lib.ListN.{length, take, drop, getD, replicate, set, length-append, length-take, length-drop, drop-of-length-le}
+use lib.ListN.{length, take, drop, getD, replicate, set, length-append, length-take, length-drop, drop-of-length-le, take-append-drop}
 use lib.Seq.{take-all, take-length, take-at, drop-at, drop-drop}
 use Rattle.types.specs.declared.Phase.{Phase}
-use Rattle.types.specs.declared.Phase.the-variants.{Idle, Busy, Suspended}
+use Rattle.types.specs.declared.Work.{Work}
+use Rattle.types.specs.declared.Work.the-variants.{NoWork}
 use Rattle.types.specs.declared.Part.{Part}
 use Rattle.words.specs.Logic.{bit}
 use Rattle.paper.specs.Sizes.{pageBytes}
 use Rattle.paper.specs.Address.{highFirst}
-use Rattle.paper.specs.Phases.{isIdle}
 use Rattle.paper.proofs.Addresses.{high-first-none, high-first-more}
 use Rattle.runs.proofs.Laws.{copied-whole}
 use Rattle.address.specs.Bytes.{highFirstBytes}
 use Rattle.cells.specs.declared.Cells.{Cells}
-use Rattle.cells.specs.Phases.{cellsOf}
-use Rattle.record_bytes.specs.Layout.{partLength, phaseLength, headerLength, recordLength, storedBytes, partBytes, phaseBytes, header}
+use Rattle.cells.specs.Operations.{workCells}
+use Rattle.record_bytes.specs.Layout.{baseAt, countAt, doneAt, operationLength, haltedAt, spareLength, partLength, phaseLength, headerLength, recordLength, storedBytes, partBytes, operationBytes, worksBytes, phaseBytes, header, headerRunning}
 
 -- of at most eight bytes the first eight are all
 pub take-few : (k : ℕ) (l : List ℕ) → k ≤ 8 → take 8 (take k l) ≡ take k l
@@ -63,57 +62,97 @@ pub part-length : (p : Part) → length (partBytes p) ≡ partLength
 unfolding partBytes
 part-length p = refl
 
-pub phase-length : (s : Cells) → length (phaseBytes s) ≡ phaseLength
-unfolding phaseBytes
-phase-length s = refl
+pub operation-length : (s : Cells) → length (operationBytes s) ≡ operationLength
+unfolding operationBytes
+operation-length s = refl
 
-pub header-length : (p : Part) (s : Cells) → length (header p s) ≡ headerLength
-unfolding partBytes phaseBytes
-header-length p s = refl
+pub phase-length : (f : Phase) → length (phaseBytes f) ≡ phaseLength
+unfolding worksBytes operationBytes
+phase-length f = refl
+
+pub header-length : (p : Part) (f : Phase) → length (header p f) ≡ headerLength
+unfolding partBytes worksBytes operationBytes
+header-length p f = refl
 
 -- a record's bytes with what a part does written in its place, and then what it is before
 module _ (bs : List ℕ) (l : length bs ≡ recordLength) where
   pub phase-room : length (take phaseLength (drop partLength bs)) ≡ phaseLength
   phase-room = simp (length-take, length-drop) (omega arith)
 
-  module _ (s : Cells) (y : List ℕ) (e : y ≡ phaseBytes s) where
+  module _ (f : Phase) (y : List ℕ) (e : y ≡ phaseBytes f) where
     abbrev doing : List ℕ
     doing = take partLength bs ++ (y ++ drop phaseLength (drop partLength bs))
 
     pub doing-length : length doing ≡ recordLength
     doing-length =
         length-append (take partLength bs) (y ++ drop phaseLength (drop partLength bs))
-        ∙ simp (length-append, length-take, length-drop) (omega (arith, ap length e, phase-length s))
+        ∙ simp (length-append, length-take, length-drop) (omega (arith, ap length e, phase-length f))
 
-    pub part-laid : (p : Part) → partBytes p ++ drop partLength doing ≡ header p s ++ drop headerLength bs
+    pub part-laid : (p : Part) → partBytes p ++ drop partLength doing ≡ header p f ++ drop headerLength bs
     part-laid p =
         let t : length (take partLength bs) ≡ partLength = simp length-take (omega arith) in
         ap (λ (x : List ℕ). partBytes p ++ x) (drop-at (take partLength bs) (y ++ drop phaseLength (drop partLength bs)) partLength t ∙ rw (e, drop-drop) refl)
-        ∙ sym (append-assoc (partBytes p) (phaseBytes s) (drop headerLength bs))
+        ∙ sym (append-assoc (partBytes p) (phaseBytes f) (drop headerLength bs))
 
--- x is a record's bytes with a header written over them
-module _ (bs : List ℕ) (p : Part) (s : Cells) (x : List ℕ) (l : length bs ≡ recordLength) (e : x ≡ header p s ++ drop headerLength bs) where
+  -- the same of what runs alone, where what is suspended stays
+  pub running-room : length (take operationLength (drop partLength bs)) ≡ operationLength
+  running-room = simp (length-take, length-drop) (omega arith)
+
+  abbrev kept : List ℕ
+  kept = take (operationLength + spareLength) (drop haltedAt bs)
+
+  running-rest : drop operationLength (drop partLength bs) ≡ kept ++ drop headerLength bs
+  running-rest =
+      drop-drop operationLength partLength bs
+      ∙ sym (take-append-drop (operationLength + spareLength) (drop haltedAt bs))
+      ∙ ap (λ (x : List ℕ). kept ++ x) (drop-drop (operationLength + spareLength) haltedAt bs)
+
+  pub kept-length : length kept ≡ operationLength + spareLength
+  kept-length = simp (length-take, length-drop) (omega arith)
+
+  module _ (w : Work) (y : List ℕ) (e : y ≡ operationBytes (workCells w)) where
+    abbrev going : List ℕ
+    going = take partLength bs ++ (y ++ drop operationLength (drop partLength bs))
+
+    pub going-length : length going ≡ recordLength
+    going-length =
+        length-append (take partLength bs) (y ++ drop operationLength (drop partLength bs))
+        ∙ simp (length-append, length-take, length-drop) (omega (arith, ap length e, operation-length (workCells w)))
+
+    pub part-kept : (p : Part) → partBytes p ++ drop partLength going ≡ headerRunning p w bs ++ drop headerLength bs
+    part-kept p =
+        let t : length (take partLength bs) ≡ partLength = simp length-take (omega arith) in
+        let b = operationBytes (workCells w) in
+        ap (λ (x : List ℕ). partBytes p ++ x)
+        (drop-at (take partLength bs) (y ++ drop operationLength (drop partLength bs)) partLength t ∙ rw (e, running-rest) (sym (append-assoc b kept (drop headerLength bs))))
+        ∙ sym (append-assoc (partBytes p) (b ++ kept) (drop headerLength bs))
+
+  pub running-header-length : (p : Part) (w : Work) → length (headerRunning p w bs) ≡ headerLength
+  running-header-length p w =
+      length-append (partBytes p) (operationBytes (workCells w) ++ kept)
+      ∙ simp length-append (omega (arith, part-length p, operation-length (workCells w), kept-length))
+
+-- x is a record's bytes with a header h written over them
+module _ (bs h x : List ℕ) (lh : length h ≡ headerLength) (l : length bs ≡ recordLength) (e : x ≡ h ++ drop headerLength bs) where
   pub page-room : length (take pageBytes (drop headerLength x)) ≡ pageBytes
-  page-room = room bs (header p s) headerLength pageBytes x (header-length p s) e (omega arith)
+  page-room = room bs h headerLength pageBytes x lh e (omega arith)
 
   -- page data is there as it was
   pub page-there : take pageBytes (drop headerLength x) ≡ drop headerLength bs
   page-there =
-      there bs (header p s) headerLength pageBytes x (header-length p s) e (omega arith) ∙ take-all pageBytes (drop headerLength bs) (simp length-drop (omega arith))
+      there bs h headerLength pageBytes x lh e (omega arith) ∙ take-all pageBytes (drop headerLength bs) (simp length-drop (omega arith))
 
   -- and other page data in its place
-  pub page-laid : (y z : List ℕ) → y ≡ z → take headerLength x ++ (y ++ drop pageBytes (drop headerLength x)) ≡ header p s ++ z
-  page-laid y z h =
+  pub page-laid : (y z : List ℕ) → y ≡ z → take headerLength x ++ (y ++ drop pageBytes (drop headerLength x)) ≡ h ++ z
+  page-laid y z q =
       let m : length bs ≤ recordLength = omega arith in
       let n : drop recordLength bs ≡ [] = drop-of-length-le bs m in
-      laid bs (header p s) headerLength pageBytes x (header-length p s) e (omega arith) y z h ∙ ap (λ (t : List ℕ). (header p s ++ z) ++ t) n ∙ append-nil (header p s ++ z)
+      laid bs h headerLength pageBytes x lh e (omega arith) y z q ∙ ap (λ (t : List ℕ). (h ++ z) ++ t) n ∙ append-nil (h ++ z)
 
--- the bytes of an idle phase
-pub idle-bytes : (f : Phase) → isIdle f ≡ true → replicate phaseLength 0 ≡ phaseBytes (cellsOf f)
-unfolding phaseBytes
-idle-bytes Idle e = refl
-idle-bytes (Busy o) e = absurd (false≢true e)
-idle-bytes (Suspended o) e = absurd (false≢true e)
+-- the bytes of no operation
+pub none-bytes : replicate operationLength 0 ≡ operationBytes (workCells NoWork)
+unfolding operationBytes
+none-bytes = refl
 
 -- a part, byte by byte
 pub part-as : (p : Part) (w a z : ℕ) → w ≡ bit (p .wel) → a ≡ bit (p .armed) → z ≡ bit (p .asleep)
@@ -124,40 +163,70 @@ pub part-as : (p : Part) (w a z : ℕ) → w ≡ bit (p .wel) → a ≡ bit (p .
 unfolding partBytes
 part-as p w a z ew ea ez = rw (ew, ea, ez)
 
--- zeros with the phase, the kind and the value written in their places, and then the numbers
-module _ (s : Cells) (z : List ℕ) (ez : z ≡ replicate phaseLength 0) where
-  abbrev two : List ℕ
-  two = set (set z 0 (s .phase)) 1 (s .kind)
+-- bytes with others written at a place
+abbrev more : ℕ → ℕ → List ℕ → List ℕ → List ℕ
+more at k xs n = take at xs ++ (n ++ drop k (drop at xs))
+
+-- zeros with the kind and the value written in their places, and then the numbers
+module _ (s : Cells) (z : List ℕ) (ez : z ≡ replicate operationLength 0) where
+  abbrev one : List ℕ
+  one = set z 0 (s .kind)
 
   abbrev first : List ℕ
-  first = set two 2 (s .value)
+  first = set one 1 (s .value)
 
-  abbrev more : ℕ → List ℕ → List ℕ → List ℕ
-  more at xs n = take at xs ++ (n ++ drop 8 (drop at xs))
-
-  pub two-length : length two ≡ phaseLength
-  two-length = rw ez
-
-  pub first-length : length first ≡ phaseLength
+  pub first-length : length first ≡ operationLength
   first-length = rw ez
 
-  pub base-room : length (take 8 (drop 3 first)) ≡ 8
-  base-room = rw ez
-
   module _ (b : List ℕ) (eb : b ≡ highFirstBytes 8 (s .base)) where
-    pub base-length : length (more 3 first b) ≡ phaseLength
+    pub base-length : length (more baseAt 8 first b) ≡ operationLength
     base-length = rw (ez, eb)
 
-    pub count-room : length (take 8 (drop 11 (more 3 first b))) ≡ 8
-    count-room = rw (ez, eb)
-
     module _ (k : List ℕ) (ek : k ≡ highFirstBytes 8 (s .count)) where
-      pub count-length : length (more 11 (more 3 first b) k) ≡ phaseLength
+      pub count-length : length (more countAt 8 (more baseAt 8 first b) k) ≡ operationLength
       count-length = rw (ez, eb, ek)
 
-      pub done-room : length (take 8 (drop 19 (more 11 (more 3 first b) k))) ≡ 8
-      done-room = rw (ez, eb, ek)
-
-      pub cells-laid : (d : List ℕ) → d ≡ highFirstBytes 8 (s .done) → more 19 (more 11 (more 3 first b) k) d ≡ phaseBytes s
-      unfolding phaseBytes
+      pub cells-laid : (d : List ℕ) → d ≡ highFirstBytes 8 (s .done) → more doneAt 8 (more countAt 8 (more baseAt 8 first b) k) d ≡ operationBytes s
+      unfolding operationBytes
       cells-laid d ed = rw (ez, eb, ek, ed)
+
+-- bytes with what runs written over the first of them, then what is suspended, and then the zeros
+module _ (z : List ℕ) (l : length z ≡ phaseLength) (w h : Work) (a : List ℕ) (ea : a ≡ operationBytes (workCells w)) where
+  abbrev ran : List ℕ
+  ran = more 0 operationLength z a
+
+  a-length : length a ≡ operationLength
+  a-length = ap length ea ∙ operation-length (workCells w)
+
+  pub ran-length : length ran ≡ phaseLength
+  ran-length = simp (length-append, length-drop) (omega (arith, a-length))
+
+  module _ (b : List ℕ) (eb : b ≡ operationBytes (workCells h)) where
+    b-length : length b ≡ operationLength
+    b-length = ap length eb ∙ operation-length (workCells h)
+
+    abbrev stood : List ℕ
+    stood = more operationLength operationLength ran b
+
+    stood-as : stood ≡ (a ++ b) ++ drop (operationLength + operationLength) z
+    stood-as = laid z a operationLength operationLength ran a-length refl (omega arith) b b refl
+
+    both-length : length (a ++ b) ≡ operationLength + operationLength
+    both-length = length-append a b ∙ simp (a-length, b-length) refl
+
+    pub stood-length : length stood ≡ phaseLength
+    stood-length = ap length stood-as ∙ simp (length-append, length-drop) (omega (arith, a-length, b-length))
+
+    pub spare-room : length (take spareLength (drop (operationLength + operationLength) stood)) ≡ spareLength
+    spare-room = simp (length-take, length-drop) (omega (arith, stood-length))
+
+    pub works-laid : (s : List ℕ) → s ≡ replicate spareLength 0 → more (operationLength + operationLength) spareLength stood s ≡ worksBytes w h
+    unfolding worksBytes
+    works-laid s es =
+        let m : length z ≤ phaseLength = omega arith in
+        let n : drop phaseLength z ≡ [] = drop-of-length-le z m in
+        laid z (a ++ b) (operationLength + operationLength) spareLength stood both-length stood-as (omega arith) s s refl
+        ∙ ap (λ (t : List ℕ). ((a ++ b) ++ s) ++ t) n
+        ∙ append-nil ((a ++ b) ++ s)
+        ∙ append-assoc a b s
+        ∙ rw (ea, eb, es)

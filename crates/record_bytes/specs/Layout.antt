@@ -3,19 +3,22 @@ use Prim.Native.Nat.{ℕ, _+_}
 use mathlib.Core.Bool.{cond}
 use mathlib.Core.List.{List, [], _∷_, _++_}
 use lib.Dec.{eqb}
-use lib.ListN.{length, drop, set}
+use lib.ListN.{length, take, drop, replicate, set}
 use Rattle.types.specs.declared.Stored.{Stored}
+use Rattle.types.specs.declared.Phase.{Phase}
+use Rattle.types.specs.declared.Work.{Work}
 use Rattle.types.specs.declared.Part.{Part}
 use Rattle.types.specs.declared.Record.{Record}
 use Rattle.types.specs.declared.Change.{Change}
-use Rattle.types.specs.declared.Change.the-variants.{Same, Marked, Live, Became}
+use Rattle.types.specs.declared.Change.the-variants.{Same, Marked, Live, Anew, Runs, Became}
 use Rattle.words.specs.Logic.{bit}
 use Rattle.paper.specs.Sizes.{pageBytes}
+use Rattle.paper.specs.Phases.{running, halted}
 use Rattle.paper.specs.Commands.{pageAfter}
 use Rattle.paper.specs.Calls.{noStored}
 use Rattle.address.specs.Bytes.{highFirstBytes}
 use Rattle.cells.specs.declared.Cells.{Cells}
-use Rattle.cells.specs.Phases.{cellsOf}
+use Rattle.cells.specs.Operations.{workCells}
 
 -- the registers, of which a field has a byte each
 abbrev pub storedBytes : Stored → List ℕ
@@ -47,28 +50,36 @@ liveAt = marksAt + 3
 abbrev pub partLength : ℕ
 partLength = marksAt + 4
 
--- behind them the phase, the operation's kind, its start or value, and in eight bytes each its base, its count and its ticks done
-abbrev pub phaseAt : ℕ
-phaseAt = partLength
-
-abbrev pub kindAt : ℕ
-kindAt = partLength + 1
-
-abbrev pub valueAt : ℕ
-valueAt = partLength + 2
-
+-- an operation has so many: its kind, its start or value, and in eight bytes each its base, its count and its ticks done
 abbrev pub baseAt : ℕ
-baseAt = partLength + 3
+baseAt = 2
 
 abbrev pub countAt : ℕ
-countAt = partLength + 11
+countAt = baseAt + 8
 
 abbrev pub doneAt : ℕ
-doneAt = partLength + 19
+doneAt = countAt + 8
 
--- so many say what it does
+abbrev pub operationLength : ℕ
+operationLength = doneAt + 8
+
+-- behind the part stand what runs, what is suspended, and zeros
+abbrev pub runningAt : ℕ
+runningAt = partLength
+
+abbrev pub haltedAt : ℕ
+haltedAt = runningAt + operationLength
+
+abbrev pub spareAt : ℕ
+spareAt = haltedAt + operationLength
+
+-- so many zeros: with them and page data an idle part has 320 bytes in a row that are 0, which are looked at in wide steps with none left over
+abbrev pub spareLength : ℕ
+spareLength = 12
+
+-- so many bytes say what it does
 abbrev pub phaseLength : ℕ
-phaseLength = 27
+phaseLength = operationLength + (operationLength + spareLength)
 
 -- the bytes of a header, and of a record
 abbrev pub headerLength : ℕ
@@ -85,32 +96,46 @@ partBytes p =
     ++ storedBytes (p .stored)
     ++ (bit (p .wel) ∷ bit (p .armed) ∷ bit (p .asleep) ∷ p .live ∷ [])
 
--- what it does
-unfoldable pub phaseBytes : Cells → List ℕ
-phaseBytes s =
-    (s .phase ∷ s .kind ∷ s .value ∷ [])
+-- an operation
+unfoldable pub operationBytes : Cells → List ℕ
+operationBytes s =
+    (s .kind ∷ s .value ∷ [])
     ++ highFirstBytes 8 (s .base)
     ++ highFirstBytes 8 (s .count)
     ++ highFirstBytes 8 (s .done)
 
+-- what runs and what is suspended, with the zeros behind them
+unfoldable pub worksBytes : Work → Work → List ℕ
+worksBytes w h = operationBytes (workCells w) ++ (operationBytes (workCells h) ++ replicate spareLength 0)
+
+-- what it does: what runs and what is suspended; of none of them zeros
+abbrev pub phaseBytes : Phase → List ℕ
+phaseBytes f = worksBytes (running f) (halted f)
+
 -- the header
-abbrev pub header : Part → Cells → List ℕ
-header p s = partBytes p ++ phaseBytes s
+abbrev pub header : Part → Phase → List ℕ
+header p f = partBytes p ++ phaseBytes f
 
 -- the whole
 unfoldable pub recordBytes : Record → List ℕ
-recordBytes p = header (p .part) (cellsOf (p .phase)) ++ p .page
+recordBytes p = header (p .part) (p .phase) ++ p .page
 
 -- a buffer with the record written; one of another length is left as it is
 unfoldable pub written : Record → List ℕ → List ℕ
 written p bs = cond (eqb (length bs) recordLength) (recordBytes p) bs
+
+-- the header of a record's bytes with other work running: the part and what runs are written, what is suspended stays
+abbrev pub headerRunning : Part → Work → List ℕ → List ℕ
+headerRunning q w bs = partBytes q ++ (operationBytes (workCells w) ++ take (operationLength + spareLength) (drop haltedAt bs))
 
 -- the bytes of a record after a change by a call with the input i
 abbrev pub bytesChanged : Change → List ℕ → List ℕ → List ℕ
 bytesChanged Same i bs = bs
 bytesChanged (Marked armed) i bs = set bs armedAt (bit armed)
 bytesChanged (Live v) i bs = set (set bs armedAt 0) liveAt v
-bytesChanged (Became q f d) i bs = header q (cellsOf f) ++ pageAfter d i (drop headerLength bs)
+bytesChanged (Anew q) i bs = partBytes q ++ drop partLength bs
+bytesChanged (Runs q w d) i bs = headerRunning q w bs ++ pageAfter d i (drop headerLength bs)
+bytesChanged (Became q f d) i bs = header q f ++ pageAfter d i (drop headerLength bs)
 
 -- a buffer with the change written; bytes of another length are left as they are
 unfoldable pub changeWritten : Change → List ℕ → List ℕ → List ℕ

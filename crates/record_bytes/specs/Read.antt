@@ -6,25 +6,37 @@ use mathlib.Core.List.{List, [], _∷_}
 use lib.Dec.{eqb, leb}
 use lib.ListN.{length, getD, take, drop}
 use Rattle.types.specs.declared.Phase.{Phase}
+use Rattle.types.specs.declared.Work.{Work}
 use Rattle.types.specs.declared.Stored.{Stored}
 use Rattle.types.specs.declared.Part.{Part}
 use Rattle.types.specs.declared.Record.{Record}
 use Rattle.words.specs.Logic.{_and_}
+use Rattle.words.specs.Lists.{allZero}
 use Rattle.paper.specs.Sizes.{pageBytes}
+use Rattle.paper.specs.Phases.{running, halted, isIdle, phaseOf}
 use Rattle.paper.specs.Address.{highFirst}
 use Rattle.paper.specs.Calls.{zeroRecord}
 use Rattle.cells.specs.declared.Cells.{Cells}
-use Rattle.cells.specs.Phases.{cells, cellsOf, phaseOf}
+use Rattle.cells.specs.Operations.{cells, workCells, workOf}
 use Rattle.record_bytes.specs.declared.Found.{Found}
-use Rattle.record_bytes.specs.Layout.{storedAt, welAt, armedAt, asleepAt, liveAt, phaseAt, kindAt, valueAt, baseAt, countAt, doneAt, headerLength, recordLength, header}
+use Rattle.record_bytes.specs.declared.Seen.{Seen}
+use Rattle.record_bytes.specs.Layout.{storedAt, welAt, armedAt, asleepAt, liveAt, baseAt, countAt, doneAt, operationLength, runningAt, haltedAt, headerLength, recordLength, header}
 
 -- the number that k bytes from a place on are
 abbrev pub numberAt : List ℕ → ℕ → ℕ → ℕ
 numberAt bs at k = highFirst (take k (drop at bs))
 
--- the cells in a header
+-- the cells of the operation in its bytes
 unfoldable pub cellsIn : List ℕ → Cells
-cellsIn bs = cells (getD bs phaseAt 0) (getD bs kindAt 0) (getD bs valueAt 0) (numberAt bs baseAt 8) (numberAt bs countAt 8) (numberAt bs doneAt 8)
+cellsIn bs = cells (getD bs 0 0) (getD bs 1 0) (numberAt bs baseAt 8) (numberAt bs countAt 8) (numberAt bs doneAt 8)
+
+-- the bytes of an operation from a place on
+abbrev pub operationAt : List ℕ → ℕ → List ℕ
+operationAt bs at = take operationLength (drop at bs)
+
+-- the operation there, or none
+abbrev pub workIn : List ℕ → ℕ → Work
+workIn bs at = workOf (cellsIn (operationAt bs at))
 
 -- the registers that stand in the bytes f 0, f 1, ..
 abbrev pub storedOf : (ℕ → ℕ) → Stored
@@ -37,7 +49,7 @@ partIn bs =
 
 -- the phase so
 abbrev pub phaseIn : List ℕ → Phase
-phaseIn bs = phaseOf (cellsIn bs)
+phaseIn bs = phaseOf (workIn bs runningAt) (workIn bs haltedAt)
 
 -- and the whole record
 unfoldable pub fieldsIn : List ℕ → Record
@@ -47,11 +59,10 @@ fieldsIn bs = record { part = partIn bs; phase = phaseIn bs; page = drop headerL
 unfoldable pub marksIn : List ℕ → Bool
 marksIn bs = leb (getD bs welAt 0) 1 and leb (getD bs armedAt 0) 1 and leb (getD bs asleepAt 0) 1
 
--- two phases have the same cells
+-- two operations have the same cells
 unfoldable pub sameCells : Cells → Cells → Bool
 sameCells s t =
-    eqb (s .phase) (t .phase)
-    and eqb (s .kind) (t .kind)
+    eqb (s .kind) (t .kind)
     and eqb (s .value) (t .value)
     and eqb (s .base) (t .base)
     and eqb (s .count) (t .count)
@@ -68,7 +79,7 @@ sameBytes (x ∷ xs) (y ∷ ys) = eqb x y and sameBytes xs ys
 unfoldable pub holds : List ℕ → Bool
 holds bs =
     eqb (length bs) recordLength
-    and sameBytes (header (partIn bs) (cellsOf (phaseIn bs))) (take headerLength bs)
+    and sameBytes (header (partIn bs) (phaseIn bs)) (take headerLength bs)
 
 -- what bytes hold: a record, or none where ok is false
 pub record Held : Type 0 where
@@ -87,14 +98,26 @@ held p = record { ok = true; state = p }
 unfoldable pub recordIn : List ℕ → Held
 recordIn bs = cond (holds bs) (held (fieldsIn bs)) nothing
 
+-- a record is held that is idle and has no page data
+abbrev pub emptyIn : Held → Bool
+emptyIn h = h .ok and isIdle (h .state .phase) and allZero (h .state .page)
+
 -- what is held, but for page data
 abbrev pub found : Held → Found
 found h = record { ok = h .ok; part = h .state .part; phase = h .state .phase }
 
--- the numbers of a record fit their fields, as they do in code
+-- and the same, told whether an idle part has no page data
+abbrev pub seen : Held → Seen
+seen h = record { ok = h .ok; part = h .state .part; phase = h .state .phase; empty = emptyIn h }
+
+-- the numbers of an operation, and those of a record, fit their fields, as they do in code
+pub record Fitting (s : Cells) : Type 0 where
+  pub base : s .base < 2 ^ 64
+  pub count : s .count < 2 ^ 64
+  pub done : s .done < 2 ^ 64
+
 pub record Fits (p : Record) : Type 0 where
   pub blocks : p .part .blocks < 2 ^ 16
-  pub base : cellsOf (p .phase) .base < 2 ^ 64
-  pub count : cellsOf (p .phase) .count < 2 ^ 64
-  pub done : cellsOf (p .phase) .done < 2 ^ 64
+  pub runs : Fitting (workCells (running (p .phase)))
+  pub suspended : Fitting (workCells (halted (p .phase)))
   pub page : length (p .page) ≡ pageBytes

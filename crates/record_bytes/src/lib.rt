@@ -15,3 +15,11 @@ pub struct Found {
     pub part: Part,
     pub phase: Phase,
 }
+
+// The same, told whether it is a record that is idle and has no page data.
+pub struct Seen {
+    pub ok: bool,
+    pub part: Part,
+    pub phase: Phase,
+    pub empty: bool,
+}

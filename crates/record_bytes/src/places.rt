@@ -26,11 +26,22 @@ pub const ASLEEP: usize = ARMED + 1;
 
 pub const LIVE: usize = ASLEEP + 1;
 
-// What it does, in cells: the phase, the operation's kind, its start or value, and in eight bytes each its base, its
-// count and its ticks done.
-pub const PHASE: usize = LIVE + 1;
+// What it does, in cells: what runs, and what is suspended. Zeros stand behind them, so many that with page data an idle
+// part has 320 bytes in a row that are 0: they are looked at in wide steps, with none left over.
+pub const RUNNING: usize = LIVE + 1;
 
-pub const OPERATION: usize = PHASE + 1;
+pub const HALTED: usize = RUNNING + OPERATION_BYTES;
+
+pub const SPARE: usize = HALTED + OPERATION_BYTES;
+
+// Page data, and the end of the record.
+pub const PAGE: usize = SPARE + 12;
+
+pub const END: usize = PAGE + types::PAGE_BYTES;
+
+// The places of an operation's cells among its own bytes: its kind, its start or value, and in eight bytes each its
+// base, its count and its ticks done.
+pub const OPERATION: usize = 0;
 
 pub const VALUE: usize = OPERATION + 1;
 
@@ -40,7 +51,4 @@ pub const COUNT: usize = BASE + 8;
 
 pub const DONE: usize = COUNT + 8;
 
-// Page data, and the end of the record.
-pub const PAGE: usize = DONE + 8;
-
-pub const END: usize = PAGE + types::PAGE_BYTES;
+pub const OPERATION_BYTES: usize = DONE + 8;

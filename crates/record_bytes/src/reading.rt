@@ -1,9 +1,12 @@
 // The record that bytes hold.
 ghost use mathlib.Core.Path.{_≡_};
 ghost use lib.ListN.{length, getD};
-ghost use Rattle.record_bytes.specs.Layout.{recordLength};
-ghost use Rattle.record_bytes.specs.Read.{sameCells, marksIn, cellsIn, storedOf, partIn, nothing, recordIn, found, Fits};
+ghost use Rattle.paper.specs.Calls.{zeroRecord};
+ghost use Rattle.cells.specs.Operations.{workCells};
+ghost use Rattle.record_bytes.specs.Layout.{operationLength, recordLength};
+ghost use Rattle.record_bytes.specs.Read.{sameCells, marksIn, cellsIn, storedOf, partIn, nothing, recordIn, found, seen, Fitting, Fits};
 use crate::Found;
+use crate::Seen;
 use crate::places;
 use cells::Cells;
 use types::Identity;
@@ -11,17 +14,17 @@ use types::Part;
 use types::Phase;
 use types::Record;
 use types::Stored;
+use types::Work;
 
-// The cells of a phase at their places, whatever stands there.
+// The cells of an operation in its bytes, whatever stands there.
 fn cells_in(bytes: &[u8]) -> Cells
-    requires { ⌜ length (now bytes) ≡ recordLength ⌝ }
+    requires { ⌜ length (now bytes) ≡ operationLength ⌝ }
     ensures { λ r. ⌜ r ≡ cellsIn (now (bytes .entry)) ⌝ }
 {
     let base = address::high_first(&bytes[places::BASE..places::COUNT]);
     let count = address::high_first(&bytes[places::COUNT..places::DONE]);
-    let done = address::high_first(&bytes[places::DONE..places::PAGE]);
+    let done = address::high_first(&bytes[places::DONE..places::OPERATION_BYTES]);
     Cells {
-        phase: bytes[places::PHASE],
         kind: bytes[places::OPERATION],
         value: bytes[places::VALUE],
         base: base,
@@ -78,23 +81,22 @@ fn marks_in(bytes: &[u8]) -> bool
     words::both(wel, words::both(armed, asleep))
 }
 
-// Whether two phases have the same cells.
+// Whether two operations have the same cells.
 fn same_cells(a: Cells, b: Cells) -> bool
     ensures { λ r. ⌜ r ≡ sameCells a b ⌝ }
 {
-    let phase = a.phase == b.phase;
     let kind = a.kind == b.kind;
     let value = a.value == b.value;
     let base = a.base == b.base;
     let count = a.count == b.count;
     let done = a.done == b.done;
-    let numbers = words::both(base, words::both(count, done));
-    words::both(phase, words::both(kind, words::both(value, numbers)))
+    let last = words::both(base, words::both(count, done));
+    words::both(kind, words::both(value, last))
 }
 
-// No record: part and phase are those of a refused power-up.
-fn none_found() -> Found
-    ensures { λ r. ⌜ r ≡ found nothing ⌝ }
+// The part of no record: that of a refused power-up.
+fn no_part() -> Part
+    ensures { λ r. ⌜ r ≡ zeroRecord .part ⌝ }
 {
     let identity = Identity {
         maker: 0,
@@ -103,7 +105,14 @@ fn none_found() -> Found
         device: 0,
     };
     let stored = record::no_stored();
-    let part = record::fresh_part(1, identity, stored);
+    record::fresh_part(1, identity, stored)
+}
+
+// No record: part and phase are those of a refused power-up.
+fn none_found() -> Found
+    ensures { λ r. ⌜ r ≡ found nothing ⌝ }
+{
+    let part = no_part();
     Found {
         ok: false,
         part: part,
@@ -111,41 +120,102 @@ fn none_found() -> Found
     }
 }
 
-// The part and the phase of the record that bytes hold, or none. Page data stays where it is.
-// Bytes hold a record where the marks are marks, and the cells are those of the phase that they are read as: an idle
-// phase has no cell but zero, and no more is asked of it. A transaction asks this, which mostly finds the part idle.
-pub fn read_part(bytes: &[u8]) -> Found
-    ensures { λ r. ⌜ r ≡ found (recordIn (now (bytes .entry))) ⌝ }
+fn none_seen() -> Seen
+    ensures { λ r. ⌜ r ≡ seen nothing ⌝ }
+{
+    let part = no_part();
+    Seen {
+        ok: false,
+        part: part,
+        phase: Phase::Idle,
+        empty: false,
+    }
+}
+
+// The part and the phase of the record that bytes hold, or none, and whether it is idle and has no page data. Page data
+// stays where it is.
+// Bytes hold a record where the marks are marks, the cells are those of the operations that they are read as, and all else
+// is zero. A transaction asks this, which mostly finds the part idle.
+pub fn read_part(bytes: &[u8]) -> Seen
+    ensures { λ r. ⌜ r ≡ seen (recordIn (now (bytes .entry))) ⌝ }
 {
     let n = bytes.len();
     if n != places::END {
-        return none_found();
+        return none_seen();
     }
     let part = part_in(bytes);
-    let cells = cells_in(bytes);
     let marks = marks_in(bytes);
-    let idle = same_cells(cells::cells_of(Phase::Idle), cells);
-    if words::both(marks, idle) {
-        return Found {
+    let runs = bytes[places::RUNNING] != 0;
+    let stands = bytes[places::HALTED] != 0;
+    if words::both(!runs, !stands) {
+        let quiet = runs::zero_from(&bytes[places::RUNNING..places::END], 0);
+        if words::both(marks, quiet) {
+            return Seen {
+                ok: true,
+                part: part,
+                phase: Phase::Idle,
+                empty: true,
+            };
+        }
+        let idle = runs::zero_from(&bytes[places::RUNNING..places::PAGE], 0);
+        if words::both(marks, idle) {
+            return Seen {
+                ok: true,
+                part: part,
+                phase: Phase::Idle,
+                empty: false,
+            };
+        }
+        return none_seen();
+    }
+    if !stands {
+        let running = cells_in(&bytes[places::RUNNING..places::HALTED]);
+        let op = cells::operation_in(running);
+        let kept = same_cells(cells::cells_of(op), running);
+        let alone = runs::zero_from(&bytes[places::HALTED..places::PAGE], 0);
+        if words::both(marks, words::both(kept, alone)) {
+            return Seen {
+                ok: true,
+                part: part,
+                phase: Phase::Busy(op),
+                empty: false,
+            };
+        }
+        return none_seen();
+    }
+    let halted = cells_in(&bytes[places::HALTED..places::SPARE]);
+    let outer = cells::operation_in(halted);
+    let beneath = same_cells(cells::cells_of(outer), halted);
+    let spare = runs::zero_from(&bytes[places::SPARE..places::PAGE], 0);
+    let held = words::both(marks, words::both(spare, beneath));
+    if !runs {
+        let rests = runs::zero_from(&bytes[places::RUNNING..places::HALTED], 0);
+        if words::both(held, rests) {
+            return Seen {
+                ok: true,
+                part: part,
+                phase: Phase::Suspended(outer),
+                empty: false,
+            };
+        }
+        return none_seen();
+    }
+    let running = cells_in(&bytes[places::RUNNING..places::HALTED]);
+    let op = cells::operation_in(running);
+    let kept = same_cells(cells::cells_of(op), running);
+    if words::both(held, kept) {
+        return Seen {
             ok: true,
             part: part,
-            phase: Phase::Idle,
+            phase: Phase::Nested(outer, op),
+            empty: false,
         };
     }
-    let doing = cells::phase_of(cells);
-    let same = same_cells(cells::cells_of(doing), cells);
-    if words::both(marks, same) {
-        return Found {
-            ok: true,
-            part: part,
-            phase: doing,
-        };
-    }
-    none_found()
+    none_seen()
 }
 
-// The same, one way for every phase. A tick call asks this, which mostly finds the part busy. Each of the two has one
-// caller in the archive for C, so that it is compiled in place there.
+// The same, and page data is not looked at. Ticks ask this. Each of the two has one caller in the archive for C, so that it
+// is compiled in place there.
 pub fn read_any(bytes: &[u8]) -> Found
     ensures { λ r. ⌜ r ≡ found (recordIn (now (bytes .entry))) ⌝ }
 {
@@ -153,17 +223,73 @@ pub fn read_any(bytes: &[u8]) -> Found
         return none_found();
     }
     let part = part_in(bytes);
-    let cells = cells_in(bytes);
-    let phase = cells::phase_of(cells);
-    let own = same_cells(cells::cells_of(phase), cells);
-    if words::both(marks_in(bytes), own) {
+    let whole = marks_in(bytes);
+    let runs = bytes[places::RUNNING] != 0;
+    let stands = bytes[places::HALTED] != 0;
+    if words::both(!runs, !stands) {
+        let idle = runs::zero_from(&bytes[places::RUNNING..places::PAGE], 0);
+        if words::both(whole, idle) {
+            return Found {
+                ok: true,
+                part: part,
+                phase: Phase::Idle,
+            };
+        }
+        return none_found();
+    }
+    if !stands {
+        let running = cells_in(&bytes[places::RUNNING..places::HALTED]);
+        let op = cells::operation_in(running);
+        let kept = same_cells(cells::cells_of(op), running);
+        let alone = runs::zero_from(&bytes[places::HALTED..places::PAGE], 0);
+        if words::both(whole, words::both(kept, alone)) {
+            return Found {
+                ok: true,
+                part: part,
+                phase: Phase::Busy(op),
+            };
+        }
+        return none_found();
+    }
+    let halted = cells_in(&bytes[places::HALTED..places::SPARE]);
+    let outer = cells::operation_in(halted);
+    let beneath = same_cells(cells::cells_of(outer), halted);
+    let spare = runs::zero_from(&bytes[places::SPARE..places::PAGE], 0);
+    let held = words::both(whole, words::both(spare, beneath));
+    if !runs {
+        let rests = runs::zero_from(&bytes[places::RUNNING..places::HALTED], 0);
+        if words::both(held, rests) {
+            return Found {
+                ok: true,
+                part: part,
+                phase: Phase::Suspended(outer),
+            };
+        }
+        return none_found();
+    }
+    let running = cells_in(&bytes[places::RUNNING..places::HALTED]);
+    let op = cells::operation_in(running);
+    let kept = same_cells(cells::cells_of(op), running);
+    if words::both(held, kept) {
         return Found {
             ok: true,
             part: part,
-            phase: phase,
+            phase: Phase::Nested(outer, op),
         };
     }
     none_found()
+}
+
+// What the type of an operation says of its cells: those of none are 0.
+fn fitting(work: Work)
+    ensures { λ _. ⌜ Fitting (workCells work) ⌝ }
+{
+    match work {
+        Work::NoWork => {}
+        Work::At(op) => {
+            let cells = cells::cells_of(op);
+        }
+    }
 }
 
 // What the type of a record says of its numbers.
@@ -171,7 +297,8 @@ fn fits(state: Record)
     ensures { λ _. ⌜ Fits state ⌝ }
 {
     let phase = state.phase;
-    let cells = cells::cells_of(phase);
+    fitting(phases::running(phase));
+    fitting(phases::halted(phase));
 }
 
 // A record that is written and read back is that record, whatever it is.

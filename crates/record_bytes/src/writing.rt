@@ -5,17 +5,19 @@ ghost use lib.ListN.{length, drop};
 ghost use Rattle.paper.specs.Sizes.{pageBytes};
 ghost use Rattle.paper.specs.Commands.{pageAfter};
 ghost use Rattle.address.specs.Bytes.{highFirstBytes};
-ghost use Rattle.cells.specs.Phases.{cellsOf};
-ghost use Rattle.record_bytes.specs.Layout.{partLength, phaseLength, headerLength, recordLength, partBytes, phaseBytes, header, written, changeWritten};
+ghost use Rattle.cells.specs.Operations.{cellsOf, workCells};
+ghost use Rattle.record_bytes.specs.Layout.{partLength, operationLength, phaseLength, headerLength, recordLength, partBytes, operationBytes, phaseBytes, header, headerRunning, written, changeWritten};
 use crate::places;
 use types::Change;
 use types::Data;
+use types::Operation;
 use types::Part;
 use types::Phase;
 use types::Record;
+use types::Work;
 
 // What a part is, in bytes.
-fn part_bytes(part: Part) -> [u8; places::PHASE]
+fn part_bytes(part: Part) -> [u8; places::RUNNING]
     ensures { λ r. ⌜ r ≡ partBytes part ⌝ }
 {
     let identity = part.identity;
@@ -40,14 +42,12 @@ fn part_bytes(part: Part) -> [u8; places::PHASE]
     ]
 }
 
-// Where base, count and ticks done stand among the bytes of a phase.
-const BASE: usize = places::BASE - places::PHASE;
+// Where what is suspended stands among the bytes of a phase, and where the zeros do.
+const HALTED: usize = places::HALTED - places::RUNNING;
 
-const COUNT: usize = places::COUNT - places::PHASE;
+const SPARE: usize = places::SPARE - places::RUNNING;
 
-const DONE: usize = places::DONE - places::PHASE;
-
-const END: usize = places::PAGE - places::PHASE;
+const END: usize = places::PAGE - places::RUNNING;
 
 // What a part is, written over the first of a record's bytes.
 fn write_part(part: Part, bytes: &mut [u8])
@@ -67,40 +67,60 @@ fn write_number(number: usize, bytes: &mut [u8])
     bytes::copy(&eight, bytes);
 }
 
-// What a part does, written where it stands in a header.
-fn write_cells(phase: Phase, bytes: &mut [u8])
-    requires { ⌜ length (now bytes) ≡ phaseLength ⌝ }
-    ensures { λ _. ⌜ now (bytes .exit) ≡ phaseBytes (cellsOf phase) ⌝ }
+// The cells of an operation, written over its bytes.
+fn write_operation(op: Operation, bytes: &mut [u8])
+    requires { ⌜ length (now bytes) ≡ operationLength ⌝ }
+    ensures { λ _. ⌜ now (bytes .exit) ≡ operationBytes (cellsOf op) ⌝ }
 {
-    let cells = cells::cells_of(phase);
+    let cells = cells::cells_of(op);
     // The proof begins with these zeros. Each byte is written after them, and the compiler leaves them out.
     runs::fill(bytes, 0);
-    bytes[0] = cells.phase;
-    bytes[1] = cells.kind;
-    bytes[2] = cells.value;
-    write_number(cells.base, &mut bytes[BASE..COUNT]);
-    write_number(cells.count, &mut bytes[COUNT..DONE]);
-    write_number(cells.done, &mut bytes[DONE..END]);
+    bytes[places::OPERATION] = cells.kind;
+    bytes[places::VALUE] = cells.value;
+    write_number(cells.base, &mut bytes[places::BASE..places::COUNT]);
+    write_number(cells.count, &mut bytes[places::COUNT..places::DONE]);
+    write_number(
+        cells.done,
+        &mut bytes[places::DONE..places::OPERATION_BYTES],
+    );
 }
 
-// The same: zeros where the part is idle, with no cell worked out.
+// What runs or is suspended, written over its bytes: zeros where that is nothing.
+fn write_work(work: Work, bytes: &mut [u8])
+    requires { ⌜ length (now bytes) ≡ operationLength ⌝ }
+    ensures { λ _. ⌜ now (bytes .exit) ≡ operationBytes (workCells work) ⌝ }
+{
+    match work {
+        Work::NoWork => runs::fill(bytes, 0),
+        Work::At(op) => write_operation(op, bytes),
+    }
+}
+
+// What a part does, written where it stands in a header.
 fn write_phase(phase: Phase, bytes: &mut [u8])
     requires { ⌜ length (now bytes) ≡ phaseLength ⌝ }
-    ensures { λ _. ⌜ now (bytes .exit) ≡ phaseBytes (cellsOf phase) ⌝ }
+    ensures { λ _. ⌜ now (bytes .exit) ≡ phaseBytes phase ⌝ }
 {
-    if phases::is_idle(phase) {
-        runs::fill(bytes, 0);
-        return;
-    }
-    write_cells(phase, bytes);
+    write_work(phases::running(phase), &mut bytes[0..HALTED]);
+    write_work(phases::halted(phase), &mut bytes[HALTED..SPARE]);
+    runs::fill(&mut bytes[SPARE..END], 0);
 }
 
 // The header of a part in a phase, written over a record's.
 fn write_header(part: Part, phase: Phase, bytes: &mut [u8])
     requires { ⌜ length (now bytes) ≡ recordLength ⌝ }
-    ensures { λ _. ⌜ now (bytes .exit) ≡ header part (cellsOf phase) ++ drop headerLength (now (bytes .entry)) ⌝ }
+    ensures { λ _. ⌜ now (bytes .exit) ≡ header part phase ++ drop headerLength (now (bytes .entry)) ⌝ }
 {
-    write_phase(phase, &mut bytes[places::PHASE..places::PAGE]);
+    write_phase(phase, &mut bytes[places::RUNNING..places::PAGE]);
+    write_part(part, bytes);
+}
+
+// The header of a part with other work running: what is suspended stays.
+fn write_running(part: Part, work: Work, bytes: &mut [u8])
+    requires { ⌜ length (now bytes) ≡ recordLength ⌝ }
+    ensures { λ _. ⌜ now (bytes .exit) ≡ headerRunning part work (now (bytes .entry)) ++ drop headerLength (now (bytes .entry)) ⌝ }
+{
+    write_work(work, &mut bytes[places::RUNNING..places::HALTED]);
     write_part(part, bytes);
 }
 
@@ -149,6 +169,11 @@ pub fn write_change(change: Change, input: &[u8], bytes: &mut [u8])
             bytes[places::ARMED] = 0;
             bytes[places::LIVE] = live;
         }
+        Change::Anew(part) => write_part(part, bytes),
+        Change::Runs(part, work, becomes) => {
+            write_running(part, work, bytes);
+            write_page(becomes, input, &mut bytes[places::PAGE..places::END]);
+        }
         Change::Became(part, phase, becomes) => {
             write_header(part, phase, bytes);
             write_page(becomes, input, &mut bytes[places::PAGE..places::END]);
@@ -173,6 +198,12 @@ pub fn write_after(change: Change, bytes: &mut [u8])
         Change::Live(byte) => {
             bytes[places::ARMED] = 0;
             bytes[places::LIVE] = byte;
+        }
+        Change::Anew(part) => write_part(part, bytes),
+        Change::Runs(part, work, page) => {
+            write_running(part, work, bytes);
+            let none_sent = [0u8; 0];
+            write_page(page, &none_sent, &mut bytes[places::PAGE..places::END]);
         }
         Change::Became(part, phase, page) => {
             write_header(part, phase, bytes);

@@ -1,8 +1,8 @@
--- What a list of calls keeps beside soundness and size: the identity, and where each call is ticks or a refused transaction both marks. Lists are joined, with what they reach.
+-- What a list of calls keeps beside soundness and size: the identity, and where each call is ticks or a refused transaction both marks.
 use Prim.Native.Nat.{ℕ, zero, suc, _+_}
-use mathlib.Core.Path.{_≡_, refl, sym, ap, subst⁻¹, _∙_}
+use mathlib.Core.Path.{_≡_, refl, subst⁻¹, _∙_}
 use mathlib.Core.Bool.{Bool, true, false, cond}
-use mathlib.Core.List.{List, [], _∷_, _++_, append-assoc}
+use mathlib.Core.List.{List, [], _∷_}
 use lib.ListN.{length}
 use lib.Dec.{eqb, ltb}
 use borrow.Author.Tests.{not-true}
@@ -13,12 +13,12 @@ use Rattle.types.specs.declared.Record.{Record}
 use Rattle.words.proofs.Tests.{and-l, and-r}
 use Rattle.paper.specs.Sizes.{arrayBytes, rowsBytes}
 use Rattle.paper.specs.Phases.{running}
-use Rattle.paper.specs.Operations.{Touch, ticksInAll, ticksDone, advancedBy}
+use Rattle.paper.specs.Operations.{ticksInAll, ticksDone, advancedBy}
 use Rattle.paper.specs.Soundness.{sound}
 use Rattle.paper.specs.Numbers.{transactionRefusal}
 use Rattle.paper.specs.Ticks.{finished, advanced, worked, tickedAt, recordAfter}
 use Rattle.paper.specs.Calls.{outcomeOf, transacted}
-use Rattle.paper.specs.History.{Call, transaction, ticks, recordAfterCall, recordAfterCalls, callTouches, history, standsAside}
+use Rattle.paper.specs.History.{Call, transaction, ticks, recordAfterCall, recordAfterCalls, standsAside}
 use Rattle.paper.proofs.CallKept.{after-tick-call}
 use Rattle.paper.proofs.TransactionKept.{transaction-identity}
 use Rattle.reset.specs.Closing.{allAside}
@@ -81,14 +81,3 @@ pub all-aside-alike : (cs : List Call) (p : Record) → allAside cs p ≡ true �
 all-aside-alike [] p h = alike p
 all-aside-alike (c ∷ cs) p h =
     alike-on (aside-alike p c (and-l _ _ h)) (all-aside-alike cs (recordAfterCall c p) (and-r _ _ h))
-
--- some calls, then others
-pub calls-append : (cs ds : List Call) (p : Record) → recordAfterCalls (cs ++ ds) p ≡ recordAfterCalls ds (recordAfterCalls cs p)
-calls-append [] ds p = refl
-calls-append (c ∷ cs) ds p = calls-append cs ds (recordAfterCall c p)
-
-pub history-append : (cs ds : List Call) (p : Record) → history (cs ++ ds) p ≡ history cs p ++ history ds (recordAfterCalls cs p)
-history-append [] ds p = refl
-history-append (c ∷ cs) ds p =
-    ap (λ (ts : List Touch). callTouches c p ++ ts) (history-append cs ds (recordAfterCall c p))
-    ∙ sym (append-assoc (callTouches c p) (history cs (recordAfterCall c p)) (history ds (recordAfterCalls cs (recordAfterCall c p))))

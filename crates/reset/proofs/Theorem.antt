@@ -16,8 +16,9 @@ use Rattle.paper.specs.History.{Call, recordAfterCall, recordAfterCalls, histor
 use Rattle.paper.proofs.Soundness.{recordOf, sound-parts}
 use Rattle.paper.proofs.Kept.{power-up-sound, powered-fresh}
 use Rattle.paper.proofs.CallKept.{calls-sound, calls-size}
+use Rattle.paper.proofs.Histories.{calls-append, history-append}
 use Rattle.reset.specs.Closing.{wake, arm, reset, allAside, untilArmed, untilReset, closing, poweredAs, answerToReset, FreshAfter}
-use Rattle.reset.proofs.Aside.{calls-identity, all-aside-alike, calls-append, history-append}
+use Rattle.reset.proofs.Aside.{calls-identity, all-aside-alike}
 use Rattle.reset.proofs.Steps.{woken, armed-now, reset-now, powered-as}
 
 -- a part that is awake and armed, and that 99h may be sent to

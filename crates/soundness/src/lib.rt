@@ -2,11 +2,13 @@
 ghost use mathlib.Core.Path.{_≡_};
 ghost use lib.ListN.{drop};
 ghost use Rattle.types.specs.declared.Phase.the-variants.{Idle};
+ghost use Rattle.words.specs.Logic.{_and_};
 ghost use Rattle.words.specs.Lists.{allZero};
 ghost use Rattle.paper.specs.Sizes.{sizeOk};
-ghost use Rattle.paper.specs.Soundness.{latchOk, phaseOk, keptIn, partSound, sound};
+ghost use Rattle.paper.specs.Soundness.{latchOk, nestOk, operationOk, keptIn, partSound, sound};
 ghost use Rattle.paper.proofs.Soundness.{recordOf};
-ghost use Rattle.soundness.specs.Judged.{workIn, workOk};
+ghost use Rattle.soundness.specs.Judged.{workIn, workOk, outerOk, soundTold};
+use types::Operation;
 use types::Part;
 use types::Phase;
 use types::Record;
@@ -19,11 +21,12 @@ fn latch_ok(phase: Phase, wel: bool) -> bool
     match phase {
         Phase::Idle => true,
         Phase::Busy(_) => wel,
-        Phase::Suspended(_) => !wel,
+        Phase::Suspended(op) => words::either(phases::is_erase(op), !wel),
+        Phase::Nested(..) => wel,
     }
 }
 
-// What a part is busy with or suspended from.
+// What a part is busy with, or suspended from.
 fn work_in(phase: Phase) -> Work
     ensures { λ r. ⌜ r ≡ workIn phase ⌝ }
 {
@@ -31,6 +34,7 @@ fn work_in(phase: Phase) -> Work
         Phase::Idle => Work::NoWork,
         Phase::Busy(op) => Work::At(op),
         Phase::Suspended(op) => Work::At(op),
+        Phase::Nested(_, inner) => Work::At(inner),
     }
 }
 
@@ -46,11 +50,44 @@ fn work_ok(work: Work, suspended: bool, blocks: u16, stored: Stored) -> bool
     }
 }
 
-fn phase_ok(phase: Phase, blocks: u16, stored: Stored) -> bool
-    ensures { λ r. ⌜ r ≡ phaseOk phase blocks stored ⌝ }
+// Whether a program may run within a suspended erase.
+fn nest_ok(outer: Operation, inner: Operation, blocks: u16) -> bool
+    ensures { λ r. ⌜ r ≡ nestOk outer inner blocks ⌝ }
 {
-    let work = work_in(phase);
-    work_ok(work, phases::is_suspended(phase), blocks, stored)
+    let erases = phases::is_erase(outer);
+    let halts = operations::can_suspend(outer);
+    let programs = phases::is_program(inner);
+    let page = operations::can_suspend(inner);
+    let apart = operations::outside_of(Work::At(outer), blocks, inner);
+    words::both(
+        erases,
+        words::both(halts, words::both(programs, words::both(page, apart))),
+    )
+}
+
+// Whether it may, and a part can be suspended from the erase.
+fn nested_ok(outer: Operation, inner: Operation, blocks: u16, stored: Stored) -> bool
+    ensures { λ r. ⌜ r ≡ (nestOk outer inner blocks and operationOk outer blocks stored) ⌝ }
+{
+    let nests = nest_ok(outer, inner, blocks);
+    words::both(nests, operations::operation_ok(outer, blocks, stored))
+}
+
+// The same of a phase, where a program runs so.
+fn outer_ok(phase: Phase, blocks: u16, stored: Stored) -> bool
+    ensures { λ r. ⌜ r ≡ outerOk phase blocks stored ⌝ }
+{
+    match phase {
+        Phase::Idle => true,
+        Phase::Busy(_) => true,
+        Phase::Suspended(_) => true,
+        Phase::Nested(outer, inner) => {
+            // copied here, so that a phase that is not nested is not put into memory for this call
+            let beneath = outer;
+            let within = inner;
+            nested_ok(beneath, within, blocks, stored)
+        }
+    }
 }
 
 fn kept_in(phase: Phase) -> usize
@@ -60,19 +97,23 @@ fn kept_in(phase: Phase) -> usize
         Phase::Idle => 0,
         Phase::Busy(op) => operations::kept_by(op),
         Phase::Suspended(op) => operations::kept_by(op),
+        Phase::Nested(_, inner) => operations::kept_by(inner),
     }
 }
 
-// Whether a part in a phase is sound, whatever its page data.
-fn is_sound_part(part: Part, phase: Phase) -> bool
+// Whether a part in a phase is sound, whatever its page data, where its size was tested.
+fn is_sound_part(size: bool, part: Part, phase: Phase) -> bool
+    requires { ⌜ size ≡ sizeOk (part .blocks) ⌝ }
     ensures { λ r. ⌜ r ≡ partSound part phase ⌝ }
 {
     let stored = part.stored;
-    let size = sizes::size_ok(part.blocks as u64);
     let sleep = words::either(phases::is_idle(phase), !part.asleep);
     let latch = latch_ok(phase, part.wel);
-    let operation = phase_ok(phase, part.blocks, stored);
+    let outer = outer_ok(phase, part.blocks, stored);
+    let work = work_in(phase);
+    let own = work_ok(work, phases::is_suspended(phase), part.blocks, stored);
     let bits = record::bits_ok(phase, part.wel, stored);
+    let operation = words::both(outer, own);
     words::both(
         size,
         words::both(sleep, words::both(latch, words::both(operation, bits))),
@@ -90,43 +131,51 @@ fn is_zero_from(page: &[u8], from: usize) -> bool
     runs::zero_from(page, from)
 }
 
-// Whether a record is sound that is an idle part with page data, where its size was tested: the tests that are not met by
-// being idle.
-fn is_sound_idle(size: bool, part: Part, page: &[u8]) -> bool
+// Whether an idle part is sound, whose size was tested, and which has no page data: the tests that are not met by being
+// idle.
+fn is_sound_idle(size: bool, part: Part, empty: bool) -> bool
     requires { ⌜ size ≡ sizeOk (part .blocks) ⌝ }
-    ensures { λ r. ⌜ r ≡ sound (recordOf part Idle (now (page .entry))) ⌝ }
+    ensures { λ r. ⌜ r ≡ (partSound part Idle and empty) ⌝ }
 {
     let stored = part.stored;
     let bits = record::bits_ok(Phase::Idle, part.wel, stored);
-    let kept = runs::zero_from(page, 0);
-    words::both(size, words::both(bits, kept))
+    words::both(size, words::both(bits, empty))
 }
 
-// Whether a record is sound that is a part in a phase with page data: an idle one by fewer tests. The size is tested
-// before, so that a caller who tests it too has it tested once. A transaction asks it, which mostly finds the part idle.
-pub fn is_sound_in(part: Part, phase: Phase, page: &[u8]) -> bool
-    ensures { λ r. ⌜ r ≡ sound (recordOf part phase (now (page .entry))) ⌝ }
+// Whether a record is sound that is a part in a phase with page data, where it is told of an idle one whether it has no
+// page data: an idle one by fewer tests. The size is tested before, so that a caller who tests it too has it tested
+// once. A transaction asks it, which mostly finds the part idle.
+pub fn is_sound_told(part: Part, phase: Phase, empty: bool, page: &[u8]) -> bool
+    ensures { λ r. ⌜ r ≡ soundTold part phase empty (now (page .entry)) ⌝ }
 {
     let size = sizes::size_ok(part.blocks as u64);
     if phases::is_idle(phase) {
-        return is_sound_idle(size, part, page);
+        return is_sound_idle(size, part, empty);
     }
-    // copied here, so that an idle part and its phase are not put into memory for this call
-    let working = part;
-    let doing = phase;
-    let whole = is_sound_part(working, doing);
-    let kept = is_zero_from(page, kept_in(doing));
+    let whole = is_sound_part(size, part, phase);
+    let kept = is_zero_from(page, kept_in(phase));
     words::both(whole, kept)
 }
 
-// The same, one way for every phase. Ticks ask it, which mostly find the part busy. Each of the two has one caller in
-// the archive for C, so that it is compiled in place there.
+// Whether a record is sound that is a part in a phase with page data, one way for every phase. Ticks ask it, which mostly
+// find the part busy. Each of the two has one caller in the archive for C, so that it is compiled in place there.
 pub fn is_sound_any(part: Part, phase: Phase, page: &[u8]) -> bool
     ensures { λ r. ⌜ r ≡ sound (recordOf part phase (now (page .entry))) ⌝ }
 {
-    let from = kept_in(phase);
-    let whole = is_sound_part(part, phase);
-    let zero_after = is_zero_from(page, from);
+    let stored = part.stored;
+    let size = sizes::size_ok(part.blocks as u64);
+    let rested = words::either(phases::is_idle(phase), !part.asleep);
+    let latch = latch_ok(phase, part.wel);
+    let outer = outer_ok(phase, part.blocks, stored);
+    let work = work_in(phase);
+    let own = work_ok(work, phases::is_suspended(phase), part.blocks, stored);
+    let bits = record::bits_ok(phase, part.wel, stored);
+    let operation = words::both(outer, own);
+    let whole = words::both(
+        size,
+        words::both(rested, words::both(latch, words::both(operation, bits))),
+    );
+    let zero_after = is_zero_from(page, kept_in(phase));
     words::both(whole, zero_after)
 }
 
@@ -137,5 +186,5 @@ pub fn is_sound(state: Record) -> bool
     let part = state.part;
     let phase = state.phase;
     let page = state.page;
-    is_sound_in(part, phase, &page)
+    is_sound_any(part, phase, &page)
 }

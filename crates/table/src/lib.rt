@@ -65,11 +65,11 @@ pub fn columns_of(command: Command) -> Columns
         Command::ReadMakerDevice => line(AtLeast(4), NO, OrHalted, Bare, Any, MakerPair, 4, Looks),
         Command::Wake => line(AtLeast(1), NO, OrAsleep, Bare, Any, DeviceByte, 4, Wakes),
         Command::ReadRow => line(AtLeast(5), NO, OrHalted, InRow, Any, RowBytes, 5, Looks),
-        Command::WriteEnable => line(Exactly(1), NO, Rest, Bare, Any, None, 0, Enables),
-        Command::WriteDisable => line(Exactly(1), NO, Rest, Bare, Any, None, 0, Disables),
+        Command::WriteEnable => line(Exactly(1), NO, Esus, Bare, Any, None, 0, Enables),
+        Command::WriteDisable => line(Exactly(1), NO, Esus, Bare, Any, None, 0, Disables),
         Command::WriteStatus => line(Exactly(2), WEL, Rest, Bare, Any, None, 0, Writes(Status)),
         Command::WriteFunction => line(Exactly(2), WEL, Rest, Bare, Any, None, 0, Writes(Function)),
-        Command::PageProgram => line(AtLeast(5), WEL, Rest, Place, Any, None, 0, Programs(Array)),
+        Command::PageProgram => line(AtLeast(5), WEL, Esus, Place, Any, None, 0, Programs(Array)),
         Command::SectorErase => line(Exactly(4), WEL, Rest, Place, Any, None, 0, Erases(Sector)),
         Command::BlockErase32 => line(Exactly(4), WEL, Rest, Place, Any, None, 0, Erases(Block32)),
         Command::BlockErase64 => line(Exactly(4), WEL, Rest, Place, Any, None, 0, Erases(Block64)),
@@ -94,6 +94,7 @@ pub fn taken_asleep(taken: Taken) -> bool
 {
     match taken {
         Taken::Rest => false,
+        Taken::Esus => false,
         Taken::OrHalted => false,
         Taken::OrBusy => false,
         Taken::Awake => false,
@@ -107,6 +108,7 @@ pub fn taken_busy(taken: Taken) -> bool
 {
     match taken {
         Taken::Rest => false,
+        Taken::Esus => false,
         Taken::OrHalted => false,
         Taken::OrBusy => true,
         Taken::Awake => true,
@@ -114,12 +116,13 @@ pub fn taken_busy(taken: Taken) -> bool
     }
 }
 
-// Whether it is taken while the part is suspended.
-pub fn taken_suspended(taken: Taken) -> bool
-    ensures { λ r. ⌜ r ≡ takenSuspended taken ⌝ }
+// Whether it is taken while the part is suspended, from an erase or from a program.
+pub fn taken_suspended(taken: Taken, erase: bool) -> bool
+    ensures { λ r. ⌜ r ≡ takenSuspended taken erase ⌝ }
 {
     match taken {
         Taken::Rest => false,
+        Taken::Esus => erase,
         Taken::OrHalted => true,
         Taken::OrBusy => false,
         Taken::Awake => true,

@@ -43,13 +43,13 @@ module _ (m : Memory) (g xs : List ℕ) where
       let a : b + (d + k) * pageBytes ≡ b + d * pageBytes + k * pageBytes = omega arith in
       rw (e, ran-erase u b d k e, a)
 
-  pub ran-program : (w : Memory) (b s c d k : ℕ) → sameMemory m w ≡ true → ran m k (Program w b s c d) g xs ≡ bytesNarrowed k b s d g xs
-  ran-program w b s c d zero e = refl
-  ran-program w b s c d (suc k) e = rw (e, ran-program w b s c d k e)
+  pub ran-program : (w : Memory) (s b c d k : ℕ) → sameMemory m w ≡ true → ran m k (Program w s b c d) g xs ≡ bytesNarrowed k b s d g xs
+  ran-program w s b c d zero e = refl
+  ran-program w s b c d (suc k) e = rw (e, ran-program w s b c d k e)
 
-  pub ran-program-not : (w : Memory) (b s c d k : ℕ) → sameMemory m w ≡ false → ran m k (Program w b s c d) g xs ≡ xs
-  ran-program-not w b s c d zero e = refl
-  ran-program-not w b s c d (suc k) e = rw e (ran-program-not w b s c d k e)
+  pub ran-program-not : (w : Memory) (s b c d k : ℕ) → sameMemory m w ≡ false → ran m k (Program w s b c d) g xs ≡ xs
+  ran-program-not w s b c d zero e = refl
+  ran-program-not w s b c d (suc k) e = rw e (ran-program-not w s b c d k e)
 
   pub ran-write : (r : Register) (v k : ℕ) → ran m k (Write r v) g xs ≡ xs
   ran-write r v zero = refl
@@ -62,7 +62,7 @@ pick-bytes Rows n a r e f = sym f
 
 -- the ticks that are left to an operation that is in order stay within the memory
 pub left-within : (o : Operation) (n : ℕ) (g : Stored) (k a r : ℕ) → InOrder o n g → k ≤ ticksInAll o n - ticksDone o → a ≡ arrayBytes n → r ≡ rowsBytes → Within o k a r
-left-within (Program m b s c d) n g k a r i h e f =
+left-within (Program m s b c d) n g k a r i h e f =
     let few : c ≤ pageBytes = leb-true _ _ (and-l _ _ (and-r _ _ (i .content))) in
     let w : b + pageBytes ≤ memoryBytes m n = leb-true _ _ (i .within) in
     (omega (arith, i .going), omega (arith, pick-bytes m n a r e f))
@@ -73,7 +73,7 @@ left-within (Write w v) n g k a r i h e f = tt
 
 -- and they are not many
 pub all-le : (o : Operation) (n : ℕ) (g : Stored) → InOrder o n g → n < 65536 → ticksInAll o n ≤ 16777216
-all-le (Program m b s c d) n g i h =
+all-le (Program m s b c d) n g i h =
     let few : c ≤ pageBytes = leb-true _ _ (and-l _ _ (and-r _ _ (i .content))) in
     omega arith
 all-le (Erase u b d) n g i h = omega (arith, unit-pages-le u n h)

@@ -12,13 +12,13 @@ use Rattle.types.specs.declared.Work.{Work}
 use Rattle.types.specs.declared.Work.the-variants.{NoWork, At}
 use Rattle.types.specs.declared.Data.the-variants.{Kept, Zero}
 use Rattle.types.specs.declared.Change.{Change}
-use Rattle.types.specs.declared.Change.the-variants.{Same, Became}
+use Rattle.types.specs.declared.Change.the-variants.{Same, Runs}
 use Rattle.types.specs.declared.Record.{Record}
 use Rattle.types.specs.declared.Ticked.{Ticked}
 use Rattle.types.specs.declared.Waited.{Waited}
 use Rattle.words.specs.Logic.{_and_}
 use Rattle.paper.specs.Sizes.{pageBytes}
-use Rattle.paper.specs.Phases.{running, goingOn, restOf}
+use Rattle.paper.specs.Phases.{running}
 use Rattle.paper.specs.Operations.{advancedBy}
 use Rattle.paper.specs.Soundness.{sound}
 use Rattle.paper.specs.Commands.{changed}
@@ -32,7 +32,7 @@ use Rattle.ticks.specs.Waited.{ticksLeft, tickChange, soundIn, numberIn,
 
 -- whichever it is
 changed-as : (p : Record) (o : Operation) (k : ℕ) (t : Bool)
-    → changed (cond {A = Change} t (Became (finishedPart (p .part) (p .phase) o) (restOf (p .phase)) Zero) (Became (p .part) (goingOn (p .phase) (advancedBy k o)) Kept)) [] p
+    → changed (cond {A = Change} t (Runs (finishedPart (p .part) (p .phase) o) NoWork Zero) (Runs (p .part) (At (advancedBy k o)) Kept)) [] p
     ≡ cond t (finished p o) (advanced p (advancedBy k o))
 changed-as p o k true = refl
 changed-as p o k false = refl

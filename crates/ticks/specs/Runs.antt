@@ -28,6 +28,6 @@ pick Rows a r = r
 
 -- k ticks of an operation stay within an array of a and rows of r bytes, and within the page data
 abbrev pub Within : Operation → ℕ → ℕ → ℕ → Type 0
-Within (Program m b s c d) k a r = (d + k ≤ pageBytes) × (b + pageBytes ≤ pick m a r)
+Within (Program m s b c d) k a r = (d + k ≤ pageBytes) × (b + pageBytes ≤ pick m a r)
 Within (Erase u b d) k a r = b + (d + k) * pageBytes ≤ pick (memoryOf u) a r
 Within (Write r v) k a r′ = Unit {0}

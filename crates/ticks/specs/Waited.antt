@@ -13,12 +13,12 @@ use Rattle.types.specs.declared.Part.{Part}
 use Rattle.types.specs.declared.Record.{Record}
 use Rattle.types.specs.declared.Data.the-variants.{Kept, Zero}
 use Rattle.types.specs.declared.Change.{Change}
-use Rattle.types.specs.declared.Change.the-variants.{Same, Became}
+use Rattle.types.specs.declared.Change.the-variants.{Same, Runs}
 use Rattle.types.specs.declared.Ticked.{Ticked}
 use Rattle.types.specs.declared.Waited.{Waited}
 use Rattle.words.specs.Logic.{_and_, whenZero}
 use Rattle.paper.specs.Sizes.{pageBytes}
-use Rattle.paper.specs.Phases.{running, goingOn, restOf}
+use Rattle.paper.specs.Phases.{running}
 use Rattle.paper.specs.Operations.{ticksInAll, ticksDone, advancedBy}
 use Rattle.paper.specs.Soundness.{sound}
 use Rattle.paper.specs.Commands.{changed}
@@ -35,8 +35,8 @@ ticksLeft o blocks = ticksInAll o blocks - ticksDone o
 abbrev pub changeAfter : ℕ → Operation → Part → Phase → Change
 changeAfter k o p f =
     cond (eqb k (ticksLeft o (p .blocks)))
-    (Became (finishedPart p f o) (restOf f) Zero)
-    (Became p (goingOn f (advancedBy k o)) Kept)
+    (Runs (finishedPart p f o) NoWork Zero)
+    (Runs p (At (advancedBy k o)) Kept)
 
 -- what n ticks change, where w runs
 abbrev pub tickChange : ℕ → Work → Part → Phase → Change

@@ -173,10 +173,9 @@ fn change_after(count: usize, left: usize, op: Operation, part: Part, phase: Pha
 {
     if count == left {
         let last = finish(part, phase, op);
-        return Change::Became(last, phases::rest_of(phase), Data::Zero);
+        return Change::Runs(last, Work::NoWork, Data::Zero);
     }
-    let next = phases::going_on(phase, advance(op, count));
-    Change::Became(part, next, Data::Kept)
+    Change::Runs(part, Work::At(advance(op, count)), Data::Kept)
 }
 
 // Ticks of a part on which an operation runs.

@@ -53,8 +53,8 @@ pub enum Operation {
     // PP or the row program: count bytes of page data, the first of which goes to the page's place start.
     Program {
         memory: Memory,
-        base: usize,
         start: u8,
+        base: usize,
         count: usize,
         done: usize,
     },
@@ -70,11 +70,13 @@ pub enum Operation {
     },
 }
 
-// A part is idle, busy with one operation, or suspended from one.
+// A part is idle, busy with one operation, or suspended from one; or it is suspended from the first of two, an erase, and
+// busy with the second, the inner program.
 pub enum Phase {
     Idle,
     Busy(Operation),
     Suspended(Operation),
+    Nested(Operation, Operation),
 }
 
 // An operation, or none: what runs, what is suspended, what a transaction begins.
@@ -126,11 +128,14 @@ pub enum Data {
 }
 
 // What a call makes of a record: the same; the same but for the armed mark; unarmed, and the same but for the live byte;
-// or part and phase anew, and page data so.
+// the part anew; the part anew, what runs and page data so, and what is suspended as it was; or part and phase anew, and
+// page data so.
 pub enum Change {
     Same,
     Marked(bool),
     Live(u8),
+    Anew(Part),
+    Runs(Part, Work, Data),
     Became(Part, Phase, Data),
 }
 
@@ -209,10 +214,11 @@ pub enum Effect {
     ClearsErrors,
 }
 
-// When a command is taken: at rest, awake and idle; also while suspended; also while busy; whenever the part is awake;
-// or also while suspended or asleep.
+// When a command is taken: at rest, awake and idle; also while an erase is suspended, ESUS 1; also while suspended; also
+// while busy; whenever the part is awake; or also while suspended or asleep.
 pub enum Taken {
     Rest,
+    Esus,
     OrHalted,
     OrBusy,
     Awake,

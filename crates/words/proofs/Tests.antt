@@ -37,6 +37,16 @@ unfolding _and_
 and-false true = refl
 and-false false = refl
 
+pub or-true : (a : Bool) → (a or true) ≡ true
+unfolding _or_
+or-true true = refl
+or-true false = refl
+
+pub or-false : (a : Bool) → (a or false) ≡ a
+unfolding _or_
+or-false true = refl
+or-false false = refl
+
 pub or-cases : (a b : Bool) → (a or b) ≡ true → (a ≡ true) ⊎ (b ≡ true)
 unfolding _or_
 or-cases true b e = inl refl

@@ -120,7 +120,8 @@ pub extern "C" fn yawlspar_transact(
     }
     let part = found.part;
     let phase = found.phase;
-    let sound = soundness::is_sound_in(part, phase, &bytes[places::PAGE..places::END]);
+    let empty = found.empty;
+    let sound = soundness::is_sound_told(part, phase, empty, &bytes[places::PAGE..places::END]);
     let level = wp <= 1;
     let high = wp == 1;
     let fit = words::both(sound, level);

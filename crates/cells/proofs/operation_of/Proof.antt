@@ -1,6 +1,6 @@
 -- `cells::operation_of` meets its contract: an arm of one kind rewrites the kind and the definition computes; in the last the kind is none of those before.
 use borrow.Author.Tests.{ne-eqb}
-use Rattle.cells.specs.Phases.{operationOf}
+use Rattle.cells.specs.Operations.{operationOf}
 use borrow.Author.Needs.{needs}
 use Rattle.cells.proofs.operation_of.Statement.{statement}
 use Rattle.cells.proofs.operation_of.Tie as tie

@@ -24,8 +24,20 @@ set-live-requires c κs = search needs
 enum-known-change-3 : tie.Need-enum-known-change-3
 enum-known-change-3 c = search needs
 
+enum-known-change-4 : tie.Need-enum-known-change-4
+enum-known-change-4 c = search needs
+
+running-in-requires : tie.Need-running-in-requires
+running-in-requires c κs = search needs
+
 page-after-requires : tie.Need-page-after-requires
 page-after-requires c κs = search needs
+
+enum-known-change-5 : tie.Need-enum-known-change-5
+enum-known-change-5 c = search needs
+
+page-after-requires-2 : tie.Need-page-after-requires-2
+page-after-requires-2 c κs = search needs
 
 returns : tie.Need-returns
 returns c = rw (c .enum-told .given .1)
@@ -37,7 +49,13 @@ returns-3 : tie.Need-returns-3
 returns-3 c = rw (c .before .before .before .before .change2 .given .1, c .set-live .ensures, c .before .mark2 .ensures)
 
 returns-4 : tie.Need-returns-4
-returns-4 c = rw (c .before .before .change3 .given .1, c .page-after .ensures)
+returns-4 c = rw (c .before .change3 .given .1)
+
+returns-5 : tie.Need-returns-5
+returns-5 c = rw (c .before .before .before .change4 .given .1, c .page-after .ensures, c .before .running-in .ensures)
+
+returns-6 : tie.Need-returns-6
+returns-6 c = rw (c .before .before .change5 .given .1, c .page-after2 .ensures)
 
 pub apply-spec : {M : Type 1} → statement M
 apply-spec =
@@ -50,8 +68,14 @@ apply-spec =
     mark-requires-2
     set-live-requires
     enum-known-change-3
+    enum-known-change-4
+    running-in-requires
     page-after-requires
+    enum-known-change-5
+    page-after-requires-2
     returns
     returns-2
     returns-3
-    returns-4)
+    returns-4
+    returns-5
+    returns-6)

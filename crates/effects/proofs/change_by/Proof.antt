@@ -12,11 +12,17 @@ enum-told-2 c = search needs
 settle-requires : tie.Need-settle-requires
 settle-requires c κs = search needs
 
+unarm-requires : tie.Need-unarm-requires
+unarm-requires c κs = search needs
+
 enum-told-3 : tie.Need-enum-told-3
 enum-told-3 c = search needs
 
 settle-requires-2 : tie.Need-settle-requires-2
 settle-requires-2 c κs = search needs
+
+unarm-requires-2 : tie.Need-unarm-requires-2
+unarm-requires-2 c κs = search needs
 
 enum-told-4 : tie.Need-enum-told-4
 enum-told-4 c = search needs
@@ -60,8 +66,8 @@ enum-told-9 c = search needs
 rest-requires : tie.Need-rest-requires
 rest-requires c κs = search needs
 
-mark-requires : tie.Need-mark-requires
-mark-requires c κs = search needs
+unarm-requires-3 : tie.Need-unarm-requires-3
+unarm-requires-3 c κs = search needs
 
 enum-told-10 : tie.Need-enum-told-10
 enum-told-10 c = search needs
@@ -69,8 +75,8 @@ enum-told-10 c = search needs
 rest-requires-2 : tie.Need-rest-requires-2
 rest-requires-2 c κs = search needs
 
-mark-requires-2 : tie.Need-mark-requires-2
-mark-requires-2 c κs = search needs
+unarm-requires-4 : tie.Need-unarm-requires-4
+unarm-requires-4 c κs = search needs
 
 enum-told-11 : tie.Need-enum-told-11
 enum-told-11 c = search needs
@@ -103,10 +109,10 @@ returns : tie.Need-returns
 returns c = rw (c .enum-told .given .1)
 
 returns-2 : tie.Need-returns-2
-returns-2 c = rw (c .before .enum-told2 .given .1) (c .settle .ensures)
+returns-2 c = rw (c .before .before .enum-told2 .given .1, c .unarm .ensures, c .before .settle .ensures)
 
 returns-3 : tie.Need-returns-3
-returns-3 c = rw (c .before .enum-told3 .given .1) (c .settle2 .ensures)
+returns-3 c = rw (c .before .before .enum-told3 .given .1, c .unarm2 .ensures, c .before .settle2 .ensures)
 
 returns-4 : tie.Need-returns-4
 returns-4 c = rw (c .before .enum-told4 .given .1) (c .start .ensures)
@@ -124,10 +130,10 @@ returns-8 : tie.Need-returns-8
 returns-8 c = rw (c .before .before .enum-told8 .given .1, ← c .before .resumed-in .ensures) (c .settle4 .ensures)
 
 returns-9 : tie.Need-returns-9
-returns-9 c = rw (c .before .before .enum-told9 .given .1, c .mark .ensures, c .before .rest .ensures)
+returns-9 c = rw (c .before .before .enum-told9 .given .1, c .unarm3 .ensures, c .before .rest .ensures)
 
 returns-10 : tie.Need-returns-10
-returns-10 c = rw (c .before .before .enum-told10 .given .1, c .mark2 .ensures, c .before .rest2 .ensures)
+returns-10 c = rw (c .before .before .enum-told10 .given .1, c .unarm4 .ensures, c .before .rest2 .ensures)
 
 returns-11 : tie.Need-returns-11
 returns-11 c = rw (c .enum-told11 .given .1)
@@ -148,8 +154,10 @@ change-by-spec =
     enum-told
     enum-told-2
     settle-requires
+    unarm-requires
     enum-told-3
     settle-requires-2
+    unarm-requires-2
     enum-told-4
     start-requires
     enum-told-5
@@ -164,10 +172,10 @@ change-by-spec =
     settle-requires-4
     enum-told-9
     rest-requires
-    mark-requires
+    unarm-requires-3
     enum-told-10
     rest-requires-2
-    mark-requires-2
+    unarm-requires-4
     enum-told-11
     enum-told-12
     fresh-part-requires

@@ -9,19 +9,29 @@ enum-told c = search needs
 enum-known-work : tie.Need-enum-known-work
 enum-known-work c = search needs
 
-started-in-requires : tie.Need-started-in-requires
-started-in-requires c κs = search needs
+working-on-requires : tie.Need-working-on-requires
+working-on-requires c κs = search needs
 
 settle-requires : tie.Need-settle-requires
 settle-requires c κs = search needs
+
+mark-requires : tie.Need-mark-requires
+mark-requires c κs = search needs
 
 returns : tie.Need-returns
 returns c = rw (c .enum-told .given .1)
 
 returns-2 : tie.Need-returns-2
-returns-2 c = rw (c .before .before .before .work .given .1, c .settle .ensures, c .before .started-in .ensures)
+returns-2 c = rw (c .before .before .before .before .work .given .1, c .mark .ensures, c .before .settle .ensures, c .before .before .working-on .ensures)
 
 pub start-spec : {M : Type 1} → statement M
 start-spec =
     tie.close
-    (tie.spec enum-told enum-known-work started-in-requires settle-requires returns returns-2)
+    (tie.spec
+    enum-told
+    enum-known-work
+    working-on-requires
+    settle-requires
+    mark-requires
+    returns
+    returns-2)

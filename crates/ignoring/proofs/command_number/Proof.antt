@@ -1,7 +1,7 @@
 -- `ignoring::command_number` meets its contract: it joins the eight tests in the paper's order.
-use mathlib.Core.Path.{_∙_}
-use Rattle.words.proofs.Tests.{orElse-none}
 use Rattle.paper.specs.Numbers.{commandNumber}
+use Rattle.words.proofs.Tests.{orElse-none}
+use mathlib.Core.Path.{_∙_}
 use borrow.Author.Needs.{needs}
 use Rattle.ignoring.proofs.command_number.Statement.{statement}
 use Rattle.ignoring.proofs.command_number.Tie as tie
@@ -21,14 +21,8 @@ is-busy-requires c κs = search needs
 either-requires-2 : tie.Need-either-requires-2
 either-requires-2 c κs = search needs
 
-taken-suspended-requires : tie.Need-taken-suspended-requires
-taken-suspended-requires c κs = search needs
-
-is-suspended-requires : tie.Need-is-suspended-requires
-is-suspended-requires c κs = search needs
-
-either-requires-3 : tie.Need-either-requires-3
-either-requires-3 c κs = search needs
+suspended-ok-requires : tie.Need-suspended-ok-requires
+suspended-ok-requires c κs = search needs
 
 length-ok-requires : tie.Need-length-ok-requires
 length-ok-requires c κs = search needs
@@ -36,8 +30,8 @@ length-ok-requires c κs = search needs
 state-ok-requires : tie.Need-state-ok-requires
 state-ok-requires c κs = search needs
 
-either-requires-4 : tie.Need-either-requires-4
-either-requires-4 c κs = search needs
+either-requires-3 : tie.Need-either-requires-3
+either-requires-3 c κs = search needs
 
 address-ok-requires : tie.Need-address-ok-requires
 address-ok-requires c κs = search needs
@@ -83,17 +77,15 @@ returns c =
       c .before .before .before .before .before .before .before .number-or .ensures ∙ orElse-none _,
       c .before .before .before .before .before .before .before .before .free-ok .ensures,
       c .before .before .before .before .before .before .before .before .before .address-ok .ensures,
-      c .before .before .before .before .before .before .before .before .before .before .either4 .ensures,
+      c .before .before .before .before .before .before .before .before .before .before .either3 .ensures,
       c .before .before .before .before .before .before .before .before .before .before .before .before .state-ok .ensures,
       c .before .before .before .before .before .before .before .before .before .before .before .before .before .length-ok .ensures,
-      c .before .before .before .before .before .before .before .before .before .before .before .before .before .before .either3 .ensures,
-      c .before .before .before .before .before .before .before .before .before .before .before .before .before .before .before .is-suspended .ensures,
-      c .before .before .before .before .before .before .before .before .before .before .before .before .before .before .before .before .taken-suspended .ensures,
-      c .before .before .before .before .before .before .before .before .before .before .before .before .before .before .before .before .before .either2 .ensures,
-      c .before .before .before .before .before .before .before .before .before .before .before .before .before .before .before .before .before .before .is-busy .ensures,
-      c .before .before .before .before .before .before .before .before .before .before .before .before .before .before .before .before .before .before .before .taken-busy .ensures,
-      c .before .before .before .before .before .before .before .before .before .before .before .before .before .before .before .before .before .before .before .before .either .ensures,
-      c .before .before .before .before .before .before .before .before .before .before .before .before .before .before .before .before .before .before .before .before .before .before .taken-asleep .ensures,
+      c .before .before .before .before .before .before .before .before .before .before .before .before .before .before .suspended-ok .ensures,
+      c .before .before .before .before .before .before .before .before .before .before .before .before .before .before .before .either2 .ensures,
+      c .before .before .before .before .before .before .before .before .before .before .before .before .before .before .before .before .is-busy .ensures,
+      c .before .before .before .before .before .before .before .before .before .before .before .before .before .before .before .before .before .taken-busy .ensures,
+      c .before .before .before .before .before .before .before .before .before .before .before .before .before .before .before .before .before .before .either .ensures,
+      c .before .before .before .before .before .before .before .before .before .before .before .before .before .before .before .before .before .before .before .before .taken-asleep .ensures,
     )
 
 pub command-number-spec : {M : Type 1} → statement M
@@ -105,12 +97,10 @@ command-number-spec =
     taken-busy-requires
     is-busy-requires
     either-requires-2
-    taken-suspended-requires
-    is-suspended-requires
-    either-requires-3
+    suspended-ok-requires
     length-ok-requires
     state-ok-requires
-    either-requires-4
+    either-requires-3
     address-ok-requires
     free-ok-requires
     number-or-requires

@@ -9,11 +9,8 @@ enum-told c = search needs
 enum-told-2 : tie.Need-enum-told-2
 enum-told-2 c = search needs
 
-running-requires : tie.Need-running-requires
-running-requires c κs = search needs
-
-can-suspend-requires : tie.Need-can-suspend-requires
-can-suspend-requires c κs = search needs
+suspendable-requires : tie.Need-suspendable-requires
+suspendable-requires c κs = search needs
 
 enum-told-3 : tie.Need-enum-told-3
 enum-told-3 c = search needs
@@ -28,7 +25,7 @@ returns : tie.Need-returns
 returns c = search needs
 
 returns-2 : tie.Need-returns-2
-returns-2 c = rw (c .before .before .enum-told2 .given .1, c .can-suspend .ensures, c .before .running .ensures)
+returns-2 c = rw (c .before .enum-told2 .given .1) (c .suspendable .ensures)
 
 returns-3 : tie.Need-returns-3
 returns-3 c = search needs
@@ -42,8 +39,7 @@ state-ok-spec =
     (tie.spec
     enum-told
     enum-told-2
-    running-requires
-    can-suspend-requires
+    suspendable-requires
     enum-told-3
     is-suspended-requires
     enum-told-4

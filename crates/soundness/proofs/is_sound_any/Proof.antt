@@ -1,26 +1,90 @@
 -- `soundness::is_sound_any` meets its contract: part and phase are asked all, and then page data.
-use Rattle.paper.specs.Soundness.{pageOk, sound}
+use Rattle.soundness.proofs.PhaseOk.{phase-ok-as}
+use Rattle.paper.specs.Soundness.{partSound, pageOk, sound}
 use borrow.Author.Needs.{needs}
 use Rattle.soundness.proofs.is_sound_any.Statement.{statement}
 use Rattle.soundness.proofs.is_sound_any.Tie as tie
 
-kept-in-requires : tie.Need-kept-in-requires
-kept-in-requires c κs = search needs
+cast-size-ok : tie.Need-cast-size-ok
+cast-size-ok c = search needs
 
-is-sound-part-requires : tie.Need-is-sound-part-requires
-is-sound-part-requires c κs = search needs
+size-ok-requires : tie.Need-size-ok-requires
+size-ok-requires c κs = search needs
 
-is-zero-from-requires : tie.Need-is-zero-from-requires
-is-zero-from-requires c κs = search needs
+is-idle-requires : tie.Need-is-idle-requires
+is-idle-requires c κs = search needs
+
+either-requires : tie.Need-either-requires
+either-requires c κs = search needs
+
+latch-ok-requires : tie.Need-latch-ok-requires
+latch-ok-requires c κs = search needs
+
+outer-ok-requires : tie.Need-outer-ok-requires
+outer-ok-requires c κs = search needs
+
+work-in-requires : tie.Need-work-in-requires
+work-in-requires c κs = search needs
+
+is-suspended-requires : tie.Need-is-suspended-requires
+is-suspended-requires c κs = search needs
+
+work-ok-requires : tie.Need-work-ok-requires
+work-ok-requires c κs = search needs
+
+bits-ok-requires : tie.Need-bits-ok-requires
+bits-ok-requires c κs = search needs
 
 both-requires : tie.Need-both-requires
 both-requires c κs = search needs
 
+both-requires-2 : tie.Need-both-requires-2
+both-requires-2 c κs = search needs
+
+both-requires-3 : tie.Need-both-requires-3
+both-requires-3 c κs = search needs
+
+both-requires-4 : tie.Need-both-requires-4
+both-requires-4 c κs = search needs
+
+both-requires-5 : tie.Need-both-requires-5
+both-requires-5 c κs = search needs
+
+kept-in-requires : tie.Need-kept-in-requires
+kept-in-requires c κs = search needs
+
+is-zero-from-requires : tie.Need-is-zero-from-requires
+is-zero-from-requires c κs = search needs
+
+both-requires-6 : tie.Need-both-requires-6
+both-requires-6 c κs = search needs
+
 returns : tie.Need-returns
-unfolding sound pageOk
-returns c = rw (c .both .ensures, c .before .is-zero-from .ensures, c .before .before .is-sound-part .ensures, c .before .before .before .kept-in .ensures)
+unfolding sound partSound pageOk
+returns c =
+    let a = c .before .before .before .before .before .before .before .before .before .before .before .before .before .before .before .before .before .before .before .before .before .args in
+    rw (c .both6 .ensures, c .before .is-zero-from .ensures, c .before .before .kept-in .ensures, c .before .before .before .both5 .ensures, c .before .before .before .before .both4 .ensures, c .before .before .before .before .before .both3 .ensures, c .before .before .before .before .before .before .both2 .ensures, c .before .before .before .before .before .before .before .both .ensures, c .before .before .before .before .before .before .before .before .bits-ok .ensures, c .before .before .before .before .before .before .before .before .before .work-ok .ensures, c .before .before .before .before .before .before .before .before .before .before .is-suspended .ensures, c .before .before .before .before .before .before .before .before .before .before .before .work-in .ensures, c .before .before .before .before .before .before .before .before .before .before .before .before .outer-ok .ensures, c .before .before .before .before .before .before .before .before .before .before .before .before .before .latch-ok .ensures, c .before .before .before .before .before .before .before .before .before .before .before .before .before .before .either .ensures, c .before .before .before .before .before .before .before .before .before .before .before .before .before .before .before .before .is-idle .ensures, c .before .before .before .before .before .before .before .before .before .before .before .before .before .before .before .before .before .size-ok .ensures, phase-ok-as (a .phase) (a .part .blocks) (a .part .stored))
 
 pub is-sound-any-spec : {M : Type 1} → statement M
 is-sound-any-spec =
     tie.close
-    (tie.spec kept-in-requires is-sound-part-requires is-zero-from-requires both-requires returns)
+    (tie.spec
+    cast-size-ok
+    size-ok-requires
+    is-idle-requires
+    either-requires
+    latch-ok-requires
+    outer-ok-requires
+    work-in-requires
+    is-suspended-requires
+    work-ok-requires
+    bits-ok-requires
+    both-requires
+    both-requires-2
+    both-requires-3
+    both-requires-4
+    both-requires-5
+    kept-in-requires
+    is-zero-from-requires
+    both-requires-6
+    returns)

@@ -1,14 +1,9 @@
--- `soundness::is_sound_part` meets its contract: it joins the five tests as the definition does.
+-- `soundness::is_sound_part` meets its contract: it joins the tests as the definition does, those of the phase by what it is at.
+use Rattle.soundness.proofs.PhaseOk.{phase-ok-as}
 use Rattle.paper.specs.Soundness.{partSound}
 use borrow.Author.Needs.{needs}
 use Rattle.soundness.proofs.is_sound_part.Statement.{statement}
 use Rattle.soundness.proofs.is_sound_part.Tie as tie
-
-cast-size-ok : tie.Need-cast-size-ok
-cast-size-ok c = search needs
-
-size-ok-requires : tie.Need-size-ok-requires
-size-ok-requires c κs = search needs
 
 is-idle-requires : tie.Need-is-idle-requires
 is-idle-requires c κs = search needs
@@ -19,8 +14,17 @@ either-requires c κs = search needs
 latch-ok-requires : tie.Need-latch-ok-requires
 latch-ok-requires c κs = search needs
 
-phase-ok-requires : tie.Need-phase-ok-requires
-phase-ok-requires c κs = search needs
+outer-ok-requires : tie.Need-outer-ok-requires
+outer-ok-requires c κs = search needs
+
+work-in-requires : tie.Need-work-in-requires
+work-in-requires c κs = search needs
+
+is-suspended-requires : tie.Need-is-suspended-requires
+is-suspended-requires c κs = search needs
+
+work-ok-requires : tie.Need-work-ok-requires
+work-ok-requires c κs = search needs
 
 bits-ok-requires : tie.Need-bits-ok-requires
 bits-ok-requires c κs = search needs
@@ -37,35 +41,30 @@ both-requires-3 c κs = search needs
 both-requires-4 : tie.Need-both-requires-4
 both-requires-4 c κs = search needs
 
+both-requires-5 : tie.Need-both-requires-5
+both-requires-5 c κs = search needs
+
 returns : tie.Need-returns
 unfolding partSound
 returns c =
-    rw (
-      c .both4 .ensures,
-      c .before .both3 .ensures,
-      c .before .before .both2 .ensures,
-      c .before .before .before .both .ensures,
-      c .before .before .before .before .bits-ok .ensures,
-      c .before .before .before .before .before .phase-ok .ensures,
-      c .before .before .before .before .before .before .latch-ok .ensures,
-      c .before .before .before .before .before .before .before .either .ensures,
-      c .before .before .before .before .before .before .before .before .before .is-idle .ensures,
-      c .before .before .before .before .before .before .before .before .before .before .size-ok .ensures,
-    )
+    let a = c .before .before .before .before .before .before .before .before .before .before .before .before .before .before .before .args in
+    rw (c .both5 .ensures, c .before .both4 .ensures, c .before .before .both3 .ensures, c .before .before .before .both2 .ensures, c .before .before .before .before .both .ensures, c .before .before .before .before .before .bits-ok .ensures, c .before .before .before .before .before .before .work-ok .ensures, c .before .before .before .before .before .before .before .is-suspended .ensures, c .before .before .before .before .before .before .before .before .work-in .ensures, c .before .before .before .before .before .before .before .before .before .outer-ok .ensures, c .before .before .before .before .before .before .before .before .before .before .latch-ok .ensures, c .before .before .before .before .before .before .before .before .before .before .before .either .ensures, c .before .before .before .before .before .before .before .before .before .before .before .before .before .is-idle .ensures, c .before .before .before .before .before .before .before .before .before .before .before .before .before .before .before .pre, phase-ok-as (a .phase) (a .part .blocks) (a .part .stored))
 
 pub is-sound-part-spec : {M : Type 1} → statement M
 is-sound-part-spec =
     tie.close
     (tie.spec
-    cast-size-ok
-    size-ok-requires
     is-idle-requires
     either-requires
     latch-ok-requires
-    phase-ok-requires
+    outer-ok-requires
+    work-in-requires
+    is-suspended-requires
+    work-ok-requires
     bits-ok-requires
     both-requires
     both-requires-2
     both-requires-3
     both-requires-4
+    both-requires-5
     returns)

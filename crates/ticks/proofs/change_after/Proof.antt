@@ -7,28 +7,14 @@ use Rattle.ticks.proofs.change_after.Tie as tie
 finish-requires : tie.Need-finish-requires
 finish-requires c κs = search needs
 
-rest-of-requires : tie.Need-rest-of-requires
-rest-of-requires c κs = search needs
-
 returns : tie.Need-returns
-returns c = rw (← c .before .before .before .pre .1, eq-eqb _ _ (c .before .before .if1 .taken), c .rest-of .ensures, c .before .finish .ensures)
+returns c = rw (← c .before .before .pre .1, eq-eqb _ _ (c .before .if1 .taken), c .finish .ensures)
 
 advance-requires : tie.Need-advance-requires
 advance-requires c κs = search needs
 
-going-on-requires : tie.Need-going-on-requires
-going-on-requires c κs = search needs
-
 returns-2 : tie.Need-returns-2
-returns-2 c = rw (← c .before .before .before .pre .1, ne-eqb _ _ (c .before .before .if1 .left), c .going-on .ensures, c .before .advance .ensures)
+returns-2 c = rw (← c .before .before .pre .1, ne-eqb _ _ (c .before .if1 .left), c .advance .ensures)
 
 pub change-after-spec : {M : Type 1} → statement M
-change-after-spec =
-    tie.close
-    (tie.spec
-    finish-requires
-    rest-of-requires
-    returns
-    advance-requires
-    going-on-requires
-    returns-2)
+change-after-spec = tie.close (tie.spec finish-requires returns advance-requires returns-2)

@@ -4,11 +4,12 @@ use native.Mathlib.Omega.{arith}
 use denote.Ref.{now}
 use borrow.Author.Tests.{not-true, not-false}
 use borrow.Author.Needs.{needs}
-use Rattle.record_bytes.specs.declared.Found.{Found}
+use Rattle.record_bytes.specs.declared.Seen.{Seen}
 use Rattle.record_bytes.specs.Read.{recordIn}
 use Rattle.record_bytes.proofs.Back.{held-length}
 use Rattle.yawlspar.proofs.Face.{unheld-answer, unheld-bytes, unheld-output, told-answer, told-bytes, told-output}
 use Rattle.yawlspar.proofs.Laws.{first-few}
+use Rattle.yawlspar.proofs.Seen.{foundIn, seen-found, seen-sound}
 use Rattle.yawlspar.proofs.yawlspar_transact.Statement.{statement}
 use Rattle.yawlspar.proofs.yawlspar_transact.Tie as tie
 
@@ -27,23 +28,23 @@ same-length c = search needs
 returns : tie.Need-returns
 returns c =
     let h = recordIn (now (c .before .before .before .before .before .before .before .before .before .before .before .args .bytes)) in
-    let n = ap (λ (x : Found). x .ok) (sym (c .before .before .before .before .read-part .ensures)) ∙ not-true _ (c .before .before .if1 .taken) in
+    let n = ap (λ (x : Seen). x .ok) (sym (c .before .before .before .before .read-part .ensures)) ∙ not-true _ (c .before .before .if1 .taken) in
     let l = c .before .later-refusal .ensures in
     (c .pack .ensures ∙ rw l (unheld-answer h n _ _ _ _ _), (unheld-bytes h n _ _ _ _ _ _, unheld-output h n _ _ _ _ _))
 
-sub-is-sound-in : tie.Need-sub-is-sound-in
-sub-is-sound-in c = search needs
+sub-is-sound-told : tie.Need-sub-is-sound-told
+sub-is-sound-told c = search needs
 
-part-is-sound-in-start : tie.Need-part-is-sound-in-start
-part-is-sound-in-start c = search needs
+part-is-sound-told-start : tie.Need-part-is-sound-told-start
+part-is-sound-told-start c = search needs
 
-part-is-sound-in-end : tie.Need-part-is-sound-in-end
-part-is-sound-in-end c =
-    let e = ap (λ (x : Found). x .ok) (sym (c .before .before .before .before .read-part .ensures)) ∙ not-false _ (c .before .before .if1 .left) in
+part-is-sound-told-end : tie.Need-part-is-sound-told-end
+part-is-sound-told-end c =
+    let e = ap (λ (x : Seen). x .ok) (sym (c .before .before .before .before .read-part .ensures)) ∙ not-false _ (c .before .before .if1 .left) in
     omega (arith, held-length (now (c .before .before .before .before .before .before .before .before .before .before .before .args .bytes)) e)
 
-is-sound-in-requires : tie.Need-is-sound-in-requires
-is-sound-in-requires c κs = search needs
+is-sound-told-requires : tie.Need-is-sound-told-requires
+is-sound-told-requires c κs = search needs
 
 both-requires : tie.Need-both-requires
 both-requires c κs = search needs
@@ -67,11 +68,12 @@ returns-2 : tie.Need-returns-2
 returns-2 c =
     let bs = now (c .before .before .before .before .before .before .before .before .before .before .before .before .before .before .before .before .before .before .before .before .before .before .before .args .bytes) in
     let f = c .before .before .before .before .before .before .before .before .before .before .before .before .before .before .before .before .read-part in
-    let e = ap (λ (x : Found). x .ok) (sym (f .ensures)) ∙ not-false _ (c .before .before .before .before .before .before .before .before .before .before .before .before .before .before .if1 .left) in
-    let s = c .before .before .before .before .before .before .before .before .before .before .is-sound-in .ensures in
+    let e = ap (λ (x : Seen). x .ok) (sym (f .ensures)) ∙ not-false _ (c .before .before .before .before .before .before .before .before .before .before .before .before .before .before .if1 .left) in
+    let g = seen-found bs (f .result) (f .ensures) in
+    let s = seen-sound bs (f .result) (f .ensures) e _ (c .before .before .before .before .before .before .before .before .before .before .is-sound-told .ensures) in
     let t = c .before .before .before .before .before .before .before .before .before .both .ensures in
     let u = c .before .before .before .before .before .before .before .transact-part .ensures in
-    (c .pack2 .ensures ∙ told-answer bs e (f .result) (f .ensures) _ _ _ s t _ _ _ _ _ (u .0), (c .before .before .before .write-change .ensures ∙ told-bytes bs e (f .result) (f .ensures) _ _ _ s t _ _ _ _ _ (u .0), told-output bs e (f .result) (f .ensures) _ _ _ s t _ _ _ _ _ (u .1)))
+    (c .pack2 .ensures ∙ told-answer bs e (foundIn (f .result)) g _ _ _ s t _ _ _ _ _ (u .0), (c .before .before .before .write-change .ensures ∙ told-bytes bs e (foundIn (f .result)) g _ _ _ s t _ _ _ _ _ (u .0), told-output bs e (foundIn (f .result)) g _ _ _ s t _ _ _ _ _ (u .1)))
 
 pub yawlspar-transact-spec : {M : Type 1} → statement M
 yawlspar-transact-spec =
@@ -82,10 +84,10 @@ yawlspar-transact-spec =
     pack-requires
     same-length
     returns
-    sub-is-sound-in
-    part-is-sound-in-start
-    part-is-sound-in-end
-    is-sound-in-requires
+    sub-is-sound-told
+    part-is-sound-told-start
+    part-is-sound-told-end
+    is-sound-told-requires
     both-requires
     transact-part-requires
     write-change-requires

@@ -1,11 +1,11 @@
 -- `record_bytes::reading::cells_in` meets its contract: the bytes stand at their places, and the numbers are those of eight bytes each.
-use native.Mathlib.Omega.{arith}
-use lib.ListN.{drop}
-use denote.Ref.{now}
-use borrow.Author.Needs.{needs}
-use Rattle.record_bytes.specs.Layout.{baseAt, countAt, doneAt}
-use Rattle.record_bytes.specs.Read.{cellsIn}
 use Rattle.record_bytes.proofs.Laws.{take-few}
+use Rattle.record_bytes.specs.Read.{cellsIn}
+use Rattle.record_bytes.specs.Layout.{baseAt, countAt, doneAt}
+use denote.Ref.{now}
+use lib.ListN.{drop}
+use borrow.Author.Needs.{needs}
+use native.Mathlib.Omega.{arith}
 use Rattle.record_bytes.proofs.reading.cells_in.Statement.{statement}
 use Rattle.record_bytes.proofs.reading.cells_in.Tie as tie
 
@@ -51,14 +51,11 @@ shared-slice-read-t16 c = search needs
 shared-slice-read-t18 : tie.Need-shared-slice-read-t18
 shared-slice-read-t18 c = search needs
 
-shared-slice-read-t20 : tie.Need-shared-slice-read-t20
-shared-slice-read-t20 c = search needs
-
 returns : tie.Need-returns
 unfolding cellsIn
 returns c =
-    let bs = now (c .before .before .before .before .before .before .before .before .before .before .args .bytes) in
-    rw (c .before .before .before .high-first3 .ensures, c .before .before .before .before .before .high-first2 .ensures, c .before .before .before .before .before .before .before .high-first .ensures, take-few 8 (drop baseAt bs) (omega arith), take-few 8 (drop countAt bs) (omega arith), take-few 8 (drop doneAt bs) (omega arith))
+    let bs = now (c .before .before .before .before .before .before .before .before .before .args .bytes) in
+    rw (c .before .before .high-first3 .ensures, c .before .before .before .before .high-first2 .ensures, c .before .before .before .before .before .before .high-first .ensures, take-few 8 (drop baseAt bs) (omega arith), take-few 8 (drop countAt bs) (omega arith), take-few 8 (drop doneAt bs) (omega arith))
 
 pub cells-in-spec : {M : Type 1} → statement M
 cells-in-spec =
@@ -78,5 +75,4 @@ cells-in-spec =
     high-first-requires-3
     shared-slice-read-t16
     shared-slice-read-t18
-    shared-slice-read-t20
     returns)

@@ -1,22 +1,28 @@
--- `record_bytes::reading::fits` meets its contract: the cells of a phase are numbers of their types, and so are the record's fields.
-use Prim.Native.Nat.{_^_, _<_}
-use mathlib.Core.Path.{ap}
-use native.Mathlib.Omega.{arith}
+-- `record_bytes::reading::fits` meets its contract: what runs and what is suspended fits, and so do the record's fields.
+use Rattle.record_bytes.specs.Read.{Fitting}
+use Rattle.cells.specs.Operations.{workCells}
+use Rattle.types.specs.declared.Work.{Work}
+use mathlib.Core.Path.{subst}
 use borrow.Author.Needs.{needs}
-use Rattle.cells.specs.declared.Cells.{Cells}
 use Rattle.record_bytes.proofs.reading.fits.Statement.{statement}
 use Rattle.record_bytes.proofs.reading.fits.Tie as tie
 
-cells-of-requires : tie.Need-cells-of-requires
-cells-of-requires c κs = search needs
+running-requires : tie.Need-running-requires
+running-requires c κs = search needs
+
+fitting-requires : tie.Need-fitting-requires
+fitting-requires c κs = search needs
+
+halted-requires : tie.Need-halted-requires
+halted-requires c κs = search needs
+
+fitting-requires-2 : tie.Need-fitting-requires-2
+fitting-requires-2 c κs = search needs
 
 returns : tie.Need-returns
-returns c =
-    let s = c .cells-of in
-    let b : s .result .base < 2 ^ 64 = search needs in
-    let k : s .result .count < 2 ^ 64 = search needs in
-    let d : s .result .done < 2 ^ 64 = search needs in
-    record { blocks = search needs; base = omega (arith, ap (λ (x : Cells). x .base) (s .ensures)); count = omega (arith, ap (λ (x : Cells). x .count) (s .ensures)); done = omega (arith, ap (λ (x : Cells). x .done) (s .ensures)); page = search needs }
+returns c = record { blocks = search needs; runs = subst (λ (w : Work). Fitting (workCells w)) (c .before .before .before .running .ensures) (c .before .before .fitting .ensures); suspended = subst (λ (w : Work). Fitting (workCells w)) (c .before .halted .ensures) (c .fitting2 .ensures); page = search needs }
 
 pub fits-spec : {M : Type 1} → statement M
-fits-spec = tie.close (tie.spec cells-of-requires returns)
+fits-spec =
+    tie.close
+    (tie.spec running-requires fitting-requires halted-requires fitting-requires-2 returns)

@@ -1,6 +1,6 @@
--- `record_bytes::reading::same_cells` meets its contract: it joins the tests of the six cells.
-use borrow.Author.Needs.{needs}
+-- `record_bytes::reading::same_cells` meets its contract: it joins the tests of the five cells.
 use Rattle.record_bytes.specs.Read.{sameCells}
+use borrow.Author.Needs.{needs}
 use Rattle.record_bytes.proofs.reading.same_cells.Statement.{statement}
 use Rattle.record_bytes.proofs.reading.same_cells.Tie as tie
 
@@ -16,20 +16,10 @@ both-requires-3 c κs = search needs
 both-requires-4 : tie.Need-both-requires-4
 both-requires-4 c κs = search needs
 
-both-requires-5 : tie.Need-both-requires-5
-both-requires-5 c κs = search needs
-
 returns : tie.Need-returns
 unfolding sameCells
-returns c = rw (c .both5 .ensures, c .before .both4 .ensures, c .before .before .both3 .ensures, c .before .before .before .both2 .ensures, c .before .before .before .before .both .ensures)
+returns c = rw (c .both4 .ensures, c .before .both3 .ensures, c .before .before .both2 .ensures, c .before .before .before .both .ensures)
 
 pub same-cells-spec : {M : Type 1} → statement M
 same-cells-spec =
-    tie.close
-    (tie.spec
-    both-requires
-    both-requires-2
-    both-requires-3
-    both-requires-4
-    both-requires-5
-    returns)
+    tie.close (tie.spec both-requires both-requires-2 both-requires-3 both-requires-4 returns)

@@ -1,8 +1,8 @@
 -- `record_bytes::writing::write_after` meets its contract, as `write_change` does.
-use denote.Ref.{now}
+use Rattle.record_bytes.proofs.Laws.{header-length, running-header-length, page-there, page-laid}
+use Rattle.record_bytes.specs.Layout.{header, headerRunning, changeWritten}
 use borrow.Author.Tests.{eq-eqb, ne-eqb}
-use Rattle.record_bytes.specs.Layout.{changeWritten}
-use Rattle.record_bytes.proofs.Laws.{page-room, page-there, page-laid}
+use denote.Ref.{now}
 use borrow.Author.Needs.{needs}
 use Rattle.record_bytes.proofs.writing.write_after.Statement.{statement}
 use Rattle.record_bytes.proofs.writing.write_after.Tie as tie
@@ -35,8 +35,14 @@ slice-write-bytes-3 c = search needs
 enum-known-change-3 : tie.Need-enum-known-change-3
 enum-known-change-3 c = search needs
 
-write-header-requires : tie.Need-write-header-requires
-write-header-requires c κs = search needs
+write-part-requires : tie.Need-write-part-requires
+write-part-requires c κs = search needs
+
+enum-known-change-4 : tie.Need-enum-known-change-4
+enum-known-change-4 c = search needs
+
+write-running-requires : tie.Need-write-running-requires
+write-running-requires c κs = search needs
 
 slice-aggregate-write-page : tie.Need-slice-aggregate-write-page
 slice-aggregate-write-page c = search needs
@@ -51,7 +57,28 @@ part-write-page-end : tie.Need-part-write-page-end
 part-write-page-end c = search needs
 
 write-page-requires : tie.Need-write-page-requires
-write-page-requires c κs = page-room (now (c .before .before .before .before .before .before .before .before .before .before .before .args .bytes)) _ _ _ (c .before .before .before .before .before .before .before .before .before .if1 .left) (c .before .before .before .before .write-header .ensures)
+write-page-requires c κs = search needs
+
+enum-known-change-5 : tie.Need-enum-known-change-5
+enum-known-change-5 c = search needs
+
+write-header-requires : tie.Need-write-header-requires
+write-header-requires c κs = search needs
+
+slice-aggregate-write-page-2 : tie.Need-slice-aggregate-write-page-2
+slice-aggregate-write-page-2 c = search needs
+
+sub-write-page-2 : tie.Need-sub-write-page-2
+sub-write-page-2 c = search needs
+
+part-write-page-start-2 : tie.Need-part-write-page-start-2
+part-write-page-start-2 c = search needs
+
+part-write-page-end-2 : tie.Need-part-write-page-end-2
+part-write-page-end-2 c = search needs
+
+write-page-requires-2 : tie.Need-write-page-requires-2
+write-page-requires-2 c κs = search needs
 
 returns-2 : tie.Need-returns-2
 unfolding changeWritten
@@ -76,11 +103,35 @@ same-length-3 c = search needs
 
 returns-5 : tie.Need-returns-5
 unfolding changeWritten
-returns-5 c =
+returns-5 c = rw (c .before .before .before .before .before .change3 .given .1, eq-eqb _ _ (c .before .before .before .before .before .before .before .if1 .left)) (c .before .before .write-part .ensures)
+
+same-length-4 : tie.Need-same-length-4
+same-length-4 c = search needs
+
+returns-6 : tie.Need-returns-6
+unfolding changeWritten
+returns-6 c =
+    let bs = now (c .before .before .before .before .before .before .before .before .before .before .before .before .before .before .args .bytes) in
+    let l = c .before .before .before .before .before .before .before .before .before .before .before .before .if1 .left in
+    let h = c .before .before .before .before .before .before .before .write-running .ensures in
+    let v = c .before .before .before .before .before .before .before .before .before .before .change4 .given .0 in
+    let q = headerRunning (v .0) (v .1 .0) bs in
+    let lq = running-header-length bs l (v .0) (v .1 .0) in
+    rw (c .before .before .before .before .before .before .before .before .before .before .change4 .given .1, eq-eqb _ _ l) (page-laid bs q _ lq l h _ _ (rw (page-there bs q _ lq l h) at (c .before .before .write-page .ensures)))
+
+same-length-5 : tie.Need-same-length-5
+same-length-5 c = search needs
+
+returns-7 : tie.Need-returns-7
+unfolding changeWritten
+returns-7 c =
     let bs = now (c .before .before .before .before .before .before .before .before .before .before .before .before .before .before .args .bytes) in
     let l = c .before .before .before .before .before .before .before .before .before .before .before .before .if1 .left in
     let h = c .before .before .before .before .before .before .before .write-header .ensures in
-    rw (c .before .before .before .before .before .before .before .before .before .before .change3 .given .1, eq-eqb _ _ l) (page-laid bs _ _ _ l h _ _ (rw (page-there bs _ _ _ l h) at (c .before .before .write-page .ensures)))
+    let v = c .before .before .before .before .before .before .before .before .before .before .change5 .given .0 in
+    let q = header (v .0) (v .1 .0) in
+    let lq = header-length (v .0) (v .1 .0) in
+    rw (c .before .before .before .before .before .before .before .before .before .before .change5 .given .1, eq-eqb _ _ l) (page-laid bs q _ lq l h _ _ (rw (page-there bs q _ lq l h) at (c .before .before .write-page2 .ensures)))
 
 pub write-after-spec : {M : Type 1} → statement M
 write-after-spec =
@@ -95,16 +146,29 @@ write-after-spec =
     slice-write-bytes-2
     slice-write-bytes-3
     enum-known-change-3
-    write-header-requires
+    write-part-requires
+    enum-known-change-4
+    write-running-requires
     slice-aggregate-write-page
     sub-write-page
     part-write-page-start
     part-write-page-end
     write-page-requires
+    enum-known-change-5
+    write-header-requires
+    slice-aggregate-write-page-2
+    sub-write-page-2
+    part-write-page-start-2
+    part-write-page-end-2
+    write-page-requires-2
     returns-2
     same-length
     returns-3
     same-length-2
     returns-4
     same-length-3
-    returns-5)
+    returns-5
+    same-length-4
+    returns-6
+    same-length-5
+    returns-7)

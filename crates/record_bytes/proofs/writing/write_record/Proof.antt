@@ -1,14 +1,14 @@
 -- `record_bytes::writing::write_record` meets its contract: header and page data are written one behind the other and fill the buffer.
-use mathlib.Core.Path.{_≡_, _∙_}
-use lib.ListN.{length}
-use native.Mathlib.Omega.{arith}
-use denote.Ref.{now}
-use borrow.Author.Tests.{eq-eqb, ne-eqb}
-use borrow.Author.Needs.{needs}
-use Rattle.paper.specs.Sizes.{pageBytes}
-use Rattle.record_bytes.specs.Layout.{written, recordBytes}
+use Rattle.record_bytes.proofs.Laws.{header-length, page-room, page-laid}
+use Rattle.record_bytes.specs.Layout.{header, recordBytes, written}
 use Rattle.runs.proofs.Laws.{copied-whole}
-use Rattle.record_bytes.proofs.Laws.{page-room, page-laid}
+use Rattle.paper.specs.Sizes.{pageBytes}
+use borrow.Author.Tests.{eq-eqb, ne-eqb}
+use lib.ListN.{length}
+use denote.Ref.{now}
+use mathlib.Core.Path.{_≡_, _∙_}
+use borrow.Author.Needs.{needs}
+use native.Mathlib.Omega.{arith}
 use Rattle.record_bytes.proofs.writing.write_record.Statement.{statement}
 use Rattle.record_bytes.proofs.writing.write_record.Tie as tie
 
@@ -35,7 +35,7 @@ copy-requires : tie.Need-copy-requires
 copy-requires c κs =
     let s = c .before .before .before .before .before .before .before .before .before .before in
     let ld : length (s .args .state .page) ≡ pageBytes = search needs in
-    omega (arith, ld, page-room (now (s .args .bytes)) _ _ _ (c .before .before .before .before .before .before .before .before .if1 .left) (c .before .before .before .before .write-header .ensures))
+    omega (arith, ld, page-room (now (s .args .bytes)) (header (s .args .state .part) (s .args .state .phase)) _ (header-length (s .args .state .part) (s .args .state .phase)) (c .before .before .before .before .before .before .before .before .if1 .left) (c .before .before .before .before .write-header .ensures))
 
 same-length : tie.Need-same-length
 same-length c = search needs
@@ -47,7 +47,7 @@ returns-2 c =
     let l = c .before .before .before .before .before .before .before .before .before .before .before .if1 .left in
     let h = c .before .before .before .before .before .before .before .write-header .ensures in
     let ld : length (s .args .state .page) ≡ pageBytes = search needs in
-    rw (eq-eqb _ _ l) (page-laid (now (s .args .bytes)) _ _ _ l h _ (s .args .state .page) (c .before .before .copy .ensures .1 ∙ copied-whole (s .args .state .page) _ (omega (arith, ld, page-room (now (s .args .bytes)) _ _ _ l h))))
+    rw (eq-eqb _ _ l) (page-laid (now (s .args .bytes)) (header (s .args .state .part) (s .args .state .phase)) _ (header-length (s .args .state .part) (s .args .state .phase)) l h _ (s .args .state .page) (c .before .before .copy .ensures .1 ∙ copied-whole (s .args .state .page) _ (omega (arith, ld, page-room (now (s .args .bytes)) (header (s .args .state .part) (s .args .state .phase)) _ (header-length (s .args .state .part) (s .args .state .phase)) l h))))
 
 pub write-record-spec : {M : Type 1} → statement M
 write-record-spec =

@@ -1,0 +1,152 @@
+-- An erase that is suspended, whatever is sent and runs within, and resumed: it goes on where it was, and run to its end leaves FFh in its whole unit.
+use Prim.Native.Nat.{ℕ, _+_, _-_, _<_, _≤_}
+use mathlib.Core.Path.{_≡_, refl, sym, ap, _∙_, subst⁻¹}
+use mathlib.Core.Bool.{Bool, true, false, false≢true}
+use mathlib.Core.List.{List, [], _∷_, _++_}
+use native.Mathlib.Omega.{arith}
+use borrow.Author.Tests.{not-true}
+use Rattle.types.specs.declared.Memory.{Memory}
+use Rattle.types.specs.declared.EraseUnit.{EraseUnit}
+use Rattle.types.specs.declared.Operation.{Operation}
+use Rattle.types.specs.declared.Operation.the-variants.{Erase}
+use Rattle.types.specs.declared.Phase.{Phase}
+use Rattle.types.specs.declared.Phase.the-variants.{Idle, Busy, Suspended, Nested}
+use Rattle.types.specs.declared.Work.the-variants.{NoWork, At}
+use Rattle.types.specs.declared.Command.the-variants.{Suspend, Resume}
+use Rattle.types.specs.declared.Decoded.the-variants.{Known}
+use Rattle.types.specs.declared.Part.{Part}
+use Rattle.types.specs.declared.Record.{Record}
+use Rattle.types.specs.declared.Answer.{Answer}
+use Rattle.types.specs.declared.Ticked.{Ticked}
+use Rattle.words.specs.Logic.{_and_, _or_, unless, _orElse_}
+use Rattle.paper.specs.Sizes.{tickLimit}
+use Rattle.paper.specs.Erase.{unitPages, erasedByte}
+use Rattle.paper.specs.Phases.{running, halted, isBusy, workingOn, suspendedIn, resumedIn}
+use Rattle.paper.specs.Operations.{unitSuspends, canSuspend, inUnit}
+use Rattle.paper.specs.Soundness.{sound}
+use Rattle.paper.specs.Table.{decoded, columns}
+use Rattle.paper.specs.Commands.{changed, settles}
+use Rattle.paper.specs.Numbers.{commandNumber, ignoredNumber}
+use Rattle.paper.specs.History.{Call, transaction, ticks, recordAfterCall, recordAfterCalls, history, byteAfterAll}
+use Rattle.paper.proofs.Phases.{no-work-at, at-same}
+use Rattle.paper.proofs.Soundness.{sound-parts, sound-in}
+use Rattle.paper.proofs.Runs.{run-record}
+use Rattle.paper.proofs.Answers.{executes, ticks-run}
+use Rattle.paper.proofs.CallKept.{call-sound, calls-sound, calls-size}
+use Rattle.paper.proofs.Histories.{calls-append}
+use Rattle.paper.proofs.HaltedKept.{noneReleases, calls-halted}
+use Rattle.paper.proofs.EraseBytes.{inDone, pages-few, erase-ends}
+use Rattle.paper.proofs.ErasedPages.{DoneBlank, begun-blank, erase-whole}
+
+-- a transaction of one byte, at a level of the pin
+abbrev pub oneByte : Bool → ℕ → Call
+oneByte wp c = transaction wp (c ∷ []) 1
+
+-- 75h and B0h are suspends, 7Ah and 30h resumes
+pub suspend-codes : (decoded 0x75 ≡ Known Suspend) × (decoded 0xB0 ≡ Known Suspend)
+unfolding decoded
+suspend-codes = (refl, refl)
+
+pub resume-codes : (decoded 0x7A ≡ Known Resume) × (decoded 0x30 ≡ Known Resume)
+unfolding decoded
+resume-codes = (refl, refl)
+
+-- no number applies to a suspend where what runs alone can be suspended, nor to a resume where something is
+suspend-number : (p : Part) (o : Operation) (c : ℕ) (wp : Bool) → p .asleep ≡ false → canSuspend o ≡ true → commandNumber (columns Suspend) NoWork p (Busy o) (c ∷ []) wp ≡ 0
+unfolding commandNumber _and_ _or_ unless _orElse_
+suspend-number p o c wp a h = rw (a, h)
+
+resume-number : (p : Part) (o : Operation) (c : ℕ) (wp : Bool) → p .asleep ≡ false → commandNumber (columns Resume) NoWork p (Suspended o) (c ∷ []) wp ≡ 0
+unfolding commandNumber _or_ unless _orElse_
+resume-number p o c wp a = rw a
+
+module _ (p : Record) (o : Operation) (s : sound p ≡ true) (wp : Bool) (c : ℕ) where
+  -- a suspend of what runs alone and can be suspended is executed
+  pub suspends-now : p .phase ≡ Busy o → canSuspend o ≡ true → decoded c ≡ Known Suspend
+      → recordAfterCall (oneByte wp c) p ≡ changed (settles (p .part) (Suspended o) false) (c ∷ []) p
+  unfolding _or_
+  suspends-now f h e =
+      let a : p .part .asleep ≡ false = not-true _ (sound-in p (Busy o) f s .sleep) in
+      let n : ignoredNumber (Known Suspend) (p .part) (p .phase) (c ∷ []) wp ≡ 0 = ap (λ (g : Phase). commandNumber (columns Suspend) NoWork (p .part) g (c ∷ []) wp) f ∙ suspend-number (p .part) o c wp a h in
+      ap (λ (t : Answer). t .next) (executes p s wp Suspend (c ∷ []) (omega arith) (omega arith) e n)
+      ∙ ap (λ (g : Phase). changed (settles (p .part) (suspendedIn g) false) (c ∷ []) p) f
+
+  -- and so is a resume of what is suspended
+  pub resumes-now : p .phase ≡ Suspended o → decoded c ≡ Known Resume
+      → recordAfterCall (oneByte wp c) p ≡ changed (settles (p .part) (Busy o) true) (c ∷ []) p
+  unfolding _or_
+  resumes-now f e =
+      let a : p .part .asleep ≡ false = not-true _ (sound-in p (Suspended o) f s .sleep) in
+      let n : ignoredNumber (Known Resume) (p .part) (p .phase) (c ∷ []) wp ≡ 0 = ap (λ (g : Phase). commandNumber (columns Resume) NoWork (p .part) g (c ∷ []) wp) f ∙ resume-number (p .part) o c wp a in
+      ap (λ (t : Answer). t .next) (executes p s wp Resume (c ∷ []) (omega arith) (omega arith) e n)
+      ∙ ap (λ (g : Phase). changed (settles (p .part) (resumedIn g) true) (c ∷ []) p) f
+
+-- a part that is suspended from an erase with d ticks done, the pages done holding FFh: after a resume and the ticks that are left its whole unit does
+pub resume-whole : (p : Record) (u : EraseUnit) (b d : ℕ) (wp : Bool) (c : ℕ) (m : Memory) (at x : ℕ) → sound p ≡ true → p .phase ≡ Suspended (Erase u b d) → decoded c ≡ Known Resume
+    → inUnit (Erase u b d) (p .part .blocks) m at ≡ true → (inDone (Erase u b d) m at ≡ true → x ≡ erasedByte)
+    → byteAfterAll m at (history (oneByte wp c ∷ ticks (unitPages u (p .part .blocks) - d) ∷ []) p) x ≡ erasedByte
+resume-whole p u b d wp c m at x s f e i h =
+    let r = ap (λ (q : Record). q .phase) (resumes-now p (Erase u b d) s wp c f e) in
+    erase-whole m at x (oneByte wp c ∷ []) p u b d (unitPages u (p .part .blocks) - d) s (subst⁻¹ (DoneBlank m at x) f (tt, h)) r (omega arith) (omega (arith, pages-few u (p .part .blocks) (sound-parts p s .size))) i
+
+-- an operation is suspended and nothing runs
+at-rest : (f : Phase) (e : Operation) → halted f ≡ At e → isBusy f ≡ false → f ≡ Suspended e
+at-rest Idle e h n = absurd (no-work-at h)
+at-rest (Busy o) e h n = absurd (no-work-at h)
+at-rest (Suspended o) e h n = ap Suspended (at-same h)
+at-rest (Nested x o) e h n = absurd (false≢true (sym n))
+
+-- d ticks, a suspend, calls, and a resume
+abbrev pub interrupted : ℕ → Call → List Call → Call → List Call
+interrupted d suspend cs resume = ticks d ∷ suspend ∷ (cs ++ (resume ∷ []))
+
+-- a part runs an erase that can be suspended, from its first tick on
+module _ (p : Record) (u : EraseUnit) (b : ℕ) (s : sound p ≡ true) (f : p .phase ≡ Busy (Erase u b 0)) (g : unitSuspends u ≡ true) where
+  few : unitPages u (p .part .blocks) ≤ tickLimit
+  few = pages-few u (p .part .blocks) (sound-parts p s .size)
+
+  -- d ticks that are not its last, and a suspend
+  module _ (d : ℕ) (l : d < unitPages u (p .part .blocks)) (w : Bool) (c : ℕ) (dc : decoded c ≡ Known Suspend) where
+    ran-phase : recordAfterCall (ticks d) p .phase ≡ Busy (Erase u b d)
+    ran-phase =
+        let z : 0 + d ≡ d = omega arith in
+        ap (λ (t : Ticked). t .next .phase) (ticks-run p s d (omega (arith, few)))
+        ∙ ap (λ (q : Record). q .phase) (run-record p (Erase u b 0) (ap running f) d (omega arith))
+        ∙ ap (λ (h : Phase). workingOn h (Erase u b (0 + d))) f
+        ∙ ap (λ (k : ℕ). Busy (Erase u b k)) z
+
+    -- leave it suspended
+    pub cut-phase : recordAfterCalls (ticks d ∷ oneByte w c ∷ []) p .phase ≡ Suspended (Erase u b d)
+    cut-phase =
+        ap (λ (q : Record). q .phase) (suspends-now (recordAfterCall (ticks d) p) (Erase u b d) (call-sound (ticks d) p s) w c ran-phase g dc)
+
+    -- then calls none of which lets it go, after which nothing runs, and a resume
+    module _ (cs : List Call) (none : noneReleases cs (recordAfterCalls (ticks d ∷ oneByte w c ∷ []) p) ≡ true)
+        (still : isBusy (recordAfterCalls cs (recordAfterCalls (ticks d ∷ oneByte w c ∷ []) p) .phase) ≡ false)
+        (v : Bool) (r : ℕ) (dr : decoded r ≡ Known Resume) where
+      -- it goes on where it was
+      pub resumed-phase : recordAfterCalls (interrupted d (oneByte w c) cs (oneByte v r)) p .phase ≡ Busy (Erase u b d)
+      resumed-phase =
+          let before = recordAfterCalls (ticks d ∷ oneByte w c ∷ []) p in
+          let q = recordAfterCalls cs before in
+          let h : q .phase ≡ Suspended (Erase u b d) = at-rest (q .phase) (Erase u b d) (calls-halted cs before (Erase u b d) (ap halted cut-phase) none) still in
+          ap (λ (t : Record). t .phase)
+          (calls-append cs (oneByte v r ∷ []) before
+          ∙ resumes-now q (Erase u b d) (calls-sound cs before (calls-sound (ticks d ∷ oneByte w c ∷ []) p s)) v r h dr)
+
+      -- the ticks that are left end it
+      pub resumed-ends : let q = recordAfterCalls (interrupted d (oneByte w c) cs (oneByte v r) ++ (ticks (unitPages u (p .part .blocks) - d) ∷ [])) p in
+          (q .phase ≡ Idle) × (q .part .wel ≡ false)
+      resumed-ends =
+          let all = interrupted d (oneByte w c) cs (oneByte v r) in
+          let k = unitPages u (p .part .blocks) - d in
+          let z = ap (unitPages u) (calls-size all p) in
+          let e = erase-ends (recordAfterCalls all p) u b d k (calls-sound all p s) resumed-phase (omega (arith, z)) (omega (arith, few)) in
+          let q = calls-append all (ticks k ∷ []) p in
+          (ap (λ (t : Record). t .phase) q ∙ e .0, ap (λ (t : Record). t .part .wel) q ∙ e .1)
+
+      -- and leave FFh in its whole unit, whatever was there
+      pub resumed-whole : (m : Memory) (at x : ℕ) → inUnit (Erase u b 0) (p .part .blocks) m at ≡ true
+          → byteAfterAll m at (history (interrupted d (oneByte w c) cs (oneByte v r) ++ (ticks (unitPages u (p .part .blocks) - d) ∷ [])) p) x ≡ erasedByte
+      resumed-whole m at x i =
+          erase-whole m at x (interrupted d (oneByte w c) cs (oneByte v r)) p u b d (unitPages u (p .part .blocks) - d) s (begun-blank m at x p u b f) resumed-phase (omega arith) (omega (arith, few)) i

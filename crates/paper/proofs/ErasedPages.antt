@@ -1,0 +1,199 @@
+-- Over every list of calls the pages that an erase has done hold FFh, while it runs and while it is suspended, however often and whatever runs within; so its whole unit does when it ends.
+use Prim.Native.Nat.{ℕ, zero, suc, _+_, _*_, _≤_, _<_}
+use mathlib.Core.Path.{_≡_, refl, sym, ap, _∙_, subst, subst⁻¹}
+use mathlib.Core.Bool.{Bool, true, false, cond, false≢true}
+use mathlib.Core.List.{List, [], _∷_, _++_}
+use native.Mathlib.Omega.{arith}
+use lib.Dec.{eqb, leb, ltb}
+use borrow.Author.Tests.{leb-true, ltb-true, lt-ltb}
+use Rattle.types.specs.declared.Memory.{Memory}
+use Rattle.types.specs.declared.EraseUnit.{EraseUnit}
+use Rattle.types.specs.declared.Operation.{Operation}
+use Rattle.types.specs.declared.Operation.the-variants.{Program, Erase, Write}
+use Rattle.types.specs.declared.Phase.{Phase}
+use Rattle.types.specs.declared.Phase.the-variants.{Idle, Busy, Suspended, Nested}
+use Rattle.types.specs.declared.Work.{Work}
+use Rattle.types.specs.declared.Work.the-variants.{NoWork, At}
+use Rattle.types.specs.declared.Effect.{Effect}
+use Rattle.types.specs.declared.Effect.the-variants.{Looks, Enables, Disables, Programs, Erases, Writes, Suspends, Resumes, Sleeps, Wakes, Arms, Resets, SetsLive, ClearsErrors}
+use Rattle.types.specs.declared.Stored.{Stored}
+use Rattle.types.specs.declared.Record.{Record}
+use Rattle.types.specs.declared.Ticked.{Ticked}
+use Rattle.words.proofs.Tests.{and-l, and-r, and-in}
+use Rattle.paper.specs.Sizes.{arrayBytes, rowsBytes, sameMemory, pageBytes, tickLimit}
+use Rattle.paper.specs.Program.{programOf}
+use Rattle.paper.specs.Erase.{memoryOf, unitPages, unitBytes, erasedByte, eraseOf}
+use Rattle.paper.specs.Registers.{writeOf}
+use Rattle.paper.specs.Phases.{running, halted, workingOn, suspendedIn, resumedIn}
+use Rattle.paper.specs.Operations.{ticksInAll, ticksDone, advancedBy, inUnit, nextTouch}
+use Rattle.paper.specs.Soundness.{operationOk, phaseOk, sound}
+use Rattle.paper.specs.Table.{columns}
+use Rattle.paper.specs.Commands.{changed, begins, changeBy}
+use Rattle.paper.specs.Numbers.{tickNumber}
+use Rattle.paper.specs.Calls.{ticked}
+use Rattle.paper.specs.Ticks.{finished, advanced, worked, tickedAt, tickOnce, recordAfter, touchAt, touchOf, workingTicks}
+use Rattle.paper.specs.History.{Call, transaction, ticks, recordAfterCall, recordAfterCalls, tickTouches, reachedBy, callTouches, history, byteAfter, byteAfterAll}
+use Rattle.paper.proofs.Phases.{no-work-at, at-same, going-runs, rest-idle}
+use Rattle.paper.proofs.Soundness.{InOrder, in-order, sound-parts}
+use Rattle.paper.proofs.Kept.{run-sound}
+use Rattle.paper.proofs.TransactionKept.{after-transaction}
+use Rattle.paper.proofs.CallKept.{call-sound, calls-sound, calls-size}
+use Rattle.paper.proofs.Histories.{bytes-append, bytes-joined}
+use Rattle.paper.proofs.EraseBytes.{inDone, blank-sets, erase-fills}
+use Rattle.paper.proofs.HaltedKept.{going-halted, rest-halted}
+use Rattle.paper.proofs.NestedBytes.{halted-spares}
+
+-- the byte x at a place of a memory is FFh, if the place lies in the pages that an erase has done
+abbrev pub BlankIn : Memory → ℕ → ℕ → Work → Type 0
+BlankIn m at x NoWork = Unit {0}
+BlankIn m at x (At o) = inDone o m at ≡ true → x ≡ erasedByte
+
+-- so of what runs, and of what is suspended
+abbrev pub DoneBlank : Memory → ℕ → ℕ → Phase → Type 0
+DoneBlank m at x f = BlankIn m at x (running f) × BlankIn m at x (halted f)
+
+halted-ok : (f : Phase) (o : Operation) (n : ℕ) (s : Stored) → halted f ≡ At o → phaseOk f n s ≡ true → operationOk o n s ≡ true
+halted-ok Idle o n s e h = absurd (no-work-at e)
+halted-ok (Busy x) o n s e h = absurd (no-work-at e)
+halted-ok (Suspended x) o n s e h = ap (λ (y : Operation). operationOk y n s) (sym (at-same e)) ∙ and-r _ _ h
+halted-ok (Nested y x) o n s e h = ap (λ (z : Operation). operationOk z n s) (sym (at-same e)) ∙ and-l _ _ (and-r _ _ h)
+
+-- what is suspended on a sound part is in order
+halted-in-order : (p : Record) (o : Operation) → halted (p .phase) ≡ At o → sound p ≡ true → InOrder o (p .part .blocks) (p .part .stored)
+halted-in-order p o e h =
+    in-order o (p .part .blocks) (p .part .stored) (halted-ok (p .phase) o (p .part .blocks) (p .part .stored) e (sound-parts p h .phase-ok))
+
+module _ (m : Memory) (at : ℕ) where
+  -- an operation that begins has done no page
+  nothing-done : (u : EraseUnit) (b : ℕ) → inDone (Erase u b 0) m at ≡ true → ⊥
+  nothing-done u b h =
+      let l : b ≤ at = leb-true _ _ (and-l _ _ (and-r _ _ h)) in
+      let g : at < b + 0 * pageBytes = ltb-true _ _ (and-r _ _ (and-r _ _ h)) in
+      omega arith
+
+  -- and what is done stays so in the phases that follow
+  started-blank : (x : ℕ) (f : Phase) (o : Operation) → (inDone o m at ≡ true → ⊥) → DoneBlank m at x f → DoneBlank m at x (workingOn f o)
+  started-blank x Idle o n h = (λ t. absurd (n t), tt)
+  started-blank x (Busy y) o n h = (λ t. absurd (n t), tt)
+  started-blank x (Suspended y) o n h = (λ t. absurd (n t), h .1)
+  started-blank x (Nested y z) o n h = (λ t. absurd (n t), h .1)
+
+  suspended-blank : (x : ℕ) (f : Phase) → DoneBlank m at x f → DoneBlank m at x (suspendedIn f)
+  suspended-blank x Idle h = h
+  suspended-blank x (Busy o) h = (tt, h .0)
+  suspended-blank x (Suspended o) h = h
+  suspended-blank x (Nested e o) h = h
+
+  resumed-blank : (x : ℕ) (f : Phase) → DoneBlank m at x f → DoneBlank m at x (resumedIn f)
+  resumed-blank x Idle h = h
+  resumed-blank x (Busy o) h = h
+  resumed-blank x (Suspended o) h = (h .1, tt)
+  resumed-blank x (Nested e o) h = h
+
+  effect-blank : (c : Effect) (p : Record) (i : List ℕ) (x : ℕ) → DoneBlank m at x (p .phase) → DoneBlank m at x (changed (changeBy c (begins c (p .part .blocks) i) (p .part) (p .phase) i) i p .phase)
+  unfolding programOf eraseOf writeOf
+  effect-blank Looks p i x h = h
+  effect-blank Enables p i x h = h
+  effect-blank Disables p i x h = h
+  effect-blank (Programs w) p i x h = started-blank x (p .phase) (programOf w (p .part .blocks) i) false≢true h
+  effect-blank (Erases u) p i x h = started-blank x (p .phase) (eraseOf u (p .part .blocks) i) (nothing-done u _) h
+  effect-blank (Writes r) p i x h = started-blank x (p .phase) (writeOf r i) false≢true h
+  effect-blank Suspends p i x h = suspended-blank x (p .phase) h
+  effect-blank Resumes p i x h = resumed-blank x (p .phase) h
+  effect-blank Sleeps p i x h = h
+  effect-blank Wakes p i x h = h
+  effect-blank Arms p i x h = h
+  effect-blank Resets p i x h = (tt, tt)
+  effect-blank SetsLive p i x h = h
+  effect-blank ClearsErrors p i x h = h
+
+  -- a tick of an erase does one page more
+  next-blank : (o : Operation) (g : List ℕ) (x : ℕ) → BlankIn m at x (At o) → BlankIn m at (byteAfter m at (nextTouch o g) x) (At (advancedBy 1 o))
+  next-blank (Program w s b k d) g x h t = absurd (false≢true t)
+  next-blank (Erase u b d) g x h t =
+      let q : sameMemory m (memoryOf u) ≡ true = and-l _ _ t in
+      let l : leb b at ≡ true = and-l _ _ (and-r _ _ t) in
+      let r : at < b + (d + 1) * pageBytes = ltb-true _ _ (and-r _ _ (and-r _ _ t)) in
+      blank-sets m (memoryOf u) at (b + d * pageBytes) x (ltb at (b + d * pageBytes)) refl q (λ k. h (and-in q (and-in l (lt-ltb _ _ k)))) (omega arith)
+  next-blank (Write r v) g x h t = absurd (false≢true t)
+
+  -- the pages done lie in the unit
+  in-unit : (o : Operation) (n : ℕ) → ticksDone o < ticksInAll o n → inDone o m at ≡ true → inUnit o n m at ≡ true
+  in-unit (Program w s b k d) n h t = absurd (false≢true t)
+  in-unit (Erase u b d) n h t =
+      let r : at < b + d * pageBytes = ltb-true _ _ (and-r _ _ (and-r _ _ t)) in
+      and-in (and-l _ _ t) (and-in (and-l _ _ (and-r _ _ t)) (lt-ltb at (b + unitBytes u n) (omega arith)))
+  in-unit (Write r v) n h t = absurd (false≢true t)
+
+  -- a tick leaves those that a suspended erase has done
+  halted-blank : (p : Record) (x : ℕ) (w : Work) → halted (p .phase) ≡ w → sound p ≡ true → BlankIn m at x w → BlankIn m at (byteAfter m at (touchOf p) x) w
+  halted-blank p x NoWork e s h = tt
+  halted-blank p x (At o) e s h =
+      λ t. halted-spares m at o p x e s (in-unit o (p .part .blocks) (halted-in-order p o e s .going) t) ∙ h t
+
+  worked-blank : (p : Record) (x : ℕ) (o : Operation) (t : Bool) → running (p .phase) ≡ At o → sound p ≡ true → DoneBlank m at x (p .phase)
+      → DoneBlank m at (byteAfter m at (touchOf p) x) (cond t (advanced p (advancedBy 1 o)) (finished p o) .phase)
+  worked-blank p x o true e s h =
+      let y = byteAfter m at (touchOf p) x in
+      let q = ap (λ (w : Work). byteAfter m at (touchAt w (p .page)) x) e in
+      let r : BlankIn m at y (At (advancedBy 1 o)) = subst⁻¹ (λ (z : ℕ). BlankIn m at z (At (advancedBy 1 o))) q (next-blank o (p .page) x (subst (BlankIn m at x) e (h .0))) in
+      (subst⁻¹ (BlankIn m at y) (going-runs (p .phase) (advancedBy 1 o)) r, subst⁻¹ (BlankIn m at y) (going-halted (p .phase) (advancedBy 1 o)) (halted-blank p x (halted (p .phase)) refl s (h .1)))
+  worked-blank p x o false e s h =
+      let y = byteAfter m at (touchOf p) x in
+      (subst⁻¹ (BlankIn m at y) (rest-idle (p .phase)) tt, subst⁻¹ (BlankIn m at y) (rest-halted (p .phase)) (halted-blank p x (halted (p .phase)) refl s (h .1)))
+
+  ticked-blank : (p : Record) (x : ℕ) (w : Work) → running (p .phase) ≡ w → sound p ≡ true → DoneBlank m at x (p .phase) → DoneBlank m at (byteAfter m at (touchOf p) x) (tickedAt p w .phase)
+  unfolding worked
+  ticked-blank p x NoWork e s h =
+      subst⁻¹ (λ (z : ℕ). DoneBlank m at z (p .phase)) (ap (λ (w : Work). byteAfter m at (touchAt w (p .page)) x) e) h
+  ticked-blank p x (At o) e s h = worked-blank p x o (ltb (ticksDone o + 1) (ticksInAll o (p .part .blocks))) e s h
+
+  run-blank : (n : ℕ) (p : Record) (x : ℕ) → sound p ≡ true → DoneBlank m at x (p .phase) → DoneBlank m at (byteAfterAll m at (tickTouches n p) x) (recordAfter n p .phase)
+  run-blank zero p x s h = h
+  run-blank (suc n) p x s h =
+      let q = recordAfter n p in
+      subst⁻¹ (λ (z : ℕ). DoneBlank m at z (tickOnce q .phase)) (bytes-append m at (tickTouches n p) (touchOf q ∷ []) x)
+      (ticked-blank q (byteAfterAll m at (tickTouches n p) x) (running (q .phase)) refl (run-sound n p s) (run-blank n p x s h))
+
+  -- a tick call, refused or not
+  called-blank : (n k : ℕ) (p : Record) (x : ℕ) (t : Bool) → eqb k 0 ≡ t → sound p ≡ true → DoneBlank m at x (p .phase)
+      → let u = cond {A = Ticked} t (record { next = recordAfter n p; number = 0; done = workingTicks n p }) (record { next = p; number = k; done = 0 }) in
+      DoneBlank m at (byteAfterAll m at (reachedBy (u .number) n p) x) (u .next .phase)
+  called-blank n k p x true e s h = run-blank n p x s h
+  called-blank n k p x false e s h = rw e h
+
+  call-blank : (c : Call) (p : Record) (x : ℕ) → sound p ≡ true → DoneBlank m at x (p .phase) → DoneBlank m at (byteAfterAll m at (callTouches c p) x) (recordAfterCall c p .phase)
+  unfolding ticked
+  call-blank (transaction wp i o) p x s h =
+      after-transaction (λ (q : Record). DoneBlank m at x (q .phase)) p wp i h h (λ v. h) (λ k e. effect-blank (columns k .effect) p i x h) (arrayBytes (p .part .blocks)) rowsBytes o
+  call-blank (ticks n) p x s h =
+      let k = tickNumber (p .part .blocks) (sound p) (arrayBytes (p .part .blocks)) rowsBytes n in
+      called-blank n k p x (eqb k 0) refl s h
+
+  -- over every list of calls, whatever they are, the pages that an erase has done hold FFh while it runs and while it is suspended
+  pub calls-blank : (cs : List Call) (p : Record) (x : ℕ) → sound p ≡ true → DoneBlank m at x (p .phase) → DoneBlank m at (byteAfterAll m at (history cs p) x) (recordAfterCalls cs p .phase)
+  calls-blank [] p x s h = h
+  calls-blank (c ∷ cs) p x s h =
+      let q = recordAfterCall c p in
+      subst⁻¹ (λ (z : ℕ). DoneBlank m at z (recordAfterCalls cs q .phase)) (bytes-append m at (callTouches c p) (history cs q) x)
+      (calls-blank cs q (byteAfterAll m at (callTouches c p) x) (call-sound c p s) (call-blank c p x s h))
+
+-- a part that is idle, or runs an erase from its first tick on, has done no page
+pub idle-blank : (m : Memory) (at x : ℕ) (p : Record) → p .phase ≡ Idle → DoneBlank m at x (p .phase)
+idle-blank m at x p f = subst⁻¹ (DoneBlank m at x) f (tt, tt)
+
+pub begun-blank : (m : Memory) (at x : ℕ) (p : Record) (u : EraseUnit) (b : ℕ) → p .phase ≡ Busy (Erase u b 0) → DoneBlank m at x (p .phase)
+begun-blank m at x p u b f = subst⁻¹ (DoneBlank m at x) f (λ t. absurd (nothing-done m at u b t), tt)
+
+-- so an erase that ran and was suspended in any calls, from where no page was done or those done hold FFh, holds FFh in its whole unit when it ends
+pub erase-whole : (m : Memory) (at x : ℕ) (cs : List Call) (p : Record) (u : EraseUnit) (b d n : ℕ) → sound p ≡ true → DoneBlank m at x (p .phase)
+    → recordAfterCalls cs p .phase ≡ Busy (Erase u b d) → unitPages u (p .part .blocks) ≤ d + n → n ≤ tickLimit → inUnit (Erase u b d) (p .part .blocks) m at ≡ true
+    → byteAfterAll m at (history (cs ++ (ticks n ∷ [])) p) x ≡ erasedByte
+erase-whole m at x cs p u b d n s h f l few i =
+    let q = recordAfterCalls cs p in
+    let y = byteAfterAll m at (history cs p) x in
+    let z : q .part .blocks ≡ p .part .blocks = calls-size cs p in
+    let r : BlankIn m at y (At (Erase u b d)) = subst (BlankIn m at y) (ap running f) (calls-blank m at cs p x s h .0) in
+    bytes-joined m at cs (ticks n ∷ []) p x
+    ∙ bytes-append m at (callTouches (ticks n) q) [] y
+    ∙ erase-fills q u b d n (calls-sound cs p s) f (omega (arith, ap (unitPages u) z, l)) few m at y r (ap (λ (k : ℕ). inUnit (Erase u b d) k m at) z ∙ i)

@@ -1,0 +1,127 @@
+-- A program within a suspended erase: what the registers show, and how it begins, goes on and ends.
+use Prim.Native.Nat.{ℕ, suc, _+_, _-_, _/_, _%_, _≤_, _<_}
+use mathlib.Core.Path.{_≡_, refl, sym, ap, _∙_, subst}
+use mathlib.Core.Bool.{Bool, true, false, cond, false≢true}
+use mathlib.Core.List.{List}
+use native.Mathlib.Omega.{arith}
+use lib.ListN.{length, getD}
+use lib.Dec.{eqb}
+use borrow.Author.Tests.{eqb-true}
+use Rattle.types.specs.declared.Memory.the-variants.{Array}
+use Rattle.types.specs.declared.Operation.{Operation}
+use Rattle.types.specs.declared.Operation.the-variants.{Program, Erase, Write}
+use Rattle.types.specs.declared.Phase.{Phase}
+use Rattle.types.specs.declared.Phase.the-variants.{Suspended, Nested}
+use Rattle.types.specs.declared.Command.{Command}
+use Rattle.types.specs.declared.Command.the-variants.{PageProgram}
+use Rattle.types.specs.declared.Decoded.the-variants.{Known}
+use Rattle.types.specs.declared.Stored.{Stored}
+use Rattle.types.specs.declared.Record.{Record}
+use Rattle.types.specs.declared.Outcome.{Outcome}
+use Rattle.types.specs.declared.Answer.{Answer}
+use Rattle.words.specs.Logic.{bit}
+use Rattle.words.proofs.Tests.{and-l, and-r, bit-le}
+use Rattle.paper.specs.Program.{dataSent, pageData, noData, programOf}
+use Rattle.paper.specs.Phases.{running, halted, workIs, isProgram, isErase, eraseHalted, isBusy, workingOn, restOf}
+use Rattle.paper.specs.Records.{wip, esus, psus, statusLow, functionLow}
+use Rattle.paper.specs.Operations.{ticksInAll, ticksDone, advancedBy}
+use Rattle.paper.specs.Soundness.{bitsOk, sound}
+use Rattle.paper.specs.Table.{decoded, columns}
+use Rattle.paper.specs.Numbers.{transactionRefusal, ignoredNumber}
+use Rattle.paper.specs.Calls.{refused, ignored, executed, outcomeTo, outcomeOf, answered, transacted}
+use Rattle.paper.specs.Ticks.{recordAfter}
+use Rattle.paper.proofs.Soundness.{recordOf, sound-parts, sound-in, in-nest}
+use Rattle.paper.proofs.Runs.{run-record, run-past}
+
+-- what registers show: WIP and WEL, bits 0 and 1 of status, and ESUS and PSUS, bits 3 and 2 of function
+pub record Showing (s : Stored) (wip wel esus psus : ℕ) : Type 0 where
+  pub wip-shown : s .status % 2 ≡ wip
+  pub wel-shown : s .status / 2 % 2 ≡ wel
+  pub esus-shown : s .function / 8 % 2 ≡ esus
+  pub psus-shown : s .function / 4 % 2 ≡ psus
+
+-- those of a sound record show its phase and its latch
+pub sound-shows : (p : Record) → sound p ≡ true → Showing (p .part .stored) (wip (p .phase)) (bit (p .part .wel)) (esus (p .phase)) (psus (p .phase))
+unfolding bitsOk
+sound-shows p s =
+    let b = sound-parts p s .bits in
+    let st : p .part .stored .status % 4 ≡ statusLow (p .phase) (p .part .wel) = eqb-true _ _ (and-l _ _ b) in
+    let fn : p .part .stored .function % 16 ≡ functionLow (p .phase) = eqb-true _ _ (and-l _ _ (and-r _ _ b)) in
+    let i = bit-le (isBusy (p .phase)) in
+    let l = bit-le (p .part .wel) in
+    let e = bit-le (eraseHalted (p .phase)) in
+    let g = bit-le (workIs isProgram (halted (p .phase))) in
+    record { wip-shown = omega (arith, st, i, l); wel-shown = omega (arith, st, i, l); esus-shown = omega (arith, fn, e, g); psus-shown = omega (arith, fn, e, g) }
+
+-- while a program runs within a suspended erase WEL is 1
+pub nested-latch : (p : Record) (e o : Operation) → p .phase ≡ Nested e o → sound p ≡ true → p .part .wel ≡ true
+nested-latch p e o f s = sound-in p (Nested e o) f s .latch
+
+erase-bits : (e : Operation) → isErase e ≡ true → (bit (isErase e) ≡ 1) × (bit (isProgram e) ≡ 0)
+erase-bits (Program m s b k d) h = absurd (false≢true h)
+erase-bits (Erase u b d) h = (refl, refl)
+erase-bits (Write r v) h = absurd (false≢true h)
+
+shows-in : (p : Record) (f : Phase) → p .phase ≡ f → sound p ≡ true → Showing (p .part .stored) (wip f) (bit (p .part .wel)) (esus f) (psus f)
+shows-in p f e s = subst (λ (g : Phase). Showing (p .part .stored) (wip g) (bit (p .part .wel)) (esus g) (psus g)) e (sound-shows p s)
+
+-- and the registers show WIP, WEL and ESUS 1 and PSUS 0
+pub nested-shows : (p : Record) (e o : Operation) → p .phase ≡ Nested e o → sound p ≡ true → Showing (p .part .stored) 1 1 1 0
+nested-shows p e o f s =
+    let q = shows-in p (Nested e o) f s in
+    let b = erase-bits e (in-nest e o (p .part .blocks) (and-l _ _ (sound-in p (Nested e o) f s .phase-ok)) .erases) in
+    record { wip-shown = q .wip-shown; wel-shown = q .wel-shown ∙ ap bit (nested-latch p e o f s); esus-shown = q .esus-shown ∙ b .0; psus-shown = q .psus-shown ∙ b .1 }
+
+-- while an erase is suspended and nothing runs they show WIP 0, ESUS 1 and PSUS 0; WEL is 0 or 1
+pub suspended-shows : (p : Record) (e : Operation) → p .phase ≡ Suspended e → isErase e ≡ true → sound p ≡ true → Showing (p .part .stored) 0 (bit (p .part .wel)) 1 0
+suspended-shows p e f h s =
+    let q = shows-in p (Suspended e) f s in
+    let b = erase-bits e h in
+    record { wip-shown = q .wip-shown; wel-shown = q .wel-shown; esus-shown = q .esus-shown ∙ b .0; psus-shown = q .psus-shown ∙ b .1 }
+
+-- an outcome that goes by a number, and tells it where it is not 0, tells 0: the number is 0
+zero-number : (n : ℕ) (x y : Outcome) (t : Bool) → eqb n 0 ≡ t → y .number ≡ n → cond t x y .number ≡ 0 → n ≡ 0
+zero-number n x y true e h z = eqb-true _ _ e
+zero-number n x y false e h z = sym h ∙ z
+
+-- a transaction that answers 0 executed the command that its first byte is, to which no number applied
+module _ (p : Record) (a r : ℕ) (wp : Bool) (i : List ℕ) (o : ℕ) (k : Command) (e : decoded (getD i 0 0) ≡ Known k) (z : transacted p a r wp i o .number ≡ 0) where
+  not-refused : transactionRefusal (p .part .blocks) (sound p) a r (length i) o ≡ 0
+  unfolding transacted outcomeOf
+  not-refused =
+      let n = transactionRefusal (p .part .blocks) (sound p) a r (length i) o in
+      zero-number n (outcomeTo (decoded (getD i 0 0)) (p .part) (p .phase) wp i) (refused n) (eqb n 0) refl refl z
+
+  taken : transacted p a r wp i o ≡ answered (outcomeTo (Known k) (p .part) (p .phase) wp i) i p
+  unfolding transacted outcomeOf
+  taken = rw (not-refused, e)
+
+  pub not-ignored : ignoredNumber (Known k) (p .part) (p .phase) i wp ≡ 0
+  not-ignored =
+      let n = ignoredNumber (Known k) (p .part) (p .phase) i wp in
+      zero-number n (executed (columns k) (p .part) (p .phase) i) (ignored (Known k) n (p .part) (length i)) (eqb n 0) refl refl (sym (ap (λ (t : Answer). t .number) taken) ∙ z)
+
+  pub executed-so : transacted p a r wp i o ≡ answered (executed (columns k) (p .part) (p .phase) i) i p
+  executed-so = taken ∙ rw not-ignored
+
+-- a 02h that is executed on a part that is suspended from e begins a program within it; WEL is 1 still, and the bytes that count are kept
+pub program-nests : (p : Record) (e : Operation) (a r : ℕ) (wp : Bool) (i : List ℕ) (o : ℕ) → p .phase ≡ Suspended e → decoded (getD i 0 0) ≡ Known PageProgram → transacted p a r wp i o .number ≡ 0
+    → let q = transacted p a r wp i o .next in
+    (q .phase ≡ Nested e (programOf Array (p .part .blocks) i)) × (q .part .wel ≡ true) × (q .page ≡ pageData (dataSent i))
+program-nests p e a r wp i o f d z =
+    let q = executed-so p a r wp i o PageProgram d z in
+    (ap (λ (t : Answer). t .next .phase) q ∙ ap (λ (g : Phase). workingOn g (programOf Array (p .part .blocks) i)) f, ap (λ (t : Answer). t .next .part .wel) q, ap (λ (t : Answer). t .next .page) q)
+
+-- its ticks that are not the last go on with it
+pub nested-goes-on : (p : Record) (e o : Operation) (n : ℕ) → p .phase ≡ Nested e o → ticksDone o + n < ticksInAll o (p .part .blocks) → recordAfter n p ≡ recordOf (p .part) (Nested e (advancedBy n o)) (p .page)
+nested-goes-on p e o n f h =
+    run-record p o (ap running f) n h ∙ ap (λ (g : Phase). recordOf (p .part) (workingOn g (advancedBy n o)) (p .page)) f
+
+-- its last leaves the part suspended from the erase, with WEL 0 and page data zero; ticks past it change nothing
+pub nested-ends : (p : Record) (e o : Operation) (n : ℕ) → p .phase ≡ Nested e o → ticksDone o < ticksInAll o (p .part .blocks) → ticksInAll o (p .part .blocks) ≤ ticksDone o + n
+    → let q = recordAfter n p in (q .phase ≡ Suspended e) × (q .part .wel ≡ false) × (q .page ≡ noData)
+nested-ends p e o n f h l =
+    let k = ticksInAll o (p .part .blocks) - ticksDone o - 1 in
+    let z : n ≡ suc k + (n - suc k) = omega arith in
+    let q = ap (λ (j : ℕ). recordAfter j p) z ∙ run-past p o (ap running f) k (n - suc k) (omega arith) in
+    (ap (λ (r : Record). r .phase) q ∙ ap restOf f, ap (λ (r : Record). r .part .wel) q, ap (λ (r : Record). r .page) q)
