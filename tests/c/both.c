@@ -262,7 +262,8 @@ static bool same_part(const struct part *a, const struct part *b)
            a->status == b->status && a->function == b->function && a->extended == b->extended &&
            a->live == b->live && a->e_err == b->e_err && a->p_err == b->p_err && a->prot_e == b->prot_e &&
            a->wel == b->wel && a->armed == b->armed && a->asleep == b->asleep && a->phase == b->phase &&
-           same_operation(&a->op, &b->op) && memcmp(a->data, b->data, REF_PAGE) == 0;
+           same_operation(&a->op, &b->op) && same_operation(&a->outer, &b->outer) &&
+           memcmp(a->data, b->data, REF_PAGE) == 0;
 }
 
 /* A refused call leaves the record's bytes; any other changes them exactly when the reference's record changes. */

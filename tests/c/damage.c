@@ -3,8 +3,9 @@
  * What record such bytes hold, if any, is not known here. So each call is held to what is promised of any
  * bytes: either it is refused, and then nothing at all was written, or the bytes hold a sound record, and then
  * the number is one of the table, nothing outside of the buffers was written, a transaction left array and rows,
- * and the same call on a copy does the same. Only the stored byte of the extended read register is looked for, by
- * setting it: of that byte is known which values are sound. */
+ * and the same call on a copy does the same. Only a few fields are looked for, by two records that differ in one of
+ * them alone: the stored byte of the extended read register, and what the record holds of the two operations of a part
+ * that programs during erase suspend. Of these is known which values are sound. */
 #include "both.h"
 
 extern int memcmp(const void *, const void *, unsigned long);
@@ -160,18 +161,37 @@ static void stays_sound(void)
     }
 }
 
-/* Row 0 is locked in most of the records: 28 changes the record, and leaves it sound. */
-static void erase_row(const uint8_t *bytes)
+/* A transaction leaves a sound record sound. */
+static void try_command(const uint8_t *bytes, const void *command, size_t length)
 {
-    struct call call = transaction(4);
+    struct call call = transaction(length);
     uint64_t result;
 
     set_record(bytes);
-    memcpy(message, "\x64\x00\x00\x00", 4);
+    memcpy(message, command, length);
     result = try_call(&call);
     transaction_may_answer(&call, result);
     if (!is_refusal(result))
         stays_sound();
+}
+
+/* Row 0 is locked in most of the records: 28 changes the record. */
+static void erase_row(const uint8_t *bytes)
+{
+    try_command(bytes, "\x64\x00\x00\x00", 4);
+}
+
+/* One of the commands by which the phase or WEL may change: a program, on its own or within an erase, suspend, resume,
+ * write enable, write disable. */
+static void change_phase(const uint8_t *bytes)
+{
+    static const uint8_t program[] = {0x02, 0x00, 0x12, 0x34, 0x56}, others[] = {0x75, 0x7A, 0x06, 0x04};
+    uint32_t drawn = number_below(&chance, 1 + COUNT(others));
+
+    if (drawn == COUNT(others))
+        try_command(bytes, program, sizeof program);
+    else
+        try_command(bytes, &others[drawn], 1);
 }
 
 static void tick_some(const uint8_t *bytes, uint64_t ticks)
@@ -211,8 +231,10 @@ static void try_record(const uint8_t *bytes)
 
     if (number != 1 && number != 5)
         stays_sound();
-    if (number == 0)
+    if (number == 0) {
         read_extended(bytes, status);
+        change_phase(bytes);
+    }
     erase_row(bytes);
     tick_some(bytes, 1);
     if (number != 5 || number_below(&chance, 8) == 0) {
@@ -305,32 +327,51 @@ struct transmission {
     uint8_t bytes[9];
 };
 
-/* Sent after a power-up, each with WP# high. The ticks pass after the second of them. */
+/* Sent after a power-up, each with WP# high. */
 struct state {
     const char *name;
-    uint64_t ticks;
-    struct transmission sent[4];
+    uint64_t ticks;      /* pass after the second of them */
+    uint64_t last_ticks; /* pass after the last */
+    struct transmission sent[6];
 };
 
 static const struct state states[] = {
-    {"changed: idle", 0, {{0}}},
-    {"changed: write enabled and armed", 0, {{1, {0x06}}, {1, {0x66}}}},
-    {"changed: asleep", 0, {{1, {0xB9}}}},
-    {"changed: in a program", 2, {{1, {0x06}}, {9, {0x02, 0x00, 0x12, 0xFD, 1, 2, 3, 4, 5}}, {1, {0x66}}}},
-    {"changed: in a sector erase", 3, {{1, {0x06}}, {4, {0xD7, 0x00, 0x30, 0x00}}}},
-    {"changed: in a 32 KiB erase", 100, {{1, {0x06}}, {4, {0x52, 0x00, 0x80, 0x00}}}},
-    {"changed: in a block erase", 200, {{1, {0x06}}, {4, {0xD8, 0x00, 0x00, 0x00}}}},
-    {"changed: in a chip erase", 255, {{1, {0x06}}, {1, {0xC7}}}},
-    {"changed: in a row erase", 0, {{1, {0x06}}, {4, {0x64, 0x00, 0x20, 0x00}}}},
-    {"changed: in a row program", 1, {{1, {0x06}}, {9, {0x62, 0x00, 0x30, 0xFE, 9, 8, 7, 6, 5}}}},
-    {"changed: in a status write", 0, {{1, {0x06}}, {2, {0x01, 0xBC}}}},
-    {"changed: in a function write", 0, {{1, {0x06}}, {2, {0x42, 0xF0}}}},
-    {"changed: in an extended write", 0, {{1, {0x06}}, {2, {0x85, 0xE0}}, {1, {0x66}}}},
-    {"changed: with an erase error", 0, {{1, {0x06}}, {4, {0x64, 0x00, 0x00, 0x00}}, {2, {0x83, 0xA0}}}},
-    {"changed: with both errors, in a program", 0,
+    {"changed: idle", 0, 0, {{0}}},
+    {"changed: write enabled and armed", 0, 0, {{1, {0x06}}, {1, {0x66}}}},
+    {"changed: asleep", 0, 0, {{1, {0xB9}}}},
+    {"changed: in a program", 2, 0, {{1, {0x06}}, {9, {0x02, 0x00, 0x12, 0xFD, 1, 2, 3, 4, 5}}, {1, {0x66}}}},
+    {"changed: in a sector erase", 3, 0, {{1, {0x06}}, {4, {0xD7, 0x00, 0x30, 0x00}}}},
+    {"changed: in a 32 KiB erase", 100, 0, {{1, {0x06}}, {4, {0x52, 0x00, 0x80, 0x00}}}},
+    {"changed: in a block erase", 200, 0, {{1, {0x06}}, {4, {0xD8, 0x00, 0x00, 0x00}}}},
+    {"changed: in a chip erase", 255, 0, {{1, {0x06}}, {1, {0xC7}}}},
+    {"changed: in a row erase", 0, 0, {{1, {0x06}}, {4, {0x64, 0x00, 0x20, 0x00}}}},
+    {"changed: in a row program", 1, 0, {{1, {0x06}}, {9, {0x62, 0x00, 0x30, 0xFE, 9, 8, 7, 6, 5}}}},
+    {"changed: in a status write", 0, 0, {{1, {0x06}}, {2, {0x01, 0xBC}}}},
+    {"changed: in a function write", 0, 0, {{1, {0x06}}, {2, {0x42, 0xF0}}}},
+    {"changed: in an extended write", 0, 0, {{1, {0x06}}, {2, {0x85, 0xE0}}, {1, {0x66}}}},
+    {"changed: with an erase error", 0, 0, {{1, {0x06}}, {4, {0x64, 0x00, 0x00, 0x00}}, {2, {0x83, 0xA0}}}},
+    {"changed: with both errors, in a program", 0, 0,
      {{1, {0x06}}, {4, {0x64, 0x00, 0x00, 0x00}}, {5, {0x62, 0, 0, 0, 9}}, {6, {0x02, 0x00, 0x12, 0xFE, 8, 7}}}},
-    {"changed: suspended from a program", 1, {{1, {0x06}}, {9, {0x02, 0x00, 0xFF, 0xFF, 1, 2, 3, 4, 5}}, {1, {0x75}}}},
-    {"changed: suspended from an erase", 15, {{1, {0x06}}, {4, {0x20, 0x00, 0xF0, 0x00}}, {1, {0xB0}}, {1, {0x66}}}},
+    {"changed: suspended from a program", 1, 0,
+     {{1, {0x06}}, {9, {0x02, 0x00, 0xFF, 0xFF, 1, 2, 3, 4, 5}}, {1, {0x75}}}},
+    {"changed: suspended from an erase", 15, 0,
+     {{1, {0x06}}, {4, {0x20, 0x00, 0xF0, 0x00}}, {1, {0xB0}}, {1, {0x66}}}},
+    {"changed: suspended from an erase, write enabled", 3, 0,
+     {{1, {0x06}}, {4, {0xD7, 0x00, 0x10, 0x00}}, {1, {0x75}}, {1, {0x06}}, {1, {0x66}}}},
+    {"changed: suspended from a block erase, write enabled, with a program error", 130, 0,
+     {{1, {0x06}}, {4, {0xD8, 0x00, 0x00, 0x00}}, {1, {0x75}}, {1, {0x06}}, {5, {0x02, 0x00, 0x12, 0x34, 0x56}}}},
+    {"changed: in a program within a sector erase", 5, 2,
+     {{1, {0x06}}, {4, {0xD7, 0x00, 0x30, 0x00}}, {1, {0x75}}, {1, {0x06}},
+      {9, {0x02, 0x00, 0x2F, 0xFD, 1, 2, 3, 4, 5}}, {1, {0x66}}}},
+    {"changed: in a program within a 32 KiB erase", 127, 4,
+     {{1, {0x06}}, {4, {0x52, 0x00, 0x80, 0x00}}, {1, {0xB0}}, {1, {0x06}},
+      {9, {0x02, 0x00, 0x00, 0xFF, 9, 8, 7, 6, 5}}}},
+    {"changed: in a program within an erase, with a program error", 0, 0,
+     {{1, {0x06}}, {4, {0x20, 0x00, 0x00, 0x00}}, {1, {0x75}}, {1, {0x06}},
+      {5, {0x02, 0x00, 0x0F, 0xFF, 0x00}}, {6, {0x02, 0x00, 0x10, 0x00, 8, 7}}}},
+    {"changed: suspended from an erase, after a program within it", 9, 2,
+     {{1, {0x06}}, {4, {0x20, 0x00, 0x40, 0x00}}, {1, {0x75}}, {1, {0x06}},
+      {6, {0x02, 0x00, 0x50, 0x00, 8, 7}}}},
 };
 
 static void reach(const struct state *state)
@@ -358,6 +399,8 @@ static void reach(const struct state *state)
             step(&call);
         }
     }
+    call = some_tick(state->last_ticks);
+    step(&call);
 }
 
 static void change(const struct state *state, uint64_t seed)
@@ -373,7 +416,29 @@ static void change(const struct state *state, uint64_t seed)
     cut_and_lengthened();
 }
 
-/* ---- The stored byte of the extended read register ---- */
+/* ---- One field of a record ---- */
+
+/* The only place where the records of two states differ. That of the first one is kept. */
+static size_t place_that_differs(const struct state *one, const struct state *other)
+{
+    struct call call = transaction(2);
+    size_t place = 0, places = 0, i;
+
+    begin_run(one->name, 1, BLOCKS);
+    reach(one);
+    memcpy(sound, model.record, sizeof sound);
+    reach(other);
+    memcpy(array, model.array, sizeof array);
+    memcpy(rows, model.rows, sizeof rows);
+    for (i = 0; i < sizeof sound; i++)
+        if (model.record[i] != sound[i]) {
+            place = i;
+            places++;
+        }
+    if (places != 1)
+        fail(&call, "at how many places the records of two states differ", 1, places);
+    return place;
+}
 
 static void send_good(const void *bytes, size_t length)
 {
@@ -386,41 +451,18 @@ static void send_good(const void *bytes, size_t length)
         fail(&call, "the number of a good transaction", 0, number);
 }
 
-/* Where it stands in the record is found by setting it, with the volatile byte set before. */
-static size_t place_of_stored_byte(void)
-{
-    static const struct state set_once = {"changed: the stored byte", 0, {{2, {0x83, 0xE0}}}};
-    static const struct state set_both = {
-        "changed: the stored byte", 0, {{2, {0x83, 0xE0}}, {1, {0x06}}, {2, {0x85, 0xE0}}}};
-    struct call call = some_tick(1);
-    size_t place = 0, places = 0, i;
-
-    reach(&set_once);
-    memcpy(sound, model.record, sizeof sound);
-    reach(&set_both);
-    step(&call);
-    for (i = 0; i < sizeof sound; i++)
-        if (model.record[i] != sound[i]) {
-            place = i;
-            places++;
-        }
-    if (places != 1)
-        fail(&call, "how many bytes of the record hold the stored byte", 1, places);
-    return place;
-}
-
-/* Of its values the eight that have bits 4..0 zero are sound, and a reset shows bits 7..5 of each. */
+/* Of the values of the extended read register's stored byte the eight that have bits 4..0 zero are sound, and a reset
+ * shows bits 7..5 of each. The byte is found by setting it, with the volatile byte set before. */
 static void stored_byte_changed(void)
 {
+    static const struct state set_once = {"changed: the stored byte", 0, 0, {{2, {0x83, 0xE0}}}};
+    static const struct state set_both = {
+        "changed: the stored byte", 0, 1, {{2, {0x83, 0xE0}}, {1, {0x06}}, {2, {0x85, 0xE0}}}};
     struct call call = transaction(2);
     uint8_t bytes[YAWLSPAR_RECORD_BYTES];
     uint32_t value, sound_values = 0, shown = 0;
-    size_t place;
+    size_t place = place_that_differs(&set_once, &set_both);
 
-    begin_run("changed: the stored byte", 1, BLOCKS);
-    place = place_of_stored_byte();
-    memcpy(array, model.array, sizeof array);
-    memcpy(rows, model.rows, sizeof rows);
     memcpy(bytes, sound, sizeof bytes);
     for (value = 0; value < 256; value++) {
         bytes[place] = (uint8_t)value;
@@ -440,6 +482,74 @@ static void stored_byte_changed(void)
         fail(&call, "which values of bits 7..5 are shown, as bits", 0xFF, shown);
 }
 
+/* Two states whose records differ in one field alone, and how many of the 256 values of the byte there are sound. */
+struct pair {
+    uint32_t sound_values;
+    struct state one, other;
+};
+
+/* The fields of the two operations of a part that programs during erase suspend. */
+static const struct pair pairs[] = {
+    /* its page, within a sector erase: not one of the sector's 16 */
+    {240,
+     {"changed: the page of an inner program", 5, 1,
+      {{1, {0x06}}, {4, {0xD7, 0x00, 0x30, 0x00}}, {1, {0x75}}, {1, {0x06}}, {6, {0x02, 0x00, 0x2F, 0x00, 1, 2}}}},
+     {"", 5, 1,
+      {{1, {0x06}}, {4, {0xD7, 0x00, 0x30, 0x00}}, {1, {0x75}}, {1, {0x06}}, {6, {0x02, 0x00, 0x2E, 0x00, 1, 2}}}}},
+    /* its page, within a 32 KiB erase: not one of the 128 */
+    {128,
+     {"changed: the page of an inner program in half a block", 5, 1,
+      {{1, {0x06}}, {4, {0x52, 0x00, 0x80, 0x00}}, {1, {0x75}}, {1, {0x06}}, {6, {0x02, 0x00, 0x2F, 0x00, 1, 2}}}},
+     {"", 5, 1,
+      {{1, {0x06}}, {4, {0x52, 0x00, 0x80, 0x00}}, {1, {0x75}}, {1, {0x06}}, {6, {0x02, 0x00, 0x2E, 0x00, 1, 2}}}}},
+    /* its ticks done: fewer than its two bytes */
+    {2,
+     {"changed: the ticks of an inner program", 5, 0,
+      {{1, {0x06}}, {4, {0xD7, 0x00, 0x30, 0x00}}, {1, {0x75}}, {1, {0x06}}, {6, {0x02, 0x00, 0x2F, 0x00, 1, 2}}}},
+     {"", 5, 1,
+      {{1, {0x06}}, {4, {0xD7, 0x00, 0x30, 0x00}}, {1, {0x75}}, {1, {0x06}}, {6, {0x02, 0x00, 0x2F, 0x00, 1, 2}}}}},
+    /* the sector: one of 16, and not that of the program */
+    {15,
+     {"changed: the sector beneath an inner program", 5, 0,
+      {{1, {0x06}}, {4, {0xD7, 0x00, 0x30, 0x00}}, {1, {0x75}}, {1, {0x06}}, {6, {0x02, 0x00, 0xF1, 0x00, 1, 2}}}},
+     {"", 5, 0,
+      {{1, {0x06}}, {4, {0xD7, 0x00, 0x20, 0x00}}, {1, {0x75}}, {1, {0x06}}, {6, {0x02, 0x00, 0xF1, 0x00, 1, 2}}}}},
+    /* the sector's ticks done: fewer than 16 */
+    {16,
+     {"changed: the ticks of an erase beneath an inner program", 5, 0,
+      {{1, {0x06}}, {4, {0xD7, 0x00, 0x30, 0x00}}, {1, {0x75}}, {1, {0x06}}, {6, {0x02, 0x00, 0x2F, 0x00, 1, 2}}}},
+     {"", 6, 0,
+      {{1, {0x06}}, {4, {0xD7, 0x00, 0x30, 0x00}}, {1, {0x75}}, {1, {0x06}}, {6, {0x02, 0x00, 0x2F, 0x00, 1, 2}}}}},
+    /* the kind of erase: of a sector or of 32 KiB, for the one block holds the program's page */
+    {2,
+     {"changed: the kind of erase beneath an inner program", 5, 0,
+      {{1, {0x06}}, {4, {0xD7, 0x00, 0x00, 0x00}}, {1, {0x75}}, {1, {0x06}}, {6, {0x02, 0x00, 0xF1, 0x00, 1, 2}}}},
+     {"", 5, 0,
+      {{1, {0x06}}, {4, {0x52, 0x00, 0x00, 0x00}}, {1, {0x75}}, {1, {0x06}}, {6, {0x02, 0x00, 0xF1, 0x00, 1, 2}}}}},
+    /* with no program running: any sector */
+    {16,
+     {"changed: the suspended sector", 5, 0, {{1, {0x06}}, {4, {0xD7, 0x00, 0x30, 0x00}}, {1, {0x75}}, {1, {0x06}}}},
+     {"", 5, 0, {{1, {0x06}}, {4, {0xD7, 0x00, 0x20, 0x00}}, {1, {0x75}}, {1, {0x06}}}}},
+};
+
+static void field_changed(const struct pair *pair)
+{
+    struct call call = transaction(2);
+    uint8_t bytes[YAWLSPAR_RECORD_BYTES];
+    uint32_t value, sound_values = 0;
+    size_t place = place_that_differs(&pair->one, &pair->other);
+
+    memcpy(bytes, sound, sizeof bytes);
+    for (value = 0; value < 256; value++) {
+        bytes[place] = (uint8_t)value;
+        try_record(bytes);
+        if (read_status(bytes) != 5)
+            sound_values++;
+    }
+    if (sound_values != pair->sound_values)
+        fail(&call, "how many values of the byte are sound", pair->sound_values, sound_values);
+}
+
 void damaged_records(void)
 {
     size_t i;
@@ -447,6 +557,8 @@ void damaged_records(void)
     for (i = 0; i < COUNT(states); i++)
         change(&states[i], i + 1);
     stored_byte_changed();
+    for (i = 0; i < COUNT(pairs); i++)
+        field_changed(&pairs[i]);
     one_value(0x00);
     one_value(0xFF);
     random_bytes(1000);

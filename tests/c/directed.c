@@ -1,9 +1,12 @@
 /* Calls whose numbers are worked out by hand from the specification: 1 to 6 in each call that can give them,
  * the lowest where several apply, and the cases 12 and 13 that it works on paper. And 28, in the blocks that
- * yawlspar_protected_first and yawlspar_protected_count name, and what the extended read register tells of it. */
+ * yawlspar_protected_first and yawlspar_protected_count name, and what the extended read register tells of it. And
+ * the programs that run during erase suspend. */
 #include "both.h"
 
+extern int memcmp(const void *, const void *, unsigned long);
 extern void *memcpy(void *, const void *, unsigned long);
+extern void *memset(void *, int, unsigned long);
 
 static const uint64_t no_bytes[] = {256, 257, UINT64_C(1) << 32, UINT64_C(1) << 63, UINT64_MAX};
 static const uint64_t sizes[] = {1, 4, 8, 16};
@@ -733,6 +736,528 @@ static void why_nothing(uint32_t blocks)
     stored_at_power_up(blocks);
 }
 
+/* ---- Programs during erase suspend ---- */
+
+#define ESUS 0x08
+#define PSUS 0x04
+#define WEL 0x02
+
+/* The erases that can be suspended. A tick erases a page. */
+static const struct unit_erase {
+    uint8_t code;
+    uint16_t pages;
+} unit_erases[] = {{0xD7, 16}, {0x20, 16}, {0x52, 128}, {0xD8, 256}};
+
+/* What the array has to hold. */
+static uint8_t stored[16u * REF_BLOCK];
+
+static size_t stored_length(void)
+{
+    return fitting(TICK).array;
+}
+
+/* Bytes that are never FFh, so that each page that is erased shows, and each that is not. */
+static void fill_stored(void)
+{
+    size_t i;
+
+    for (i = 0; i < stored_length(); i++)
+        stored[i] = (uint8_t)((i + i / 256 * 3) % 255);
+    memcpy(model.array, stored, stored_length());
+    memcpy(reference.array, stored, stored_length());
+}
+
+static void array_is_as_stored(void)
+{
+    struct call call = fitting(TICK);
+    size_t i = 0;
+
+    if (memcmp(model.array, stored, stored_length()) == 0)
+        return;
+    while (model.array[i] == stored[i])
+        i++;
+    fail(&call, "the first place of the array that is not as worked out", stored_length(), i);
+}
+
+static void registers_are(uint8_t status, uint8_t function, uint8_t extended)
+{
+    status_is(status);
+    sent("\x48\x00", 2, 0, 1);
+    output_is(1, function);
+    shows(extended);
+}
+
+/* A command with an address, and with these bytes after it. */
+static void addressed(uint8_t code, uint32_t address, const void *data, size_t count, uint64_t number)
+{
+    uint8_t bytes[4 + REF_PAGE] = {code, (uint8_t)(address >> 16), (uint8_t)(address >> 8), (uint8_t)address};
+
+    memcpy(bytes + 4, data, count);
+    command(bytes, 4 + count, number);
+}
+
+/* A program of one byte. */
+static void program_is(uint32_t address, uint8_t byte, uint64_t number)
+{
+    addressed(0x02, address, &byte, 1, number);
+}
+
+/* Where an erase is, and how far. */
+struct progress {
+    const struct unit_erase *erase;
+    uint32_t base, done;
+};
+
+static uint32_t unit_bytes(const struct unit_erase *erase)
+{
+    return erase->pages * REF_PAGE;
+}
+
+/* Ticks of the erase, of which so many do work. */
+static void erase_ticks(struct progress *progress, uint32_t ticks, uint32_t worked)
+{
+    ticked(ticks, 0, worked);
+    memset(stored + progress->base + progress->done * REF_PAGE, 0xFF, worked * REF_PAGE);
+    progress->done += worked;
+    array_is_as_stored();
+}
+
+/* A fresh part whose erase of the unit that holds the address is suspended after so many ticks. */
+static struct progress suspended_at(uint32_t blocks, const struct unit_erase *erase, uint32_t address, uint32_t ticks)
+{
+    struct progress progress = {erase, address - address % unit_bytes(erase), 0};
+
+    fill_stored();
+    powered(blocks);
+    command("\x06", 1, 0);
+    addressed(erase->code, address, "", 0, 0);
+    erase_ticks(&progress, ticks, ticks);
+    command(ticks % 2 == 0 ? "\x75" : "\xB0", 1, 0);
+    registers_are(0x00, ESUS, 0x10);
+    return progress;
+}
+
+/* The rest of the erase, once it is resumed: it goes on with its next tick, and ends idle. */
+static void resumed_to_the_end(struct progress *progress, uint8_t errors)
+{
+    uint32_t left = progress->erase->pages - progress->done;
+
+    command(left % 2 == 0 ? "\x7A" : "\x30", 1, 0);
+    registers_are(WEL | WIP, 0x00, 0x10 | errors | WIP);
+    erase_ticks(progress, 1, 1);
+    if (left > 1) {
+        registers_are(WEL | WIP, 0x00, 0x10 | errors | WIP);
+        erase_ticks(progress, left, left - 1);
+    }
+    registers_are(0x00, 0x00, 0x10 | errors);
+    ticked(1, 0, 0);
+    command("\x7A", 1, 25);
+}
+
+/* There is a page outside of the unit; a part of one block has none outside of a block. */
+static bool has_room(uint32_t blocks, const struct unit_erase *erase)
+{
+    return unit_bytes(erase) < blocks * REF_BLOCK;
+}
+
+/* The page before the unit or the one after it, over the array's ends. */
+static uint32_t neighbour(const struct progress *progress, bool after)
+{
+    uint32_t length = (uint32_t)stored_length();
+
+    return (progress->base + (after ? unit_bytes(progress->erase) : length - REF_PAGE)) % length;
+}
+
+static const uint8_t inner_bytes[] = {0x5A, 0xC3, 0x81, 0x3C};
+
+/* What the inner program's tick writes: the program starts two places before its page's end. */
+static void inner_tick(uint32_t page, uint32_t tick)
+{
+    uint32_t place = page + (254 + tick) % 256;
+
+    ticked(1, 0, 1);
+    stored[place] &= inner_bytes[tick];
+    array_is_as_stored();
+}
+
+static void begin_inner(uint32_t page)
+{
+    command("\x06", 1, 0);
+    registers_are(WEL, ESUS, 0x10);
+    addressed(0x02, page + 254, inner_bytes, sizeof inner_bytes, 0);
+    registers_are(WEL | WIP, ESUS, 0x10 | WIP);
+}
+
+/* While it runs it can't be suspended, and all that has to wait for its end is ignored. */
+static void inner_is_busy(uint32_t page)
+{
+    command("\x75", 1, 25);
+    command("\xB0", 1, 25);
+    command("\x7A", 1, 22);
+    command("\x30", 1, 22);
+    command("\x06", 1, 22);
+    command("\x04", 1, 22);
+    program_is(page, 0x00, 22);
+    addressed(0xD7, page, "", 0, 22);
+    addressed(0x03, page, "", 0, 22);
+    ticked(0, 0, 0);
+    registers_are(WEL | WIP, ESUS, 0x10 | WIP);
+}
+
+/* A whole inner program, looked at before each of its ticks. */
+static void inner_program(uint32_t page)
+{
+    uint32_t tick;
+
+    begin_inner(page);
+    for (tick = 0; tick < sizeof inner_bytes; tick++) {
+        inner_is_busy(page);
+        inner_tick(page, tick);
+    }
+    registers_are(0x00, ESUS, 0x10);
+    ticked(1, 0, 0);
+    program_is(page, 0x00, 26); /* WEL is 0 again */
+    array_is_as_stored();
+}
+
+/* The erase suspended here, programs on both sides of it, and it goes on as if nothing had run. */
+static void nested_at(uint32_t blocks, const struct unit_erase *erase, uint32_t address, uint32_t ticks)
+{
+    struct progress progress = suspended_at(blocks, erase, address, ticks);
+
+    if (has_room(blocks, erase)) {
+        inner_program(neighbour(&progress, ticks % 2 == 0));
+        inner_program(neighbour(&progress, ticks % 2 != 0));
+    }
+    if (ticks % 3 != 0)
+        command("\x06", 1, 0); /* resumed with WEL 1 */
+    resumed_to_the_end(&progress, 0);
+}
+
+/* A SER at each of its ticks; the others at the first, the last and the middle ones. */
+static bool is_tried(const struct unit_erase *erase, uint32_t ticks)
+{
+    uint32_t half = erase->pages / 2;
+
+    return erase->pages == 16 || ticks < 2 || ticks + 2 >= erase->pages || ticks == half || ticks + 1 == half;
+}
+
+static void nested_at_each_tick(uint32_t blocks)
+{
+    uint32_t last = blocks * REF_BLOCK - 1, ticks;
+    size_t i;
+
+    for (i = 0; i < COUNT(unit_erases); i++)
+        for (ticks = 0; ticks < unit_erases[i].pages; ticks++)
+            if (is_tried(&unit_erases[i], ticks))
+                nested_at(blocks, &unit_erases[i], ticks % 2 == 0 ? last / 2 : last, ticks);
+}
+
+/* Each page of the suspended unit: 28, and nothing begins. */
+static void unit_is_barred(const struct progress *progress)
+{
+    uint32_t page;
+
+    command("\x06", 1, 0);
+    for (page = 0; page < progress->erase->pages; page++) {
+        uint32_t address = progress->base + page * REF_PAGE;
+
+        program_is(address + (page % 3 == 0 ? 0 : page % 3 == 1 ? 255 : page), 0x00, 28);
+        registers_are(WEL, ESUS, 0x10 | P_ERR | PROT_E);
+    }
+    command("\x82", 1, 23);
+    command("\x66", 1, 0);
+    program_is(progress->base, 0x00, 28);
+    command("\x99", 1, 25); /* 28 disarms */
+    ticked(4096, 0, 0);
+    array_is_as_stored();
+}
+
+/* The pages on both sides are not barred. */
+static void neighbours_are_free(const struct progress *progress)
+{
+    uint32_t side;
+
+    for (side = 0; side < 2; side++) {
+        uint32_t address = neighbour(progress, side == 1) + (side == 1 ? 0 : 255);
+
+        command("\x06", 1, 0);
+        program_is(address, 0x11, 0);
+        registers_are(WEL | WIP, ESUS, 0x10 | P_ERR | PROT_E | WIP);
+        ticked(2, 0, 1);
+        stored[address] &= 0x11;
+        array_is_as_stored();
+        registers_are(0x00, ESUS, 0x10 | P_ERR | PROT_E);
+    }
+}
+
+static void barred_in_the_unit(uint32_t blocks)
+{
+    uint32_t length = blocks * REF_BLOCK, i;
+
+    for (i = 0; i < COUNT(unit_erases); i++) {
+        const uint32_t addresses[] = {0, length / 2, length - 1};
+        struct progress progress = suspended_at(blocks, &unit_erases[i], addresses[i % 3], 5);
+
+        unit_is_barred(&progress);
+        if (has_room(blocks, &unit_erases[i]))
+            neighbours_are_free(&progress);
+        resumed_to_the_end(&progress, P_ERR | PROT_E);
+    }
+}
+
+/* A protected block beside the suspended unit is barred as well; code 14 protects block 0 alone. */
+static void barred_by_both(uint32_t blocks)
+{
+    struct call up = fitting(POWER_UP);
+
+    if (blocks == 1)
+        return;
+    fill_stored();
+    up.status = 14 * 4;
+    result_is(&up, 0, 0);
+    command("\x06", 1, 0);
+    addressed(0xD8, REF_BLOCK, "", 0, 0);
+    command("\x75", 1, 0);
+    command("\x06", 1, 0);
+    program_is(REF_BLOCK - 1, 0x00, 28);
+    program_is(REF_BLOCK, 0x00, 28);
+    program_is(2 * REF_BLOCK - 1, 0x00, 28);
+    registers_are(14 * 4 + WEL, ESUS, 0x10 | P_ERR | PROT_E);
+    program_is(2 * REF_BLOCK, 0x00, 0);
+    ticked(1, 0, 1);
+    registers_are(14 * 4, ESUS, 0x10 | P_ERR | PROT_E);
+    stored[2 * REF_BLOCK] = 0x00;
+    array_is_as_stored();
+}
+
+/* A command while an erase is suspended, with WEL 0 and with WEL 1, and while a program runs within it. */
+static const struct {
+    uint8_t length;
+    uint8_t bytes[6];
+    uint8_t disabled, enabled, running; /* the numbers */
+} nested_commands[] = {
+    {4, {0x03, 0x00, 0x00, 0x00}, 0, 0, 22},    {3, {0x03, 0x00, 0x00}, 24, 24, 22},
+    {5, {0x0B, 0x00, 0x00, 0x00}, 0, 0, 22},    {4, {0x0B, 0x00, 0x00, 0x00}, 24, 24, 22},
+    {1, {0x05}, 0, 0, 0},                       {1, {0x48}, 0, 0, 0},
+    {1, {0x81}, 0, 0, 0},                       {1, {0x9F}, 0, 0, 22},
+    {4, {0x90, 0x00, 0x00, 0x00}, 0, 0, 22},    {1, {0xAB}, 0, 0, 22},
+    {5, {0x68, 0x00, 0x30, 0x00}, 0, 0, 22},    {5, {0x68, 0x00, 0x40, 0x00}, 27, 27, 22},
+    {2, {0x06, 0x00}, 24, 24, 22},              {2, {0x04, 0x00}, 24, 24, 22},
+    {4, {0x02, 0x00, 0x00, 0x00}, 24, 24, 22},  {5, {0x02, 0x00, 0x0F, 0xFF, 0x00}, 26, 28, 22},
+    {4, {0xD7, 0x00, 0x00, 0x00}, 23, 23, 22},  {4, {0x20, 0x00, 0x80, 0x00}, 23, 23, 22},
+    {4, {0x52, 0x00, 0x80, 0x00}, 23, 23, 22},  {4, {0xD8, 0x0F, 0x00, 0x00}, 23, 23, 22},
+    {1, {0xC7}, 23, 23, 22},                    {1, {0x60}, 23, 23, 22},
+    {4, {0x64, 0x00, 0x20, 0x00}, 23, 23, 22},  {5, {0x62, 0x00, 0x20, 0x00, 0x00}, 23, 23, 22},
+    {2, {0x01, 0x3C}, 23, 23, 22},              {2, {0x42, 0xF0}, 23, 23, 22},
+    {2, {0x83, 0xE0}, 23, 23, 22},              {2, {0x85, 0xE0}, 23, 23, 22},
+    {1, {0x82}, 23, 23, 22},                    {1, {0xB9}, 23, 23, 22},
+    {1, {0x75}, 23, 23, 25},                    {1, {0xB0}, 23, 23, 25},
+    {2, {0x75, 0x00}, 23, 23, 24},              {2, {0xB0, 0x00}, 23, 23, 24},
+    {2, {0x7A, 0x00}, 24, 24, 22},              {2, {0x30, 0x00}, 24, 24, 22},
+    {2, {0x66, 0x00}, 24, 24, 24},              {1, {0x99}, 25, 25, 25},
+    {1, {0x84}, 20, 20, 20},                    {1, {0x66}, 0, 0, 0},
+    {2, {0x99, 0x00}, 24, 24, 24},              {1, {0x99}, 25, 25, 25},
+};
+
+/* Each command on a fresh part in each of the three, and the registers after it. */
+static void each_command_nested(uint32_t blocks)
+{
+    size_t i;
+
+    for (i = 0; i < COUNT(nested_commands); i++) {
+        const uint8_t *bytes = nested_commands[i].bytes;
+        size_t length = nested_commands[i].length;
+        uint8_t errors = nested_commands[i].enabled == 28 ? P_ERR | PROT_E : 0;
+        struct progress progress = suspended_at(blocks, &unit_erases[0], 0, 3);
+
+        command(bytes, length, nested_commands[i].disabled);
+        registers_are(0x00, ESUS, 0x10);
+        command("\x06", 1, 0);
+        command(bytes, length, nested_commands[i].enabled);
+        registers_are(WEL, ESUS, 0x10 | errors);
+        program_is(unit_bytes(progress.erase), 0x00, 0);
+        command(bytes, length, nested_commands[i].running);
+        registers_are(WEL | WIP, ESUS, 0x10 | errors | WIP);
+        ticked(1, 0, 1);
+        stored[unit_bytes(progress.erase)] = 0x00;
+        array_is_as_stored();
+        registers_are(0x00, ESUS, 0x10 | errors);
+        resumed_to_the_end(&progress, errors);
+    }
+}
+
+/* 06h and 04h set and clear WEL, as often as they are sent; no tick does work. */
+static void enabled_and_disabled(uint32_t blocks)
+{
+    static const uint8_t codes[] = {0x04, 0x06, 0x06, 0x04, 0x04, 0x06};
+    struct progress progress = suspended_at(blocks, &unit_erases[1], blocks * REF_BLOCK - 1, 8);
+    size_t i;
+
+    for (i = 0; i < COUNT(codes); i++) {
+        command(&codes[i], 1, 0);
+        registers_are(codes[i] == 0x06 ? WEL : 0x00, ESUS, 0x10);
+        ticked(4096, 0, 0);
+        registers_are(codes[i] == 0x06 ? WEL : 0x00, ESUS, 0x10);
+    }
+    array_is_as_stored();
+    command("\xB0", 1, 23); /* WEL is 1 */
+    resumed_to_the_end(&progress, 0);
+}
+
+/* What is taken in erase suspend disarms, as any transaction but 66h does. */
+static void disarmed_in_suspend(uint32_t blocks)
+{
+    struct progress progress = suspended_at(blocks, &unit_erases[0], 0, 2);
+
+    command("\x66", 1, 0);
+    command("\x06", 1, 0);
+    command("\x99", 1, 25);
+    command("\x66", 1, 0);
+    program_is(0x1000, 0x00, 0);
+    command("\x99", 1, 25);
+    ticked(1, 0, 1);
+    stored[0x1000] = 0x00;
+    array_is_as_stored();
+    command("\x66", 1, 0);
+    command("\x04", 1, 0);
+    command("\x99", 1, 25);
+    command("\x66", 1, 0);
+    program_is(0x1000, 0x00, 26);
+    command("\x99", 1, 25);
+    registers_are(0x00, ESUS, 0x10);
+    resumed_to_the_end(&progress, 0);
+}
+
+/* Several programs in one suspend, and in the next one of the same erase. */
+static void many_programs(uint32_t blocks)
+{
+    struct progress progress = suspended_at(blocks, &unit_erases[2], 0, 1);
+    uint32_t suspends, programs;
+
+    for (suspends = 0; suspends < 3; suspends++) {
+        for (programs = 0; programs < 4; programs++)
+            inner_program(unit_bytes(progress.erase) + programs * REF_PAGE);
+        inner_program(neighbour(&progress, suspends == 1));
+        command("\x7A", 1, 0);
+        erase_ticks(&progress, 20, 20);
+        command("\x75", 1, 0);
+        registers_are(0x00, ESUS, 0x10);
+    }
+    resumed_to_the_end(&progress, 0);
+}
+
+/* Both operations are gone: nothing runs, and nothing is to be resumed or suspended. */
+static void both_are_dropped(void)
+{
+    registers_are(0x00, 0x00, 0x10);
+    ticked(4096, 0, 0);
+    array_is_as_stored();
+    command("\x7A", 1, 25);
+    command("\x75", 1, 25);
+    program_is(0, 0x00, 26);
+}
+
+/* Reset or power-up after each tick of the inner program; at the last, the part is erase-suspended again. */
+static void dropped_at(uint32_t blocks, const struct unit_erase *erase, uint32_t ticks, bool by_reset)
+{
+    struct progress progress = suspended_at(blocks, erase, 0, erase->pages / 2 + ticks);
+    uint32_t page = neighbour(&progress, by_reset), tick;
+
+    begin_inner(page);
+    for (tick = 0; tick < ticks; tick++)
+        inner_tick(page, tick);
+    if (by_reset) {
+        command("\x66", 1, 0);
+        command("\x05", 1, 0);
+        command("\x99", 1, 25);
+        reset();
+    } else {
+        powered(blocks);
+    }
+    both_are_dropped();
+    command("\x06", 1, 0);
+    program_is(progress.base, 0x00, 0); /* the unit is no longer barred */
+    registers_are(WEL | WIP, 0x00, 0x10 | WIP);
+    command("\x75", 1, 0);
+    registers_are(0x00, PSUS, 0x10);
+}
+
+static void dropped(uint32_t blocks)
+{
+    uint32_t ticks;
+    size_t i;
+
+    for (i = 0; i < COUNT(unit_erases); i++) {
+        if (!has_room(blocks, &unit_erases[i]))
+            continue;
+        for (ticks = 0; ticks <= sizeof inner_bytes; ticks++) {
+            dropped_at(blocks, &unit_erases[i], ticks, true);
+            dropped_at(blocks, &unit_erases[i], ticks, false);
+        }
+    }
+}
+
+/* Of a program of 300 bytes within an erase the last 256 count, and take a tick each; ticks do not disarm. */
+static void long_inner_program(uint32_t blocks)
+{
+    uint8_t bytes[304] = {0x02, 0x00, 0x10, 0x80};
+    struct progress progress = suspended_at(blocks, &unit_erases[0], 0, 0);
+    uint32_t i;
+
+    for (i = 0; i < 300; i++) {
+        bytes[4 + i] = (uint8_t)(i * 5);
+        if (i >= 300 - 256)
+            stored[0x1000 + (0x80 + i) % 256] &= (uint8_t)(i * 5);
+    }
+    command("\x06", 1, 0);
+    command(bytes, sizeof bytes, 0);
+    ticked(255, 0, 255);
+    registers_are(WEL | WIP, ESUS, 0x10 | WIP);
+    command("\x66", 1, 0);
+    ticked(4096, 0, 1);
+    array_is_as_stored();
+    command("\x99", 1, 0);
+    both_are_dropped();
+    progress = suspended_at(blocks, &unit_erases[0], 0, 0);
+    resumed_to_the_end(&progress, 0);
+}
+
+/* While a program is suspended 06h, 04h and 02h are ignored as they were. */
+static void suspended_program(uint32_t blocks)
+{
+    fill_stored();
+    powered(blocks);
+    command("\x06", 1, 0);
+    program_is(0x1000, 0x00, 0);
+    command("\x75", 1, 0);
+    command("\x06", 1, 23);
+    command("\x04", 1, 23);
+    command("\x06\x00", 2, 23);
+    program_is(0x2000, 0x00, 23);
+    program_is(0x1000, 0x00, 23);
+    registers_are(0x00, PSUS, 0x10);
+    command("\x7A", 1, 0);
+    ticked(2, 0, 1);
+    stored[0x1000] = 0x00;
+    array_is_as_stored();
+    registers_are(0x00, 0x00, 0x10);
+}
+
+static void during_erase_suspend(uint32_t blocks)
+{
+    nested_at_each_tick(blocks);
+    barred_in_the_unit(blocks);
+    barred_by_both(blocks);
+    each_command_nested(blocks);
+    enabled_and_disabled(blocks);
+    disarmed_in_suspend(blocks);
+    many_programs(blocks);
+    dropped(blocks);
+    long_inner_program(blocks);
+    suspended_program(blocks);
+}
+
 static void on_size(uint32_t blocks)
 {
     struct call no_record;
@@ -749,6 +1274,7 @@ static void on_size(uint32_t blocks)
     identity();
     protected_blocks(blocks);
     why_nothing(blocks);
+    during_erase_suspend(blocks);
     end_run();
 }
 

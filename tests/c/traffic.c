@@ -254,6 +254,8 @@ static void make_ready(void)
 {
     if (part.asleep)
         send_code(0xAB);
+    if (part.phase == NESTED)
+        traffic_wait(REF_PAGE);
     if (part.phase == SUSPENDED)
         send_code(one_in(2) ? 0x7A : 0x30);
     if (part.phase == BUSY && one_in(2)) {

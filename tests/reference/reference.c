@@ -90,16 +90,49 @@ static uint32_t ticks_in_all(uint32_t size, const struct operation *op)
     }
 }
 
-static bool can_be_suspended(uint8_t kind)
+/* The erases that a program may run within, once they are suspended. */
+static bool is_an_outer_erase(uint8_t kind)
 {
-    return kind == PP || kind == SER || kind == BER32 || kind == BER64;
+    return kind == SER || kind == BER32 || kind == BER64;
 }
 
-/* What 01 asks of the operation of a busy or suspended part. */
-static bool operation_is_sound(const struct part *part)
+static bool can_be_suspended(uint8_t kind)
 {
-    const struct operation *op = &part->op;
+    return kind == PP || is_an_outer_erase(kind);
+}
 
+/* WIP is 1 exactly then. */
+static bool is_busy(const struct part *part)
+{
+    return part->phase == BUSY || part->phase == NESTED;
+}
+
+/* The suspended erase, with or without an inner program running; NULL if there is none. ESUS is 1 exactly if there
+ * is one. */
+static const struct operation *suspended_erase(const struct part *part)
+{
+    if (part->phase == NESTED)
+        return &part->outer;
+    if (part->phase == SUSPENDED && part->op.kind != PP)
+        return &part->op;
+    return NULL;
+}
+
+/* PSUS is 1 exactly then. */
+static bool program_is_suspended(const struct part *part)
+{
+    return part->phase == SUSPENDED && part->op.kind == PP;
+}
+
+/* Is the address in the unit of the erase? */
+static bool in_the_unit(uint32_t size, const struct operation *erase, uint32_t address)
+{
+    return address >= erase->base && address - erase->base < unit_bytes(size, erase->kind);
+}
+
+/* What 01 asks of an operation that runs or is suspended. */
+static bool operation_is_sound(const struct part *part, const struct operation *op)
+{
     switch (op->kind) {
     case PP:
         if (op->base % REF_PAGE != 0 || op->base >= array_bytes(part->size))
@@ -150,53 +183,70 @@ static bool operation_is_sound(const struct part *part)
     return op->done < ticks_in_all(part->size, op);
 }
 
-/* "A record is sound when ..." */
-bool ref_sound(const struct part *part)
+/* What 02 asks of the two operations: the outer erase, and the inner program outside of its unit. */
+static bool nested_are_sound(const struct part *part)
 {
-    bool busy = part->phase == BUSY;
-    bool suspended = part->phase == SUSPENDED;
-    bool esus, psus;
-    uint32_t kept = 0;
-    uint32_t i;
+    return is_an_outer_erase(part->outer.kind) && operation_is_sound(part, &part->outer) &&
+           part->op.kind == PP && operation_is_sound(part, &part->op) &&
+           !in_the_unit(part->size, &part->outer, part->op.base);
+}
 
-    if (!size_is_good(part->size))
+/* The phase, its operations, and WEL: 1 while busy, 0 while a program is suspended, either while an erase is. */
+static bool phase_is_sound(const struct part *part)
+{
+    switch (part->phase) {
+    case IDLE:
+        return true;
+    case BUSY:
+        return part->wel && operation_is_sound(part, &part->op);
+    case SUSPENDED:
+        return can_be_suspended(part->op.kind) && operation_is_sound(part, &part->op) &&
+               !(program_is_suspended(part) && part->wel);
+    case NESTED:
+        return part->wel && nested_are_sound(part);
+    default:
         return false;
-    if (part->phase != IDLE && !busy && !suspended)
-        return false;
-    if (part->asleep && part->phase != IDLE)
-        return false;
-    if (busy && !part->wel)
-        return false;
-    if (suspended && part->wel)
-        return false;
-    if (suspended && !can_be_suspended(part->op.kind))
-        return false;
-    if ((busy || suspended) && !operation_is_sound(part))
-        return false;
+    }
+}
 
-    /* stored bits that other fields define */
-    psus = suspended && part->op.kind == PP;
-    esus = suspended && part->op.kind != PP;
-    if (((part->status & 0x01) != 0) != busy)
+/* The stored bits that other fields define agree with them; those that have to be zero are. */
+static bool registers_are_sound(const struct part *part)
+{
+    if (((part->status & 0x01) != 0) != is_busy(part))
         return false;
     if (((part->status & 0x02) != 0) != part->wel)
         return false;
-    if (((part->function & 0x08) != 0) != esus)
+    if (((part->function & 0x08) != 0) != (suspended_erase(part) != NULL))
         return false;
-    if (((part->function & 0x04) != 0) != psus)
+    if (((part->function & 0x04) != 0) != program_is_suspended(part))
         return false;
     if ((part->function & 0x03) != 0)
         return false;
-    if ((part->extended & 0x1F) != 0)
-        return false;
+    return (part->extended & 0x1F) == 0;
+}
 
-    /* page data: zeros after the kept bytes of a program, all zero otherwise */
-    if ((busy || suspended) && (part->op.kind == PP || part->op.kind == ROW_PROGRAM))
+/* Page data: zeros after the kept bytes of a program that runs or is suspended, all zero otherwise. */
+static bool data_is_sound(const struct part *part)
+{
+    uint32_t kept = 0;
+    uint32_t i;
+
+    if (part->phase != IDLE && (part->op.kind == PP || part->op.kind == ROW_PROGRAM))
         kept = part->op.count;
     for (i = kept; i < REF_PAGE; i++)
         if (part->data[i] != 0)
             return false;
     return true;
+}
+
+/* "A record is sound when ..." */
+bool ref_sound(const struct part *part)
+{
+    if (!size_is_good(part->size))
+        return false;
+    if (part->asleep && part->phase != IDLE)
+        return false;
+    return phase_is_sound(part) && registers_are_sound(part) && data_is_sound(part);
 }
 
 /* ---- Setting the fields that hang together ---- */
@@ -207,45 +257,65 @@ static void set_wel(struct part *part, bool wel)
     part->status = (uint8_t)((part->status & 0xFD) | (wel ? 0x02 : 0));
 }
 
-/* Sets the phase, and WIP, ESUS and PSUS by it; the operation is there already. */
+/* Sets the phase, and WIP, ESUS and PSUS by it; the operations are there already. */
 static void set_phase(struct part *part, uint8_t phase)
 {
     part->phase = phase;
-    part->status = (uint8_t)((part->status & 0xFE) | (phase == BUSY ? 0x01 : 0));
+    part->status = (uint8_t)((part->status & 0xFE) | (is_busy(part) ? 0x01 : 0));
     part->function = (uint8_t)(part->function & 0xF0);
-    if (phase == SUSPENDED)
-        part->function = (uint8_t)(part->function | (part->op.kind == PP ? 0x04 : 0x08));
+    if (suspended_erase(part) != NULL)
+        part->function = (uint8_t)(part->function | 0x08);
+    if (program_is_suspended(part))
+        part->function = (uint8_t)(part->function | 0x04);
 }
 
-static void clear_operation(struct part *part)
+static void clear_data(struct part *part)
 {
     uint32_t i;
 
-    part->op.kind = NONE;
-    part->op.base = 0;
-    part->op.start = 0;
-    part->op.count = 0;
-    part->op.done = 0;
-    part->op.held = 0;
     for (i = 0; i < REF_PAGE; i++)
         part->data[i] = 0;
 }
 
-/* The operation is over or dropped: idle, WEL 0. */
+static const struct operation no_operation = {NONE, 0, 0, 0, 0, 0};
+
+static void clear_operations(struct part *part)
+{
+    part->op = no_operation;
+    part->outer = no_operation;
+    clear_data(part);
+}
+
+/* The operation is over, or all operations are dropped: idle, WEL 0. */
 static void make_idle(struct part *part)
 {
-    clear_operation(part);
+    clear_operations(part);
     set_phase(part, IDLE);
     set_wel(part, false);
 }
 
-/* WEL is 1 and stays so while busy. */
+/* The inner program is over: erase-suspended again, WEL 0. */
+static void leave_inner_program(struct part *part)
+{
+    part->op = part->outer;
+    part->outer = no_operation;
+    clear_data(part);
+    set_phase(part, SUSPENDED);
+    set_wel(part, false);
+}
+
+/* WEL is 1 and stays so while busy; page data is all zero. What begins in erase suspend is the inner program, and
+ * the erase stays beneath it. */
 static void begin(struct part *part, uint8_t kind, uint32_t base)
 {
-    clear_operation(part);
+    bool inner = part->phase == SUSPENDED;
+
+    if (inner)
+        part->outer = part->op;
+    part->op = no_operation;
     part->op.kind = kind;
     part->op.base = base;
-    set_phase(part, BUSY);
+    set_phase(part, inner ? NESTED : BUSY);
 }
 
 static void begin_program(struct part *part, uint8_t kind, uint32_t base, uint32_t start,
@@ -306,7 +376,7 @@ int ref_power_up(struct part *part, uint32_t size, uint8_t m, uint8_t t, uint8_t
     part->armed = false;
     part->asleep = false;
     part->phase = IDLE;
-    clear_operation(part);
+    clear_operations(part);
     return answer;
 }
 
@@ -371,6 +441,12 @@ static bool taken_while_suspended(uint8_t code)
     return is_a_read(code) || code == 0x7A || code == 0x30 || code == 0x66 || code == 0x99;
 }
 
+/* While an erase is suspended, the write enable, the write disable and the program are taken too. */
+static bool taken_in_erase_suspend(uint8_t code)
+{
+    return taken_while_suspended(code) || code == 0x06 || code == 0x04 || code == 0x02;
+}
+
 static bool length_is_right(uint8_t code, size_t length)
 {
     switch (code) {
@@ -419,13 +495,24 @@ static uint32_t address_of(const struct part *part, const uint8_t *in)
     return sent % array_bytes(part->size);
 }
 
+/* A program into the suspended unit: the page of A lies in it. */
+static bool in_suspended_unit(const struct part *part, uint32_t address)
+{
+    const struct operation *erase = suspended_erase(part);
+
+    return erase != NULL && in_the_unit(part->size, erase, address - address % REF_PAGE);
+}
+
 /* Number 28, for a transaction of the right length with a valid row address if it has one. */
 static bool barred(const struct part *part, bool wp_high, const uint8_t *in)
 {
     switch (in[0]) {
     case 0x01: /* SRWD 1, QE 0, WP# low */
         return (part->status & 0x80) != 0 && (part->status & 0x40) == 0 && !wp_high;
-    case 0x02: case 0xD7: case 0x20: case 0x52: case 0xD8:
+    case 0x02:
+        return address_protected(part->size, part->status, address_of(part, in)) ||
+               in_suspended_unit(part, address_of(part, in));
+    case 0xD7: case 0x20: case 0x52: case 0xD8:
         return address_protected(part->size, part->status, address_of(part, in));
     case 0xC7: case 0x60:
         return bp_code(part->status) != 0;
@@ -445,13 +532,15 @@ static int ignored_with(const struct part *part, bool wp_high, const uint8_t *in
         return 20;
     if (part->asleep && code != 0xAB)
         return 21;
-    if (part->phase == BUSY && !taken_while_busy(code))
+    if (is_busy(part) && !taken_while_busy(code))
         return 22;
-    if (part->phase == SUSPENDED && !taken_while_suspended(code))
+    if (program_is_suspended(part) && !taken_while_suspended(code))
+        return 23;
+    if (part->phase == SUSPENDED && !taken_in_erase_suspend(code))
         return 23;
     if (!length_is_right(code, length))
         return 24;
-    if ((code == 0x75 || code == 0xB0) &&
+    if ((code == 0x75 || code == 0xB0) && /* an inner program can't be suspended */
         !(part->phase == BUSY && can_be_suspended(part->op.kind)))
         return 25;
     if ((code == 0x7A || code == 0x30) && part->phase != SUSPENDED)
@@ -484,7 +573,7 @@ static void set_errors(struct part *part, uint8_t code)
 static uint8_t extended_as_read(const struct part *part)
 {
     return (uint8_t)((part->live & 0xE0) | 0x10 | (part->e_err ? 0x08 : 0) | (part->p_err ? 0x04 : 0) |
-                     (part->prot_e ? 0x02 : 0) | (part->phase == BUSY ? 0x01 : 0));
+                     (part->prot_e ? 0x02 : 0) | (is_busy(part) ? 0x01 : 0));
 }
 
 /* The register that 05h, 48h or 81h reads. */
@@ -531,7 +620,7 @@ int ref_transact(struct part *part, const uint8_t *array, size_t array_length, c
         part->armed = false;
         return answer;
     }
-    if (in[0] == 0x99) { /* reset; it is armed */
+    if (in[0] == 0x99) { /* reset; it is armed. It drops both operations */
         make_idle(part);
         load_extended(part);
         part->asleep = false;
@@ -718,7 +807,11 @@ static void one_tick(struct part *part, uint8_t *array, uint8_t *rows)
         break;
     }
     op->done = op->done + 1;
-    if (op->done == ticks_in_all(part->size, op))
+    if (op->done < ticks_in_all(part->size, op))
+        return;
+    if (part->phase == NESTED)
+        leave_inner_program(part);
+    else
         make_idle(part);
 }
 
@@ -737,7 +830,7 @@ int ref_tick(struct part *part, uint8_t *array, size_t array_length, uint8_t *ro
     if (ticks > REF_MOST)
         return 6;
     for (asked = 0; asked < ticks; asked++) {
-        if (part->phase == BUSY) {
+        if (is_busy(part)) {
             one_tick(part, array, rows);
             *worked = *worked + 1;
         }

@@ -13,8 +13,14 @@
 #define REF_PAGE 256u    /* bytes in a page, and in a row */
 #define REF_MOST 4096u   /* most bytes in a transaction, most ticks in a call */
 
-/* "A part is idle, busy with one operation, or suspended from one." */
-enum phase { IDLE = 0, BUSY = 1, SUSPENDED = 2 };
+/* 01: "a part is idle, busy with one operation, or suspended from one." Request 3 of 02 adds to it: a part that is
+ * suspended from an erase may be busy with a program within, the inner program; the record then holds two. */
+enum phase {
+    IDLE = 0,
+    BUSY = 1,      /* op runs, and nothing is suspended */
+    SUSPENDED = 2, /* op is suspended, and nothing runs */
+    NESTED = 3     /* op is the inner program and runs; outer is the suspended erase */
+};
 
 enum kind {
     NONE = 0,       /* idle */
@@ -53,7 +59,8 @@ struct part {
     bool asleep;
     uint8_t phase; /* enum phase */
     struct operation op;
-    uint8_t data[REF_PAGE]; /* kept bytes in order of arrival, zeros after them */
+    struct operation outer; /* beneath an inner program: the suspended erase. Written as 0 in the other phases */
+    uint8_t data[REF_PAGE]; /* kept bytes of the program in op, in order of arrival, zeros after them */
 };
 
 /* Each call answers a number of the specification's table. */

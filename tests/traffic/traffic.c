@@ -231,6 +231,13 @@ static void poll(void)
     read_register(one_in(4) ? 0x81 : 0x05);
 }
 
+/* Looks what runs and what is suspended: WIP, WEL, ESUS and PSUS. */
+static void see_phase(void)
+{
+    read_register(0x05);
+    read_register(0x48);
+}
+
 /* Looks why a write did nothing, and at times clears what is told. */
 static void see_errors(void)
 {
@@ -325,7 +332,7 @@ static uint32_t send_program(uint8_t code, uint32_t at)
     return lesser(count, PAGE);
 }
 
-/* Sends an erase of a sector, half a block or a block; gives its ticks. */
+/* Sends an erase of a sector, half a block or a block; gives its ticks, which are the pages of its unit. */
 static uint32_t send_erase(uint32_t at)
 {
     static const struct {
@@ -759,6 +766,157 @@ static void strange_scene(void)
         traffic_strange();
 }
 
+/* ---- Programs during erase suspend ---- */
+
+/* An address in the unit of so many pages that holds `at`: often in its first or last page. */
+static uint32_t in_unit(uint32_t at, uint32_t pages)
+{
+    uint32_t base = at - at % (pages * PAGE), place = below(PAGE);
+
+    switch (below(4)) {
+    case 0:
+        return base + place;
+    case 1:
+        return base + (pages - 1) * PAGE + place;
+    default:
+        return base + below(pages) * PAGE + place;
+    }
+}
+
+/* An address that is mostly outside of that unit: often in the page before it or after it. */
+static uint32_t off_unit(uint32_t at, uint32_t pages)
+{
+    uint32_t base = at - at % (pages * PAGE), place = below(PAGE);
+
+    switch (below(4)) {
+    case 0:
+        return (base - PAGE + place) & 0xFFFFFFu;
+    case 1:
+        return (base + pages * PAGE + place) & 0xFFFFFFu;
+    default:
+        return address();
+    }
+}
+
+/* While a program runs within a suspended erase: what has to wait for its end, and what does not. */
+static void disturb_inner(void)
+{
+    switch (below(9)) {
+    case 0:
+    case 1:
+        send_code(pick_byte(suspends, COUNT(suspends)));
+        break;
+    case 2:
+        send_code(pick_byte(resumes, COUNT(resumes)));
+        break;
+    case 3:
+        send_code(one_in(2) ? 0x06 : 0x04);
+        break;
+    case 4:
+        send_change(address());
+        break;
+    case 5:
+        any_commands(between(1, 3));
+        break;
+    case 6:
+        wrong_length();
+        break;
+    default:
+        see_phase();
+        break;
+    }
+}
+
+static void reset_now(void)
+{
+    send_code(0x66);
+    send_code(0x99);
+    see_phase();
+}
+
+/* A program within the suspended erase of the unit that holds `at`: now and then into the unit, or cut short. */
+static void inner_program(uint32_t at, uint32_t pages)
+{
+    uint32_t to = one_in(4) ? in_unit(at, pages) : off_unit(at, pages), needed;
+
+    write_enable();
+    if (one_in(12))
+        send_code(0x04);
+    needed = send_program(0x02, to);
+    while (one_in(2)) {
+        ticks(below(needed));
+        disturb_inner();
+    }
+    if (one_in(20))
+        reset_now();
+    else if (!one_in(12))
+        wait(needed);
+    if (one_in(2))
+        see_phase();
+    if (one_in(3))
+        see_errors();
+    read_at(one_in(3) ? in_unit(at, pages) : to);
+}
+
+/* One thing that a driver does, or does wrong, while that erase is suspended. */
+static void in_erase_suspend(uint32_t at, uint32_t pages)
+{
+    switch (below(16)) {
+    case 0:
+        send_code(one_in(3) ? 0x04 : 0x06);
+        see_phase();
+        break;
+    case 1: /* not enabled, or left from before */
+        send_program(0x02, off_unit(at, pages));
+        break;
+    case 2:
+        send_erase(one_in(2) ? at : address());
+        break;
+    case 3:
+        send_code(pick_byte(suspends, COUNT(suspends)));
+        break;
+    case 4:
+        any_commands(between(1, 3));
+        break;
+    case 5:
+        some_ticks();
+        break;
+    case 6:
+        if (one_in(4))
+            reset_now();
+        break;
+    case 7:
+        any_miss();
+        break;
+    default:
+        inner_program(at, pages);
+        break;
+    }
+}
+
+/* An erase that is suspended, at any of its ticks, for programs. */
+static void nest_scene(void)
+{
+    uint32_t at = address(), pages, steps, rounds = between(1, 3);
+
+    write_enable();
+    pages = send_erase(at);
+    for (; rounds > 0; rounds--) {
+        ticks(below(one_in(3) ? pages : 6));
+        send_code(pick_byte(suspends, COUNT(suspends)));
+        for (steps = between(1, 4); steps > 0; steps--)
+            in_erase_suspend(at, pages);
+        if (one_in(4)) /* resumed with WEL 1 */
+            send_code(0x06);
+        if (!one_in(8))
+            send_code(pick_byte(resumes, COUNT(resumes)));
+        if (one_in(2))
+            see_phase();
+    }
+    wait(pages);
+    read_at(in_unit(at, pages));
+}
+
 /* ---- The traffic ---- */
 
 struct scene {
@@ -778,7 +936,8 @@ static const struct scene scenes[] = {
     {guard_scene, {2, 16, 2, 1, 2}},
     {pin_scene, {1, 10, 1, 1, 1}},
     {row_scene, {6, 4, 30, 3, 5}},
-    {suspend_scene, {6, 3, 3, 30, 5}},
+    {suspend_scene, {6, 3, 3, 20, 5}},
+    {nest_scene, {8, 6, 3, 24, 8}},
     {sleep_scene, {3, 3, 3, 5, 5}},
     {reset_scene, {4, 4, 4, 8, 5}},
     {identity_scene, {4, 1, 2, 2, 2}},
