@@ -127,6 +127,14 @@ static void begin_erase(const struct one_model *on)
     must_be(on->transact(4), 0);
 }
 
+/* The part is left suspended from a sector erase. */
+static void begin_suspended(const struct one_model *on)
+{
+    begin_erase(on);
+    input[0] = 0x75;
+    must_be(on->transact(1), 0);
+}
+
 /* The part is left with its top block protected, and write enabled. */
 static void begin_protected(const struct one_model *on)
 {
@@ -238,6 +246,7 @@ static const struct job jobs[] = {
     {"06h, 16 blocks", 16, 0, NULL, enable_job, NULL},
     {"03h of 4,096 bytes, 16 blocks", 16, 4092, NULL, read_job, read_bytes},
     {"06h, 02h, 256 ticks, 16 blocks", 16, 256, NULL, program_job, NULL},
+    {"06h, 02h, 256 ticks, erase suspend", 16, 256, begin_suspended, program_job, NULL},
     {"06h, D7h, 16 ticks, 16 blocks", 16, 4096, NULL, sector_job, sector_bytes},
     {"06h, C7h, 4,096 ticks, 16 blocks", 16, 1048576, NULL, chip_job, chip_bytes},
 };
