@@ -172,6 +172,34 @@ static void enable_job(const struct one_model *on)
     must_be(on->transact(1), 0);
 }
 
+static void busy_job(const struct one_model *on)
+{
+    input[0] = 0x06;
+    must_be(on->transact(1), 22);
+}
+
+static void no_tick_job(const struct one_model *on)
+{
+    must_be(on->tick(0), 0);
+}
+
+/* The erase that runs is suspended, and resumed. */
+static void suspend_job(const struct one_model *on)
+{
+    input[0] = 0x75;
+    must_be(on->transact(1), 0);
+    input[0] = 0x7A;
+    must_be(on->transact(1), 0);
+}
+
+static void reset_job(const struct one_model *on)
+{
+    input[0] = 0x66;
+    must_be(on->transact(1), 0);
+    input[0] = 0x99;
+    must_be(on->transact(1), 0);
+}
+
 static void read_job(const struct one_model *on)
 {
     put(0x03, 0x001234);
@@ -244,6 +272,12 @@ static const struct job jobs[] = {
     {"D7h, protected: 28, 16 blocks", 16, 0, begin_protected, barred_erase_job, NULL},
     {"02h, protected: 28, 16 blocks", 16, 0, begin_protected, barred_program_job, NULL},
     {"06h, 16 blocks", 16, 0, NULL, enable_job, NULL},
+    {"06h, busy: 22, 16 blocks", 16, 0, begin_erase, busy_job, NULL},
+    {"05h of 2 bytes, suspended", 16, 1, begin_suspended, status_job, NULL},
+    {"75h, 7Ah, 16 blocks", 16, 0, begin_erase, suspend_job, NULL},
+    {"66h, 99h, 16 blocks", 16, 0, NULL, reset_job, NULL},
+    {"no tick, idle, 16 blocks", 16, 0, NULL, no_tick_job, NULL},
+    {"no tick, busy, 16 blocks", 16, 0, begin_erase, no_tick_job, NULL},
     {"03h of 4,096 bytes, 16 blocks", 16, 4092, NULL, read_job, read_bytes},
     {"06h, 02h, 256 ticks, 16 blocks", 16, 256, NULL, program_job, NULL},
     {"06h, 02h, 256 ticks, erase suspend", 16, 256, begin_suspended, program_job, NULL},
