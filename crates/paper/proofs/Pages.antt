@@ -7,7 +7,7 @@ use native.Mathlib.Omega.{arith}
 use borrow.Author.Tests.{leb-true, le-leb, lt-leb}
 use lib.Dec.{leb}
 use lib.ListN.{length, take, drop, replicate, length-drop, length-take, length-append, length-set}
-use lib.Seq.{drop-drop, set-out}
+use lib.Seq.{drop-drop}
 use Rattle.types.specs.declared.EraseUnit.{EraseUnit}
 use Rattle.types.specs.declared.EraseUnit.the-variants.{Sector, Block32, Block64, Chip, Row}
 use Rattle.paper.specs.Sizes.{pageBytes}
@@ -41,11 +41,6 @@ erased-length xs b = erased-length-as xs b _ refl
 pub narrowed-length : (xs : List ℕ) (a d : ℕ) → length (narrowed xs a d) ≡ length xs
 unfolding narrowed
 narrowed-length xs a d = length-set xs a _
-
--- a place that is not there leaves the bytes as they are
-pub narrowed-out : (xs : List ℕ) (a d : ℕ) → length xs ≤ a → narrowed xs a d ≡ xs
-unfolding narrowed
-narrowed-out xs a d h = set-out xs a _ h
 
 -- a unit of a part of fewer than 65,536 blocks has at most so many pages
 pub unit-pages-le : (u : EraseUnit) (n : ℕ) → n < 65536 → unitPages u n ≤ 65536 * 256

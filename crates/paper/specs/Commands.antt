@@ -85,7 +85,7 @@ changeBy Resumes w p f i = settles p (resumedIn f) true
 changeBy Sleeps w p f i = unarmed (resting p true)
 changeBy Wakes w p f i = unarmed (resting p false)
 changeBy Arms w p f i = Marked true
--- operation dropped, WEL 0, awake, unarmed, the live byte loaded: what power-up gives for the same size, identity and stored register bits
+-- both operations dropped, WEL 0, awake, unarmed, the live byte loaded: what power-up gives for the same size, identity and stored register bits
 changeBy Resets w p f i = Became (freshPart (p .blocks) (p .identity) (p .stored)) Idle Zero
 -- 83h and 82h act at once, and leave WEL
 changeBy SetsLive w p f i = Live (liveSet (getD i 1 0) (p .live))

@@ -25,7 +25,7 @@ use Rattle.cells.specs.Operations.{workCells, workOf}
 use Rattle.cells.proofs.Back.{work-back, same-cells}
 use Rattle.record_bytes.specs.declared.Found.{Found}
 use Rattle.record_bytes.specs.Layout.{runningAt, haltedAt, headerLength, recordLength, partBytes, operationBytes, worksBytes, header, recordBytes, written}
-use Rattle.record_bytes.specs.Read.{cellsIn, workIn, partIn, phaseIn, fieldsIn, holds, Held, nothing, held, recordIn, found, Fitting, Fits}
+use Rattle.record_bytes.specs.Read.{cellsIn, workAt, partIn, phaseIn, fieldsIn, holds, Held, nothing, held, recordIn, found, Fitting, Fits}
 use Rattle.record_bytes.proofs.Laws.{header-length}
 use Rattle.record_bytes.proofs.Same.{same-bytes, one-list}
 
@@ -49,11 +49,11 @@ cells-back s h =
     same-cells (s .kind) (s .value) _ _ _ _ _ _ (number-back 8 (s .base) (h .base)) (number-back 8 (s .count) (h .count)) (number-back 8 (s .done) (h .done))
 
 module _ (p : Record) (h : Fits p) where
-  running-back : workIn (recordBytes p) runningAt ≡ running (p .phase)
+  running-back : workAt (recordBytes p) runningAt ≡ running (p .phase)
   unfolding recordBytes partBytes worksBytes operationBytes
   running-back = ap workOf (cells-back (workCells (running (p .phase))) (h .runs)) ∙ work-back (running (p .phase))
 
-  halted-back : workIn (recordBytes p) haltedAt ≡ halted (p .phase)
+  halted-back : workAt (recordBytes p) haltedAt ≡ halted (p .phase)
   unfolding recordBytes partBytes worksBytes operationBytes
   halted-back = ap workOf (cells-back (workCells (halted (p .phase))) (h .suspended)) ∙ work-back (halted (p .phase))
 

@@ -25,7 +25,7 @@ use Rattle.cells.specs.Operations.{cellsOf, workCells, operationIn}
 use Rattle.record_bytes.specs.declared.Found.{Found}
 use Rattle.record_bytes.specs.declared.Seen.{Seen}
 use Rattle.record_bytes.specs.Layout.{welAt, armedAt, asleepAt, liveAt, baseAt, countAt, doneAt, operationLength, runningAt, haltedAt, spareAt, spareLength, phaseLength, headerLength, recordLength, partBytes, operationBytes, worksBytes, phaseBytes, header}
-use Rattle.record_bytes.specs.Read.{numberAt, marksIn, sameCells, sameBytes, cellsIn, operationAt, workIn, storedOf, partIn, phaseIn, fieldsIn, holds, nothing, recordIn, found, seen, Fitting}
+use Rattle.record_bytes.specs.Read.{numberAt, marksIn, sameCells, sameBytes, cellsIn, operationAt, workAt, storedOf, partIn, phaseIn, fieldsIn, holds, nothing, recordIn, found, seen, Fitting}
 use Rattle.record_bytes.proofs.Laws.{two-bytes, operation-length, none-bytes}
 use Rattle.record_bytes.proofs.Same.{same-append, same-number}
 use Rattle.record_bytes.proofs.Back.{taken}
@@ -196,10 +196,10 @@ module _ (bs : List ℕ) (l : length bs ≡ recordLength) (low : (j : ℕ) → g
   unfolding cellsIn
   kind-at at = getD-take operationLength (drop at bs) 0 0 (omega arith) ∙ getD-drop at bs 0 0 ∙ let q : at + 0 ≡ at = omega arith in ap byte q
 
-  no-work-in : (at : ℕ) → byte at ≡ 0 → workIn bs at ≡ NoWork
+  no-work-in : (at : ℕ) → byte at ≡ 0 → workAt bs at ≡ NoWork
   no-work-in at e = rw (eq-eqb (cellsIn (operationAt bs at) .kind) 0 (kind-at at ∙ e))
 
-  some-work-in : (at : ℕ) → (byte at ≡ 0 → ⊥) → workIn bs at ≡ At (operationIn (cellsIn (operationAt bs at)))
+  some-work-in : (at : ℕ) → (byte at ≡ 0 → ⊥) → workAt bs at ≡ At (operationIn (cellsIn (operationAt bs at)))
   some-work-in at e = rw (ne-eqb (cellsIn (operationAt bs at) .kind) 0 (λ q. e (sym (kind-at at) ∙ q)))
 
   -- its bytes are those of the operation that they are read as where the cells are
@@ -220,7 +220,7 @@ module _ (bs : List ℕ) (l : length bs ≡ recordLength) (low : (j : ℕ) → g
         held-as Idle z (idle-phase r h) (zeros-same phaseLength doing (simp (length-take, length-drop) (omega arith)) ∙ sym ez)
 
     module _ (c : Cells) (o : Operation) (ec : c ≡ cellsIn ran) (eo : o ≡ operationIn c) (f : Fitting (cellsOf o)) (k : Bool) (ek : k ≡ sameCells (cellsOf o) c) where
-      runs-as : (byte runningAt ≡ 0 → ⊥) → At o ≡ workIn bs runningAt
+      runs-as : (byte runningAt ≡ 0 → ⊥) → At o ≡ workAt bs runningAt
       runs-as r = ap At (eo ∙ ap operationIn ec) ∙ sym (some-work-in runningAt r)
 
       runs-same : sameBytes (operationBytes (cellsOf o)) ran ≡ k
@@ -239,7 +239,7 @@ module _ (bs : List ℕ) (l : length bs ≡ recordLength) (low : (j : ℕ) → g
           ∙ rw (runs-same, none-and-zeros) (ap (λ (t : Bool). k and t) (zeros-same (operationLength + spareLength) behind (simp (length-take, length-drop) (omega arith)) ∙ sym ez)))
 
     module _ (c : Cells) (e : Operation) (ec : c ≡ cellsIn stood) (ee : e ≡ operationIn c) (f : Fitting (cellsOf e)) (k : Bool) (ek : k ≡ sameCells (cellsOf e) c) (z : Bool) (ez : z ≡ allZero spare) (t : Bool) (et : t ≡ (m and z and k)) where
-      stands-as : (byte haltedAt ≡ 0 → ⊥) → At e ≡ workIn bs haltedAt
+      stands-as : (byte haltedAt ≡ 0 → ⊥) → At e ≡ workAt bs haltedAt
       stands-as h = ap At (ee ∙ ap operationIn ec) ∙ sym (some-work-in haltedAt h)
 
       -- what stands behind what runs: what is suspended, and the zeros

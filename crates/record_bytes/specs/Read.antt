@@ -35,8 +35,8 @@ abbrev pub operationAt : List ℕ → ℕ → List ℕ
 operationAt bs at = take operationLength (drop at bs)
 
 -- the operation there, or none
-abbrev pub workIn : List ℕ → ℕ → Work
-workIn bs at = workOf (cellsIn (operationAt bs at))
+abbrev pub workAt : List ℕ → ℕ → Work
+workAt bs at = workOf (cellsIn (operationAt bs at))
 
 -- the registers that stand in the bytes f 0, f 1, ..
 abbrev pub storedOf : (ℕ → ℕ) → Stored
@@ -49,7 +49,7 @@ partIn bs =
 
 -- the phase so
 abbrev pub phaseIn : List ℕ → Phase
-phaseIn bs = phaseOf (workIn bs runningAt) (workIn bs haltedAt)
+phaseIn bs = phaseOf (workAt bs runningAt) (workAt bs haltedAt)
 
 -- and the whole record
 unfoldable pub fieldsIn : List ℕ → Record

@@ -66,11 +66,6 @@ unfolding _orElse_
 orElse-none zero = refl
 orElse-none (suc m) = refl
 
-pub orElse-assoc : (m n k : ℕ) → ((m orElse n) orElse k) ≡ (m orElse n orElse k)
-unfolding _orElse_
-orElse-assoc zero n k = refl
-orElse-assoc (suc m) n k = refl
-
 suc-not-zero : {n : ℕ} → suc n ≡ 0 → ⊥
 suc-not-zero e = omega arith
 
