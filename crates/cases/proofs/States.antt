@@ -86,7 +86,7 @@ pub record States : Type 0 where
   -- 02h at 000000h, in the suspended sector
   pub suspended-target-with-wel : numbers (recordWith (Suspended (Erase Sector 0 3)) true true false) codes ≡ whileSuspended 0 28
   -- busy within a suspended erase: the inner program can not be suspended
-  pub nested-program : numbers (recordWith (Nested (Erase Sector 4096 3) program) true true false) codes ≡ whileBusy 25
+  pub nested-program : numbers (recordWith (Nested program (Erase Sector 4096 3)) true true false) codes ≡ whileBusy 25
 
 pub states : States
 unfolding transacted outcomeOf transactionRefusal sizeNumber rowsNumber lengthNumber outputNumber soundNumber commandNumber sound partSound operationOk bitsOk pageOk sizeOk decoded addressIn highFirst rowOk rowPlace question among blockRow cellOf locked barred noData pagePlace programOf eraseOf writeOf _and_ _or_ unless _orElse_

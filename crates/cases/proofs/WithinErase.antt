@@ -65,7 +65,7 @@ abbrev pub ready : ℕ → Record
 ready live = recordAt 0x02 0x08 true live (Suspended (erasing 3)) noData
 
 abbrev pub nested : Record
-nested = recordAt 0x03 0x08 true failed (Nested (erasing 3) program) (pageData (0xA5 ∷ []))
+nested = recordAt 0x03 0x08 true failed (Nested program (erasing 3)) (pageData (0xA5 ∷ []))
 
 -- the calls: 06h, D7h at 001000h, 3 ticks, 75h; 06h, 02h at 001800h, which lies in the sector, 02h at 002000h, 75h, 1 tick; 7Ah
 abbrev pub calls : List Call

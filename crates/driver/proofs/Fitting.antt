@@ -60,13 +60,13 @@ running-fits : (f : Phase) (n : ℕ) (g : Stored) → n ≤ 16 → phaseOk f n g
 running-fits Idle n g few h = none-fits
 running-fits (Busy o) n g few h = operation-fits n g o few (in-order o n g h)
 running-fits (Suspended o) n g few h = none-fits
-running-fits (Nested e o) n g few h = operation-fits n g o few (in-order o n g (and-r _ _ (and-r _ _ h)))
+running-fits (Nested o e) n g few h = operation-fits n g o few (in-order o n g (and-r _ _ (and-r _ _ h)))
 
 halted-fits : (f : Phase) (n : ℕ) (g : Stored) → n ≤ 16 → phaseOk f n g ≡ true → Fitting (workCells (halted f))
 halted-fits Idle n g few h = none-fits
 halted-fits (Busy o) n g few h = none-fits
 halted-fits (Suspended o) n g few h = operation-fits n g o few (in-order o n g (and-r _ _ h))
-halted-fits (Nested e o) n g few h = operation-fits n g e few (in-order e n g (and-l _ _ (and-r _ _ h)))
+halted-fits (Nested o e) n g few h = operation-fits n g e few (in-order e n g (and-l _ _ (and-r _ _ h)))
 
 -- so many bytes of page data
 abbrev pub Page : Record → Type 0

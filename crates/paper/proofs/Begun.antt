@@ -140,13 +140,13 @@ module _ (p : Part) (size : sizeOk (p .blocks) ≡ true) (awake : p .asleep ≡ 
   -- the same within a suspended erase, of a page of the array outside of its unit
   pub program-nested : (e : Operation) (i : List ℕ) → 5 ≤ length i → isErase e ≡ true → phaseOk (Suspended e) (p .blocks) (p .stored) ≡ true
       → targetFree (programOf Array (p .blocks) i) (p .blocks) (p .stored) ≡ true → outside e (p .blocks) (programOf Array (p .blocks) i) ≡ true
-      → sound (recordOf (settled p (Nested e (programOf Array (p .blocks) i)) true) (Nested e (programOf Array (p .blocks) i)) (pageData (dataSent i))) ≡ true
+      → sound (recordOf (settled p (Nested (programOf Array (p .blocks) i) e) true) (Nested (programOf Array (p .blocks) i) e) (pageData (dataSent i))) ≡ true
   unfolding programOf pageOk
   program-nested e i l h g f a =
       let o = programOf Array (p .blocks) i in
       let q = program-ok Array (p .blocks) (p .stored) i (size-range (p .blocks) size .0) l tt f in
       let k = in-nest-whole e o (p .blocks) (record { erases = h; suspends = and-l _ _ g; programs = refl; array-page = refl; apart = a }) in
-      settled-sound (Nested e o) true (pageData (dataSent i)) refl (and-in k (and-in (and-r _ _ g) q)) (zeros-after (dataSent i))
+      settled-sound (Nested o e) true (pageData (dataSent i)) refl (and-in k (and-in (and-r _ _ g) q)) (zeros-after (dataSent i))
 
   -- a phase that keeps no page data, where there is none
   module _ (d : List ℕ) (none : allZero d ≡ true) where

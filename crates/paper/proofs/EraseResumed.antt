@@ -94,7 +94,7 @@ at-rest : (f : Phase) (e : Operation) → halted f ≡ At e → isBusy f ≡ fal
 at-rest Idle e h n = absurd (no-work-at h)
 at-rest (Busy o) e h n = absurd (no-work-at h)
 at-rest (Suspended o) e h n = ap Suspended (at-same h)
-at-rest (Nested x o) e h n = absurd (false≢true (sym n))
+at-rest (Nested o x) e h n = absurd (false≢true (sym n))
 
 -- d ticks, a suspend, calls, and a resume
 abbrev pub interrupted : ℕ → Call → List Call → Call → List Call

@@ -56,7 +56,7 @@ halted-ok : (f : Phase) (o : Operation) (n : ℕ) (s : Stored) → halted f ≡ 
 halted-ok Idle o n s e h = absurd (no-work-at e)
 halted-ok (Busy x) o n s e h = absurd (no-work-at e)
 halted-ok (Suspended x) o n s e h = ap (λ (y : Operation). operationOk y n s) (sym (at-same e)) ∙ and-r _ _ h
-halted-ok (Nested y x) o n s e h = ap (λ (z : Operation). operationOk z n s) (sym (at-same e)) ∙ and-l _ _ (and-r _ _ h)
+halted-ok (Nested x y) o n s e h = ap (λ (z : Operation). operationOk z n s) (sym (at-same e)) ∙ and-l _ _ (and-r _ _ h)
 
 -- what is suspended on a sound part is in order
 halted-in-order : (p : Record) (o : Operation) → halted (p .phase) ≡ At o → sound p ≡ true → InOrder o (p .part .blocks) (p .part .stored)
@@ -76,19 +76,19 @@ module _ (m : Memory) (at : ℕ) where
   started-blank x Idle o n h = (λ t. absurd (n t), tt)
   started-blank x (Busy y) o n h = (λ t. absurd (n t), tt)
   started-blank x (Suspended y) o n h = (λ t. absurd (n t), h .1)
-  started-blank x (Nested y z) o n h = (λ t. absurd (n t), h .1)
+  started-blank x (Nested z y) o n h = (λ t. absurd (n t), h .1)
 
   suspended-blank : (x : ℕ) (f : Phase) → DoneBlank m at x f → DoneBlank m at x (suspendedIn f)
   suspended-blank x Idle h = h
   suspended-blank x (Busy o) h = (tt, h .0)
   suspended-blank x (Suspended o) h = h
-  suspended-blank x (Nested e o) h = h
+  suspended-blank x (Nested o e) h = h
 
   resumed-blank : (x : ℕ) (f : Phase) → DoneBlank m at x f → DoneBlank m at x (resumedIn f)
   resumed-blank x Idle h = h
   resumed-blank x (Busy o) h = h
   resumed-blank x (Suspended o) h = (h .1, tt)
-  resumed-blank x (Nested e o) h = h
+  resumed-blank x (Nested o e) h = h
 
   effect-blank : (c : Effect) (p : Record) (i : List ℕ) (x : ℕ) → DoneBlank m at x (p .phase) → DoneBlank m at x (changed (changeBy c (begins c (p .part .blocks) i) (p .part) (p .phase) i) i p .phase)
   unfolding programOf eraseOf writeOf

@@ -46,13 +46,13 @@ pub going-halted : (f : Phase) (o : Operation) → halted (workingOn f o) ≡ ha
 going-halted Idle o = refl
 going-halted (Busy x) o = refl
 going-halted (Suspended x) o = refl
-going-halted (Nested e x) o = refl
+going-halted (Nested x e) o = refl
 
 pub rest-halted : (f : Phase) → halted (restOf f) ≡ halted f
 rest-halted Idle = refl
 rest-halted (Busy x) = refl
 rest-halted (Suspended x) = refl
-rest-halted (Nested e x) = refl
+rest-halted (Nested x e) = refl
 
 worked-halted : (p : Record) (o : Operation) (t : Bool) → halted (cond t (advanced p (advancedBy 1 o)) (finished p o) .phase) ≡ halted (p .phase)
 worked-halted p o true = going-halted (p .phase) (advancedBy 1 o)
@@ -110,7 +110,7 @@ suspended-halted : (f : Phase) (e : Operation) → halted f ≡ At e → halted 
 suspended-halted Idle e h = h
 suspended-halted (Busy x) e h = absurd (no-work-at h)
 suspended-halted (Suspended x) e h = h
-suspended-halted (Nested x y) e h = h
+suspended-halted (Nested y x) e h = h
 
 -- what each transaction makes of a part that is suspended from e
 module _ (p : Record) (e : Operation) (h : halted (p .phase) ≡ At e) where
@@ -177,7 +177,7 @@ resumed-none : (f : Phase) → isSuspended f ≡ true → halted (resumedIn f) �
 resumed-none Idle h = refl
 resumed-none (Busy o) h = refl
 resumed-none (Suspended o) h = refl
-resumed-none (Nested e o) h = absurd (false≢true h)
+resumed-none (Nested o e) h = absurd (false≢true h)
 
 -- a command that is executed and lets it go leaves nothing suspended
 module _ (p : Record) (i : List ℕ) where

@@ -112,12 +112,12 @@ module _ (p : Part) (g : List ℕ) where
       sound-whole p (Busy (advancedBy 1 o)) g
       (record { size = s .size; sleep = s .sleep; latch = s .latch; phase-ok = in-order-whole (advancedBy 1 o) (p .blocks) (p .stored) i; bits = s .bits; page-ok = ap (λ (k : ℕ). allZero (drop k g)) (advanced-keeps 1 o) ∙ s .page-ok })
 
-  nested-sound : (e o : Operation) → Sound p (Nested e o) g → ticksDone o + 1 < ticksInAll o (p .blocks) → sound (recordOf p (Nested e (advancedBy 1 o)) g) ≡ true
+  nested-sound : (e o : Operation) → Sound p (Nested o e) g → ticksDone o + 1 < ticksInAll o (p .blocks) → sound (recordOf p (Nested (advancedBy 1 o) e) g) ≡ true
   unfolding bitsOk pageOk
   nested-sound e o s h =
       let both-ok = and-r _ _ (s .phase-ok) in
       let i = advanced-in-order 1 (p .blocks) (p .stored) o (in-order o (p .blocks) (p .stored) (and-r _ _ both-ok)) h in
-      sound-whole p (Nested e (advancedBy 1 o)) g
+      sound-whole p (Nested (advancedBy 1 o) e) g
       (record {
         size = s .size;
         sleep = s .sleep;
@@ -131,10 +131,10 @@ module _ (p : Part) (g : List ℕ) where
   going-sound Idle o e s h = absurd (no-work-at e)
   going-sound (Busy x) o e s h = busy-sound o (subst (λ (y : Operation). Sound p (Busy y) g) (at-same e) s) h
   going-sound (Suspended x) o e s h = absurd (no-work-at e)
-  going-sound (Nested y x) o e s h = nested-sound y o (subst (λ (z : Operation). Sound p (Nested y z) g) (at-same e) s) h
+  going-sound (Nested x y) o e s h = nested-sound y o (subst (λ (z : Operation). Sound p (Nested z y) g) (at-same e) s) h
 
   -- and the last: a part that was nested is suspended from the outer erase again
-  outer-sound : (e o : Operation) → Sound p (Nested e o) g → sound (finished (recordOf p (Nested e o) g) o) ≡ true
+  outer-sound : (e o : Operation) → Sound p (Nested o e) g → sound (finished (recordOf p (Nested o e) g) o) ≡ true
   unfolding pageOk
   outer-sound e o s =
       let i = in-nest e o (p .blocks) (and-l _ _ (s .phase-ok)) in
@@ -148,7 +148,7 @@ module _ (p : Part) (g : List ℕ) where
   finished-sound Idle o e s = absurd (no-work-at e)
   finished-sound (Busy x) o e s = idle-sound p (storedAfter o (p .stored)) (s .size)
   finished-sound (Suspended x) o e s = absurd (no-work-at e)
-  finished-sound (Nested y x) o e s = outer-sound y o (subst (λ (z : Operation). Sound p (Nested y z) g) (at-same e) s)
+  finished-sound (Nested x y) o e s = outer-sound y o (subst (λ (z : Operation). Sound p (Nested z y) g) (at-same e) s)
 
 module _ (p : Record) where
   worked-as : (o : Operation) → running (p .phase) ≡ At o → sound p ≡ true → (t : Bool) → ltb (ticksDone o + 1) (ticksInAll o (p .part .blocks)) ≡ t

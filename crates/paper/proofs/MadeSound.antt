@@ -65,7 +65,7 @@ module _ (f : Phase) (wel : Bool) (g : Stored) where
   phase-stored Idle n = refl
   phase-stored (Busy o) n = operation-stored o n
   phase-stored (Suspended o) n = rw (operation-stored o n)
-  phase-stored (Nested e o) n = rw (operation-stored e n, operation-stored o n)
+  phase-stored (Nested o e) n = rw (operation-stored e n, operation-stored o n)
 
   bits-made : bitsOk f wel (registersIn f wel g) ≡ true
   unfolding bitsOk _and_

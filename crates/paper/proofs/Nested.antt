@@ -54,8 +54,8 @@ sound-shows p s =
     record { wip-shown = omega (arith, st, i, l); wel-shown = omega (arith, st, i, l); esus-shown = omega (arith, fn, e, g); psus-shown = omega (arith, fn, e, g) }
 
 -- while a program runs within a suspended erase WEL is 1
-pub nested-latch : (p : Record) (e o : Operation) → p .phase ≡ Nested e o → sound p ≡ true → p .part .wel ≡ true
-nested-latch p e o f s = sound-in p (Nested e o) f s .latch
+pub nested-latch : (p : Record) (e o : Operation) → p .phase ≡ Nested o e → sound p ≡ true → p .part .wel ≡ true
+nested-latch p e o f s = sound-in p (Nested o e) f s .latch
 
 erase-bits : (e : Operation) → isErase e ≡ true → (bit (isErase e) ≡ 1) × (bit (isProgram e) ≡ 0)
 erase-bits (Program m s b k d) h = absurd (false≢true h)
@@ -66,10 +66,10 @@ shows-in : (p : Record) (f : Phase) → p .phase ≡ f → sound p ≡ true → 
 shows-in p f e s = subst (λ (g : Phase). Showing (p .part .stored) (wip g) (bit (p .part .wel)) (esus g) (psus g)) e (sound-shows p s)
 
 -- and the registers show WIP, WEL and ESUS 1 and PSUS 0
-pub nested-shows : (p : Record) (e o : Operation) → p .phase ≡ Nested e o → sound p ≡ true → Showing (p .part .stored) 1 1 1 0
+pub nested-shows : (p : Record) (e o : Operation) → p .phase ≡ Nested o e → sound p ≡ true → Showing (p .part .stored) 1 1 1 0
 nested-shows p e o f s =
-    let q = shows-in p (Nested e o) f s in
-    let b = erase-bits e (in-nest e o (p .part .blocks) (and-l _ _ (sound-in p (Nested e o) f s .phase-ok)) .erases) in
+    let q = shows-in p (Nested o e) f s in
+    let b = erase-bits e (in-nest e o (p .part .blocks) (and-l _ _ (sound-in p (Nested o e) f s .phase-ok)) .erases) in
     record { wip-shown = q .wip-shown; wel-shown = q .wel-shown ∙ ap bit (nested-latch p e o f s); esus-shown = q .esus-shown ∙ b .0; psus-shown = q .psus-shown ∙ b .1 }
 
 -- while an erase is suspended and nothing runs they show WIP 0, ESUS 1 and PSUS 0; WEL is 0 or 1
@@ -107,18 +107,18 @@ module _ (p : Record) (a r : ℕ) (wp : Bool) (i : List ℕ) (o : ℕ) (k : Comm
 -- a 02h that is executed on a part that is suspended from e begins a program within it; WEL is 1 still, and the bytes that count are kept
 pub program-nests : (p : Record) (e : Operation) (a r : ℕ) (wp : Bool) (i : List ℕ) (o : ℕ) → p .phase ≡ Suspended e → decoded (getD i 0 0) ≡ Known PageProgram → transacted p a r wp i o .number ≡ 0
     → let q = transacted p a r wp i o .next in
-    (q .phase ≡ Nested e (programOf Array (p .part .blocks) i)) × (q .part .wel ≡ true) × (q .page ≡ pageData (dataSent i))
+    (q .phase ≡ Nested (programOf Array (p .part .blocks) i) e) × (q .part .wel ≡ true) × (q .page ≡ pageData (dataSent i))
 program-nests p e a r wp i o f d z =
     let q = executed-so p a r wp i o PageProgram d z in
     (ap (λ (t : Answer). t .next .phase) q ∙ ap (λ (g : Phase). workingOn g (programOf Array (p .part .blocks) i)) f, ap (λ (t : Answer). t .next .part .wel) q, ap (λ (t : Answer). t .next .page) q)
 
 -- its ticks that are not the last go on with it
-pub nested-goes-on : (p : Record) (e o : Operation) (n : ℕ) → p .phase ≡ Nested e o → ticksDone o + n < ticksInAll o (p .part .blocks) → recordAfter n p ≡ recordOf (p .part) (Nested e (advancedBy n o)) (p .page)
+pub nested-goes-on : (p : Record) (e o : Operation) (n : ℕ) → p .phase ≡ Nested o e → ticksDone o + n < ticksInAll o (p .part .blocks) → recordAfter n p ≡ recordOf (p .part) (Nested (advancedBy n o) e) (p .page)
 nested-goes-on p e o n f h =
     run-record p o (ap running f) n h ∙ ap (λ (g : Phase). recordOf (p .part) (workingOn g (advancedBy n o)) (p .page)) f
 
 -- its last leaves the part suspended from the erase, with WEL 0 and page data zero; ticks past it change nothing
-pub nested-ends : (p : Record) (e o : Operation) (n : ℕ) → p .phase ≡ Nested e o → ticksDone o < ticksInAll o (p .part .blocks) → ticksInAll o (p .part .blocks) ≤ ticksDone o + n
+pub nested-ends : (p : Record) (e o : Operation) (n : ℕ) → p .phase ≡ Nested o e → ticksDone o < ticksInAll o (p .part .blocks) → ticksInAll o (p .part .blocks) ≤ ticksDone o + n
     → let q = recordAfter n p in (q .phase ≡ Suspended e) × (q .part .wel ≡ false) × (q .page ≡ noData)
 nested-ends p e o n f h l =
     let k = ticksInAll o (p .part .blocks) - ticksDone o - 1 in

@@ -75,10 +75,10 @@ module _ (n : ℕ) (g : Stored) (m : Memory) (at : ℕ) where
 -- a place in the unit of the erase that a sound part is suspended from
 module _ (m : Memory) (at : ℕ) (e : Operation) where
   -- the inner program's next tick leaves it
-  pub nested-spares : (p : Record) (o : Operation) (x : ℕ) → p .phase ≡ Nested e o → sound p ≡ true → inUnit e (p .part .blocks) m at ≡ true → byteAfter m at (touchOf p) x ≡ x
+  pub nested-spares : (p : Record) (o : Operation) (x : ℕ) → p .phase ≡ Nested o e → sound p ≡ true → inUnit e (p .part .blocks) m at ≡ true → byteAfter m at (touchOf p) x ≡ x
   nested-spares p o x f s i =
       let n = p .part .blocks in
-      let h = sound-in p (Nested e o) f s .phase-ok in
+      let h = sound-in p (Nested o e) f s .phase-ok in
       ap (λ (g : Phase). byteAfter m at (touchAt (running g) (p .page)) x) f
       ∙ spared-next n (p .part .stored) m at e o (p .page) x (in-nest e o n (and-l _ _ h)) (in-order e n (p .part .stored) (and-l _ _ (and-r _ _ h))) (in-order o n (p .part .stored) (and-r _ _ (and-r _ _ h))) i
 
@@ -87,7 +87,7 @@ module _ (m : Memory) (at : ℕ) (e : Operation) where
   spared-in p Idle x q h s i = absurd (no-work-at h)
   spared-in p (Busy o) x q h s i = absurd (no-work-at h)
   spared-in p (Suspended o) x q h s i = ap (λ (g : Phase). byteAfter m at (touchAt (running g) (p .page)) x) q
-  spared-in p (Nested y o) x q h s i = nested-spares p o x (q ∙ ap (λ (z : Operation). Nested z o) (at-same h)) s i
+  spared-in p (Nested o y) x q h s i = nested-spares p o x (q ∙ ap (λ (z : Operation). Nested o z) (at-same h)) s i
 
   pub halted-spares : (p : Record) (x : ℕ) → halted (p .phase) ≡ At e → sound p ≡ true → inUnit e (p .part .blocks) m at ≡ true → byteAfter m at (touchOf p) x ≡ x
   halted-spares p x = spared-in p (p .phase) x refl

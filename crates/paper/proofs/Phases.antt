@@ -28,7 +28,7 @@ pub phase-works : (f : Phase) → phaseOf (running f) (halted f) ≡ f
 phase-works Idle = refl
 phase-works (Busy o) = refl
 phase-works (Suspended o) = refl
-phase-works (Nested e o) = refl
+phase-works (Nested o e) = refl
 
 pub phase-runs : (w h : Work) → running (phaseOf w h) ≡ w
 phase-runs NoWork NoWork = refl
@@ -47,50 +47,50 @@ pub going-runs : (f : Phase) (o : Operation) → running (workingOn f o) ≡ At 
 going-runs Idle o = refl
 going-runs (Busy y) o = refl
 going-runs (Suspended y) o = refl
-going-runs (Nested y z) o = refl
+going-runs (Nested z y) o = refl
 
 pub going-on : (f : Phase) (x o : Operation) → workingOn (workingOn f x) o ≡ workingOn f o
 going-on Idle x o = refl
 going-on (Busy y) x o = refl
 going-on (Suspended y) x o = refl
-going-on (Nested y z) x o = refl
+going-on (Nested z y) x o = refl
 
 pub going-same : (f : Phase) (o : Operation) → running f ≡ At o → workingOn f o ≡ f
 going-same Idle o e = absurd (no-work-at e)
 going-same (Busy y) o e = ap Busy (sym (at-same e))
 going-same (Suspended y) o e = absurd (no-work-at e)
-going-same (Nested y z) o e = ap (Nested y) (sym (at-same e))
+going-same (Nested z y) o e = ap (λ (t : Operation). Nested t y) (sym (at-same e))
 
 pub going-rest : (f : Phase) (o : Operation) → restOf (workingOn f o) ≡ restOf f
 going-rest Idle o = refl
 going-rest (Busy y) o = refl
 going-rest (Suspended y) o = refl
-going-rest (Nested y z) o = refl
+going-rest (Nested z y) o = refl
 
 -- the rest of what runs is no work
 pub rest-idle : (f : Phase) → running (restOf f) ≡ NoWork
 rest-idle Idle = refl
 rest-idle (Busy o) = refl
 rest-idle (Suspended o) = refl
-rest-idle (Nested e o) = refl
+rest-idle (Nested o e) = refl
 
 -- a busy part is not idle
 pub busy-not-idle : (f : Phase) → isBusy f ≡ true → isIdle f ≡ false
 busy-not-idle Idle b = absurd (false≢true b)
 busy-not-idle (Busy o) b = refl
 busy-not-idle (Suspended o) b = refl
-busy-not-idle (Nested e o) b = refl
+busy-not-idle (Nested o e) b = refl
 
 -- neither busy nor suspended is idle
 pub idle-of : (f : Phase) → isBusy f ≡ false → isSuspended f ≡ false → f ≡ Idle
 idle-of Idle b s = refl
 idle-of (Busy o) b s = absurd (false≢true (sym b))
 idle-of (Suspended o) b s = absurd (false≢true (sym s))
-idle-of (Nested e o) b s = absurd (false≢true (sym b))
+idle-of (Nested o e) b s = absurd (false≢true (sym b))
 
 -- and what is idle is that phase
 pub idle-is : (f : Phase) → isIdle f ≡ true → f ≡ Idle
 idle-is Idle e = refl
 idle-is (Busy o) e = absurd (false≢true e)
 idle-is (Suspended o) e = absurd (false≢true e)
-idle-is (Nested x o) e = absurd (false≢true e)
+idle-is (Nested o x) e = absurd (false≢true e)

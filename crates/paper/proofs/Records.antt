@@ -23,4 +23,4 @@ pub function-low-le : (f : Phase) → functionLow f ≤ 8
 function-low-le Idle = omega arith
 function-low-le (Busy o) = omega arith
 function-low-le (Suspended o) = of-suspended-le o
-function-low-le (Nested e o) = of-suspended-le e
+function-low-le (Nested o e) = of-suspended-le e

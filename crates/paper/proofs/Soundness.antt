@@ -74,7 +74,7 @@ unfolding _or_
 awake-ok Idle = refl
 awake-ok (Busy o) = refl
 awake-ok (Suspended o) = refl
-awake-ok (Nested e o) = refl
+awake-ok (Nested o e) = refl
 
 -- the parts of an operation that is in order
 pub record InOrder (o : Operation) (n : ℕ) (s : Stored) : Type 0 where
@@ -121,7 +121,7 @@ running-ok : (f : Phase) (o : Operation) (n : ℕ) (s : Stored) → running f �
 running-ok Idle o n s e h = absurd (no-work-at e)
 running-ok (Busy x) o n s e h = ap (λ (y : Operation). operationOk y n s) (sym (at-same e)) ∙ h
 running-ok (Suspended x) o n s e h = absurd (no-work-at e)
-running-ok (Nested y x) o n s e h =
+running-ok (Nested x y) o n s e h =
     ap (λ (z : Operation). operationOk z n s) (sym (at-same e)) ∙ and-r _ _ (and-r _ _ h)
 
 pub running-in-order : (p : Record) (o : Operation) → running (p .phase) ≡ At o → sound p ≡ true → InOrder o (p .part .blocks) (p .part .stored)

@@ -156,7 +156,7 @@ module _ (p : Record) (s : sound p ≡ true) where
       sound-of (settled (p .part) (Suspended o) false) (Suspended o) (p .page)
       (made-sound (p .part) (p .part .stored) (Suspended o) false (q .size) (q .sleep) (or-true (isErase o)) (and-in (and-l _ _ h) (q .phase-ok))) (q .page-ok)
   suspends (Suspended o) e h = absurd (false≢true (and-l _ _ h))
-  suspends (Nested x o) e h = absurd (false≢true (and-r _ _ h))
+  suspends (Nested o x) e h = absurd (false≢true (and-r _ _ h))
 
   resumes : (f : Phase) → p .phase ≡ f → resumable f ≡ true → sound (recordOf (settled (p .part) (resumedIn f) true) (resumedIn f) (p .page)) ≡ true
   unfolding pageOk
@@ -166,7 +166,7 @@ module _ (p : Record) (s : sound p ≡ true) where
       let q = sound-in p (Suspended o) e s in
       sound-of (settled (p .part) (Busy o) true) (Busy o) (p .page)
       (made-sound (p .part) (p .part .stored) (Busy o) true (q .size) (q .sleep) refl (and-r _ _ (q .phase-ok))) (q .page-ok)
-  resumes (Nested x o) e h = absurd (false≢true h)
+  resumes (Nested o x) e h = absurd (false≢true h)
 
   rests : (asleep : Bool) → sleepOk (p .phase) asleep ≡ true → sound (recordOf (resting (p .part) asleep) (p .phase) (p .page)) ≡ true
   rests asleep h =
@@ -186,7 +186,7 @@ module _ (p : Record) (s : sound p ≡ true) where
         let q = sound-in p (Suspended o) e s in
         let l : latchOk (Suspended o) wel ≡ true = ap (λ (t : Bool). t or not wel) (sym (or-false (isErase o)) ∙ h) in
         settled-sound (p .part) (q .size) awake (Suspended o) wel (p .page) l (q .phase-ok) (q .page-ok)
-    latches wel (Nested x o) e b h = absurd (false≢true (sym b))
+    latches wel (Nested o x) e b h = absurd (false≢true (sym b))
 
     -- a program begins; where an erase is suspended, outside of its unit
     begins-program : (i : List ℕ) → 5 ≤ length i → (f : Phase) → p .phase ≡ f → isBusy f ≡ false → (eraseHalted f or not (isSuspended f)) ≡ true
@@ -199,7 +199,7 @@ module _ (p : Record) (s : sound p ≡ true) where
     begins-program i l (Suspended o) e b h g a =
         let q = sound-in p (Suspended o) e s in
         program-nested (p .part) (q .size) awake o i l (sym (or-false (isErase o)) ∙ h) (q .phase-ok) g a
-    begins-program i l (Nested x o) e b h g a = absurd (false≢true (sym b))
+    begins-program i l (Nested o x) e b h g a = absurd (false≢true (sym b))
 
   module _ (i : List ℕ) (wp : Bool) where
     module _ {l : Length} {v : Bool} {a : Named} {g : Wanted} {c : Effect} {w : Work} (t : CommandTaken (line l v Esus a g None 0 c) w (p .part) (p .phase) i wp) where

@@ -12,14 +12,14 @@ abbrev pub running : Phase → Work
 running Idle = NoWork
 running (Busy o) = At o
 running (Suspended o) = NoWork
-running (Nested e o) = At o
+running (Nested o e) = At o
 
 -- what is suspended, also while a program runs within it
 abbrev pub halted : Phase → Work
 halted Idle = NoWork
 halted (Busy o) = NoWork
 halted (Suspended o) = At o
-halted (Nested e o) = At e
+halted (Nested o e) = At e
 
 -- there is an operation, and it passes a test
 abbrev pub workIs : (Operation → Bool) → Work → Bool
@@ -52,21 +52,21 @@ abbrev pub isSuspended : Phase → Bool
 isSuspended Idle = false
 isSuspended (Busy o) = false
 isSuspended (Suspended o) = true
-isSuspended (Nested e o) = false
+isSuspended (Nested o e) = false
 
 -- or idle
 abbrev pub isIdle : Phase → Bool
 isIdle Idle = true
 isIdle (Busy o) = false
 isIdle (Suspended o) = false
-isIdle (Nested e o) = false
+isIdle (Nested o e) = false
 
 -- the phase of a part where one thing runs, or nothing, and another is suspended, or nothing
 abbrev pub phaseOf : Work → Work → Phase
 phaseOf NoWork NoWork = Idle
 phaseOf (At o) NoWork = Busy o
 phaseOf NoWork (At e) = Suspended e
-phaseOf (At o) (At e) = Nested e o
+phaseOf (At o) (At e) = Nested o e
 
 -- the phase with other work running, or none: what is suspended stays so, and the work runs within
 abbrev pub runningIn : Phase → Work → Phase
@@ -85,10 +85,10 @@ abbrev pub suspendedIn : Phase → Phase
 suspendedIn Idle = Idle
 suspendedIn (Busy o) = Suspended o
 suspendedIn (Suspended o) = Suspended o
-suspendedIn (Nested e o) = Nested e o
+suspendedIn (Nested o e) = Nested o e
 
 abbrev pub resumedIn : Phase → Phase
 resumedIn Idle = Idle
 resumedIn (Busy o) = Busy o
 resumedIn (Suspended o) = Busy o
-resumedIn (Nested e o) = Nested e o
+resumedIn (Nested o e) = Nested o e

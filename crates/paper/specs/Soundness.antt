@@ -28,7 +28,7 @@ abbrev pub latchOk : Phase → Bool → Bool
 latchOk Idle wel = true
 latchOk (Busy o) wel = wel
 latchOk (Suspended o) wel = isErase o or not wel
-latchOk (Nested e o) wel = wel
+latchOk (Nested o e) wel = wel
 
 -- kept data counts 1 to 256, its start in the page below 256; a write holds its byte with the bits zero that it does not store
 abbrev pub contentOk : Operation → Bool
@@ -54,7 +54,7 @@ abbrev pub phaseOk : Phase → ℕ → Stored → Bool
 phaseOk Idle n s = true
 phaseOk (Busy o) n s = operationOk o n s
 phaseOk (Suspended o) n s = canSuspend o and operationOk o n s
-phaseOk (Nested e o) n s = nestOk e o n and operationOk e n s and operationOk o n s
+phaseOk (Nested o e) n s = nestOk e o n and operationOk e n s and operationOk o n s
 
 -- stored register bits that other fields define (WIP, WEL, ESUS, PSUS) agree with them; function bits 1..0 are 0, and so are bits 4..0 of the extended read register's stored byte
 unfoldable pub bitsOk : Phase → Bool → Stored → Bool
@@ -68,7 +68,7 @@ abbrev pub keptIn : Phase → ℕ
 keptIn Idle = 0
 keptIn (Busy o) = keptBy o
 keptIn (Suspended o) = keptBy o
-keptIn (Nested e o) = keptBy o
+keptIn (Nested o e) = keptBy o
 
 -- page data holds zeros after the kept bytes of a running or suspended program, and is all zero otherwise
 unfoldable pub pageOk : Phase → List ℕ → Bool

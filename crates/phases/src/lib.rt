@@ -13,7 +13,7 @@ pub fn running(phase: Phase) -> Work
         Phase::Idle => Work::NoWork,
         Phase::Busy(op) => Work::At(op),
         Phase::Suspended(_) => Work::NoWork,
-        Phase::Nested(_, op) => Work::At(op),
+        Phase::Nested(op, _) => Work::At(op),
     }
 }
 
@@ -25,7 +25,7 @@ pub fn halted(phase: Phase) -> Work
         Phase::Idle => Work::NoWork,
         Phase::Busy(_) => Work::NoWork,
         Phase::Suspended(op) => Work::At(op),
-        Phase::Nested(outer, _) => Work::At(outer),
+        Phase::Nested(_, outer) => Work::At(outer),
     }
 }
 
@@ -57,7 +57,7 @@ pub fn erase_halted(phase: Phase) -> bool
         Phase::Idle => false,
         Phase::Busy(_) => false,
         Phase::Suspended(op) => is_erase(op),
-        Phase::Nested(outer, _) => is_erase(outer),
+        Phase::Nested(_, outer) => is_erase(outer),
     }
 }
 
@@ -105,7 +105,7 @@ pub fn phase_of(runs: Work, halted: Work) -> Phase
         },
         Work::At(outer) => match runs {
             Work::NoWork => Phase::Suspended(outer),
-            Work::At(op) => Phase::Nested(outer, op),
+            Work::At(op) => Phase::Nested(op, outer),
         },
     }
 }
@@ -124,8 +124,8 @@ pub fn working_on(phase: Phase, op: Operation) -> Phase
     match phase {
         Phase::Idle => Phase::Busy(op),
         Phase::Busy(_) => Phase::Busy(op),
-        Phase::Suspended(from) => Phase::Nested(from, op),
-        Phase::Nested(outer, _) => Phase::Nested(outer, op),
+        Phase::Suspended(from) => Phase::Nested(op, from),
+        Phase::Nested(_, outer) => Phase::Nested(op, outer),
     }
 }
 
@@ -137,7 +137,7 @@ pub fn rest_of(phase: Phase) -> Phase
         Phase::Idle => Phase::Idle,
         Phase::Busy(_) => Phase::Idle,
         Phase::Suspended(from) => Phase::Suspended(from),
-        Phase::Nested(outer, _) => Phase::Suspended(outer),
+        Phase::Nested(_, outer) => Phase::Suspended(outer),
     }
 }
 
@@ -149,7 +149,7 @@ pub fn suspended_in(phase: Phase) -> Phase
         Phase::Idle => Phase::Idle,
         Phase::Busy(op) => Phase::Suspended(op),
         Phase::Suspended(op) => Phase::Suspended(op),
-        Phase::Nested(outer, inner) => Phase::Nested(outer, inner),
+        Phase::Nested(inner, outer) => Phase::Nested(inner, outer),
     }
 }
 
@@ -161,6 +161,6 @@ pub fn resumed_in(phase: Phase) -> Phase
         Phase::Idle => Phase::Idle,
         Phase::Busy(op) => Phase::Busy(op),
         Phase::Suspended(op) => Phase::Busy(op),
-        Phase::Nested(outer, inner) => Phase::Nested(outer, inner),
+        Phase::Nested(inner, outer) => Phase::Nested(inner, outer),
     }
 }

@@ -267,15 +267,15 @@ module _ (bs : List ℕ) (l : length bs ≡ recordLength) (low : (j : ℕ) → g
           ∙ rw (behind-same, ← none-bytes, zeros-same operationLength ran (sym n), ← ea))
           ∙ in-turn a
 
-      pub nested-phase : (byte runningAt ≡ 0 → ⊥) → (byte haltedAt ≡ 0 → ⊥) → (d : Cells) (o : Operation) → d ≡ cellsIn ran → o ≡ operationIn d → Nested e o ≡ phaseIn bs
+      pub nested-phase : (byte runningAt ≡ 0 → ⊥) → (byte haltedAt ≡ 0 → ⊥) → (d : Cells) (o : Operation) → d ≡ cellsIn ran → o ≡ operationIn d → Nested o e ≡ phaseIn bs
       nested-phase r h d o ed eo = rw (some-work-in runningAt r, ← stands-as h, eo, ed)
 
       pub nested-held : (byte runningAt ≡ 0 → ⊥) → (byte haltedAt ≡ 0 → ⊥) → (d : Cells) (o : Operation) → d ≡ cellsIn ran → o ≡ operationIn d → Fitting (cellsOf o) → (a : Bool) → a ≡ sameCells (cellsOf o) d → holds bs ≡ (t and a)
       unfolding worksBytes
       nested-held r h d o ed eo g a ea =
           let n : operationLength ≡ length ran = sym (at-length runningAt (omega arith)) in
-          held-as (Nested e o) (a and k and z) (nested-phase r h d o ed eo)
-          (ap (sameBytes (phaseBytes (Nested e o))) doing-as
+          held-as (Nested o e) (a and k and z) (nested-phase r h d o ed eo)
+          (ap (sameBytes (phaseBytes (Nested o e))) doing-as
           ∙ same-append (operationBytes (cellsOf o)) ran _ behind (operation-length (cellsOf o) ∙ n)
           ∙ rw (behind-same, cells-same runningAt o (omega arith) g, ← ed, ← ea))
           ∙ in-turn a

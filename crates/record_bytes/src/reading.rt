@@ -207,7 +207,7 @@ pub fn read_part(bytes: &[u8]) -> Seen
         return Seen {
             ok: true,
             part: part,
-            phase: Phase::Nested(outer, op),
+            phase: Phase::Nested(op, outer),
             empty: false,
         };
     }
@@ -274,7 +274,7 @@ pub fn read_any(bytes: &[u8]) -> Found
         return Found {
             ok: true,
             part: part,
-            phase: Phase::Nested(outer, op),
+            phase: Phase::Nested(op, outer),
         };
     }
     none_found()

@@ -25,4 +25,4 @@ unfolding soundTold sound pageOk
 sound-told p Idle empty g h = ap (λ (t : Bool). partSound p Idle and t) (h refl)
 sound-told p (Busy o) empty g h = refl
 sound-told p (Suspended o) empty g h = refl
-sound-told p (Nested e o) empty g h = refl
+sound-told p (Nested o e) empty g h = refl

@@ -15,4 +15,4 @@ unfolding _and_ _or_
 phase-ok-as Idle n s = refl
 phase-ok-as (Busy o) n s = refl
 phase-ok-as (Suspended o) n s = refl
-phase-ok-as (Nested e o) n s = sym (and-assoc (nestOk e o n) (operationOk e n s) (operationOk o n s))
+phase-ok-as (Nested o e) n s = sym (and-assoc (nestOk e o n) (operationOk e n s) (operationOk o n s))

@@ -18,7 +18,7 @@ abbrev pub workIn : Phase → Work
 workIn Idle = NoWork
 workIn (Busy o) = At o
 workIn (Suspended o) = At o
-workIn (Nested e o) = At o
+workIn (Nested o e) = At o
 
 -- whether a part can be at it, suspended or not
 abbrev pub workOk : Work → Bool → ℕ → Stored → Bool
@@ -30,7 +30,7 @@ abbrev pub outerOk : Phase → ℕ → Stored → Bool
 outerOk Idle n s = true
 outerOk (Busy o) n s = true
 outerOk (Suspended o) n s = true
-outerOk (Nested e o) n s = nestOk e o n and operationOk e n s
+outerOk (Nested o e) n s = nestOk e o n and operationOk e n s
 
 -- a part in a phase with page data g is sound, where it is told of an idle one whether it has no page data
 unfoldable pub soundTold : Part → Phase → Bool → List ℕ → Bool

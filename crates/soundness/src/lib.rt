@@ -34,7 +34,7 @@ fn work_in(phase: Phase) -> Work
         Phase::Idle => Work::NoWork,
         Phase::Busy(op) => Work::At(op),
         Phase::Suspended(op) => Work::At(op),
-        Phase::Nested(_, inner) => Work::At(inner),
+        Phase::Nested(inner, _) => Work::At(inner),
     }
 }
 
@@ -81,7 +81,7 @@ fn outer_ok(phase: Phase, blocks: u16, stored: Stored) -> bool
         Phase::Idle => true,
         Phase::Busy(_) => true,
         Phase::Suspended(_) => true,
-        Phase::Nested(outer, inner) => {
+        Phase::Nested(inner, outer) => {
             // copied here, so that a phase that is not nested is not put into memory for this call
             let beneath = outer;
             let within = inner;
@@ -97,7 +97,7 @@ fn kept_in(phase: Phase) -> usize
         Phase::Idle => 0,
         Phase::Busy(op) => operations::kept_by(op),
         Phase::Suspended(op) => operations::kept_by(op),
-        Phase::Nested(_, inner) => operations::kept_by(inner),
+        Phase::Nested(inner, _) => operations::kept_by(inner),
     }
 }
 

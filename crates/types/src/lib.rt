@@ -70,8 +70,8 @@ pub enum Operation {
     },
 }
 
-// A part is idle, busy with one operation, or suspended from one; or it is suspended from the first of two, an erase, and
-// busy with the second, the inner program.
+// A part is idle, busy with one operation, or suspended from one; or it is busy with the first of two, the inner program,
+// and suspended from the second, an erase. What ticks go on with stands at one place so, whichever it is.
 pub enum Phase {
     Idle,
     Busy(Operation),
