@@ -2,9 +2,9 @@
 ghost use mathlib.Core.Path.{_≡_};
 ghost use mathlib.Core.Bool.{not};
 ghost use Rattle.words.specs.Logic.{_or_};
-ghost use Rattle.paper.specs.Phases.{workIs, anyOperation, eraseHalted, isSuspended};
+ghost use Rattle.paper.specs.Phases.{halted, eraseHalted, isSuspended};
 ghost use Rattle.paper.specs.Table.{takenSuspended};
-ghost use Rattle.paper.specs.Operations.{canSuspend};
+ghost use Rattle.paper.specs.Operations.{outsideOf};
 ghost use Rattle.paper.specs.Suspend.{suspendable};
 ghost use Rattle.paper.specs.Numbers.{stateOk, addressOk, pinOk, writeOk, freeOk, commandNumber};
 use types::Columns;
@@ -18,31 +18,16 @@ use types::Taken;
 use types::Wanted;
 use types::Work;
 
-fn can_suspend(work: Work) -> bool
-    ensures { λ r. ⌜ r ≡ workIs canSuspend work ⌝ }
-{
-    match work {
-        Work::NoWork => false,
-        Work::At(op) => operations::can_suspend(op),
-    }
-}
-
-fn is_any(work: Work) -> bool
-    ensures { λ r. ⌜ r ≡ workIs anyOperation work ⌝ }
-{
-    match work {
-        Work::NoWork => false,
-        Work::At(_) => true,
-    }
-}
-
 // Something runs that can be suspended, and nothing is suspended already.
 fn suspendable(phase: Phase) -> bool
     ensures { λ r. ⌜ r ≡ suspendable phase ⌝ }
 {
-    let runs = can_suspend(phases::running(phase));
-    let halted = is_any(phases::halted(phase));
-    words::both(runs, !halted)
+    match phase {
+        Phase::Idle => false,
+        Phase::Busy(op) => operations::can_suspend(op),
+        Phase::Suspended(_) => false,
+        Phase::Nested(..) => false,
+    }
 }
 
 // 25: something runs that can be suspended, something can be resumed, the reset is armed.
@@ -89,6 +74,25 @@ fn write_ok(op: Operation, stored: Stored, wp: bool) -> bool
     }
 }
 
+// Whether what a command begins lies outside the suspended unit. What is suspended is copied where there is one, so that
+// a phase with nothing suspended is not put into memory for this call.
+fn is_apart(phase: Phase, blocks: u16, op: Operation) -> bool
+    ensures { λ r. ⌜ r ≡ outsideOf (halted phase) blocks op ⌝ }
+{
+    match phase {
+        Phase::Idle => true,
+        Phase::Busy(_) => true,
+        Phase::Suspended(outer) => {
+            let beneath = outer;
+            operations::outside_of(Work::At(beneath), blocks, op)
+        }
+        Phase::Nested(_, outer) => {
+            let beneath = outer;
+            operations::outside_of(Work::At(beneath), blocks, op)
+        }
+    }
+}
+
 // 28: what a command begins is not protected or locked, no program into the suspended unit, and not barred.
 fn free_ok(work: Work, part: Part, phase: Phase, wp: bool) -> bool
     ensures { λ r. ⌜ r ≡ freeOk work part phase wp ⌝ }
@@ -98,7 +102,7 @@ fn free_ok(work: Work, part: Part, phase: Phase, wp: bool) -> bool
         Work::NoWork => true,
         Work::At(op) => {
             let free = operations::target_free(op, part.blocks, stored);
-            let apart = operations::outside_of(phases::halted(phase), part.blocks, op);
+            let apart = is_apart(phase, part.blocks, op);
             words::both(free, words::both(apart, write_ok(op, stored, wp)))
         }
     }
@@ -132,9 +136,9 @@ pub fn command_number(
     let named = k.named;
     let awake = words::either(table::taken_asleep(taken), !part.asleep);
     let at_rest = words::either(table::taken_busy(taken), !phases::is_busy(phase));
-    let whole = suspended_ok(taken, phase);
     let long = table::length_ok(length, input.len());
     let state = state_ok(wanted, part, phase);
+    let whole = suspended_ok(taken, phase);
     let latch = words::either(!k.wel, part.wel);
     let address = address_ok(named, input);
     let free = free_ok(work, part, phase, wp);

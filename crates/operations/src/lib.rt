@@ -218,19 +218,19 @@ pub fn outside_of(halted: Work, blocks: u16, op: Operation) -> bool
     }
 }
 
-// Whether it can be at an erase of a unit.
+// Whether it can be at an erase of a unit. The pages are asked for twice: so the compiler keeps the unit's size as a
+// number of each arm, and does not divide by it.
 fn erase_ok(unit: EraseUnit, base: usize, done: usize, blocks: u16, stored: Stored) -> bool
     ensures { λ r. ⌜ r ≡ operationOk (Erase unit base done) blocks stored ⌝ }
 {
-    let pages = pages::unit_pages(unit, blocks);
     let begins = pages::unit_base(unit, blocks, base) == base;
     let within = ends_within(
         base,
-        pages * types::PAGE_BYTES,
+        pages::unit_pages(unit, blocks) * types::PAGE_BYTES,
         memory_bytes(pages::unit_memory(unit), blocks),
     );
     let open = is_unit_free(unit, base, blocks, stored);
-    let going = done < pages;
+    let going = done < pages::unit_pages(unit, blocks);
     words::both(begins, words::both(within, words::both(open, going)))
 }
 
