@@ -183,6 +183,19 @@ static void no_tick_job(const struct one_model *on)
     must_be(on->tick(0), 0);
 }
 
+/* Nothing runs that can be suspended. */
+static void no_suspend_job(const struct one_model *on)
+{
+    input[0] = 0x75;
+    must_be(on->transact(1), 25);
+}
+
+static void suspended_already_job(const struct one_model *on)
+{
+    input[0] = 0x75;
+    must_be(on->transact(1), 23);
+}
+
 /* The erase that runs is suspended, and resumed. */
 static void suspend_job(const struct one_model *on)
 {
@@ -227,6 +240,18 @@ static void sector_job(const struct one_model *on)
 {
     put(0xD7, 0x002000);
     write_job(on, 4, 16);
+}
+
+static void sector_steps_job(const struct one_model *on)
+{
+    int i;
+
+    input[0] = 0x06;
+    must_be(on->transact(1), 0);
+    put(0xD7, 0x002000);
+    must_be(on->transact(4), 0);
+    for (i = 0; i < 16; i++)
+        must_be(on->tick(1), 1);
 }
 
 static void chip_job(const struct one_model *on)
@@ -274,14 +299,18 @@ static const struct job jobs[] = {
     {"06h, 16 blocks", 16, 0, NULL, enable_job, NULL},
     {"06h, busy: 22, 16 blocks", 16, 0, begin_erase, busy_job, NULL},
     {"05h of 2 bytes, suspended", 16, 1, begin_suspended, status_job, NULL},
+    {"75h, idle: 25, 16 blocks", 16, 0, NULL, no_suspend_job, NULL},
+    {"75h, suspended: 23, 16 blocks", 16, 0, begin_suspended, suspended_already_job, NULL},
     {"75h, 7Ah, 16 blocks", 16, 0, begin_erase, suspend_job, NULL},
     {"66h, 99h, 16 blocks", 16, 0, NULL, reset_job, NULL},
     {"no tick, idle, 16 blocks", 16, 0, NULL, no_tick_job, NULL},
     {"no tick, busy, 16 blocks", 16, 0, begin_erase, no_tick_job, NULL},
+    {"no tick, suspended, 16 blocks", 16, 0, begin_suspended, no_tick_job, NULL},
     {"03h of 4,096 bytes, 16 blocks", 16, 4092, NULL, read_job, read_bytes},
     {"06h, 02h, 256 ticks, 16 blocks", 16, 256, NULL, program_job, NULL},
     {"06h, 02h, 256 ticks, erase suspend", 16, 256, begin_suspended, program_job, NULL},
     {"06h, D7h, 16 ticks, 16 blocks", 16, 4096, NULL, sector_job, sector_bytes},
+    {"06h, D7h, 16 times 1 tick", 16, 4096, NULL, sector_steps_job, NULL},
     {"06h, C7h, 4,096 ticks, 16 blocks", 16, 1048576, NULL, chip_job, chip_bytes},
 };
 

@@ -11,15 +11,13 @@ use Rattle.types.specs.declared.Memory.{Memory}
 use Rattle.types.specs.declared.Memory.the-variants.{Array, Rows}
 use Rattle.types.specs.declared.Operation.{Operation}
 use Rattle.types.specs.declared.Operation.the-variants.{Program, Erase, Write}
-use Rattle.types.specs.declared.Phase.{Phase}
-use Rattle.types.specs.declared.Phase.the-variants.{Idle, Busy, Suspended, Nested}
 use Rattle.types.specs.declared.Work.{Work}
 use Rattle.types.specs.declared.Work.the-variants.{NoWork, At}
 use Rattle.types.specs.declared.Stored.{Stored}
 use Rattle.types.specs.declared.Data.{Data}
 use Rattle.types.specs.declared.Data.the-variants.{Kept, Sent, Zero}
 use Rattle.types.specs.declared.Change.{Change}
-use Rattle.types.specs.declared.Change.the-variants.{Same, Marked, Live, Anew, Runs, Became}
+use Rattle.types.specs.declared.Change.the-variants.{Same, Marked, Live, Anew, Runs, Halts, GoesOn, Clears}
 use Rattle.types.specs.declared.Record.{Record}
 use Rattle.words.proofs.Tests.{and-l, and-r}
 use Rattle.paper.specs.Sizes.{memoryBytes, pageBytes}
@@ -27,12 +25,12 @@ use Rattle.paper.specs.Program.{dataSent, keptCount, passedCount, pageData, noD
 use Rattle.paper.specs.Erase.{memoryOf, unitBytes}
 use Rattle.paper.specs.Phases.{running, halted}
 use Rattle.paper.specs.Operations.{ticksInAll, ticksDone, advancedBy}
-use Rattle.paper.specs.Soundness.{phaseOk, sound}
+use Rattle.paper.specs.Soundness.{sound}
 use Rattle.paper.specs.Commands.{pageAfter, changed}
 use Rattle.paper.specs.Ticks.{finished, advanced, worked, tickedAt, recordAfter}
 use Rattle.paper.proofs.Sizes.{size-range}
 use Rattle.paper.proofs.Pages.{unit-pages-le}
-use Rattle.paper.proofs.Soundness.{InOrder, in-order, sound-parts}
+use Rattle.paper.proofs.Soundness.{InOrder, sound-parts, running-in-order, halted-in-order}
 use Rattle.cells.specs.Operations.{cellsOf, workCells}
 use Rattle.record_bytes.specs.Read.{Fitting, Fits}
 
@@ -51,22 +49,10 @@ operation-fits n g (Erase u b d) few i =
     record { base = omega (arith, memory-few (memoryOf u) n few); count = omega arith; done = omega (arith, i .going, unit-pages-le u n (omega arith)) }
 operation-fits n g (Write r v) few i = record { base = omega arith; count = omega arith; done = omega arith }
 
--- no operation
-none-fits : Fitting (workCells NoWork)
-none-fits = record { base = omega arith; count = omega arith; done = omega arith }
-
--- what runs, and what is suspended
-running-fits : (f : Phase) (n : ℕ) (g : Stored) → n ≤ 16 → phaseOk f n g ≡ true → Fitting (workCells (running f))
-running-fits Idle n g few h = none-fits
-running-fits (Busy o) n g few h = operation-fits n g o few (in-order o n g h)
-running-fits (Suspended o) n g few h = none-fits
-running-fits (Nested o e) n g few h = operation-fits n g o few (in-order o n g (and-r _ _ (and-r _ _ h)))
-
-halted-fits : (f : Phase) (n : ℕ) (g : Stored) → n ≤ 16 → phaseOk f n g ≡ true → Fitting (workCells (halted f))
-halted-fits Idle n g few h = none-fits
-halted-fits (Busy o) n g few h = none-fits
-halted-fits (Suspended o) n g few h = operation-fits n g o few (in-order o n g (and-r _ _ h))
-halted-fits (Nested o e) n g few h = operation-fits n g e few (in-order e n g (and-l _ _ (and-r _ _ h)))
+-- what runs or is suspended, where it is in order if it is an operation
+work-fits : (n : ℕ) (g : Stored) (w : Work) → n ≤ 16 → ((o : Operation) → w ≡ At o → InOrder o n g) → Fitting (workCells w)
+work-fits n g NoWork few h = record { base = omega arith; count = omega arith; done = omega arith }
+work-fits n g (At o) few h = operation-fits n g o few (h o refl)
 
 -- so many bytes of page data
 abbrev pub Page : Record → Type 0
@@ -74,11 +60,10 @@ Page p = length (p .page) ≡ pageBytes
 
 pub sound-fits : (p : Record) → sound p ≡ true → Page p → Fits p
 sound-fits p s h =
-    let t = sound-parts p s in
-    let few : p .part .blocks ≤ 16 = size-range (p .part .blocks) (t .size) .1 in
+    let few : p .part .blocks ≤ 16 = size-range (p .part .blocks) (sound-parts p s .size) .1 in
     let n = p .part .blocks in
     let g = p .part .stored in
-    record { blocks = omega arith; runs = running-fits (p .phase) n g few (t .phase-ok); suspended = halted-fits (p .phase) n g few (t .phase-ok); page = h }
+    record { blocks = omega arith; runs = work-fits n g (running (p .phase)) few (λ o e. running-in-order p o e s); suspended = work-fits n g (halted (p .phase)) few (λ o e. halted-in-order p o e s); page = h }
 
 -- page data of what was sent, and of nothing
 data-page : (d : List ℕ) → length (pageData d) ≡ pageBytes
@@ -100,8 +85,10 @@ changed-page Same i p h = h
 changed-page (Marked armed) i p h = h
 changed-page (Live v) i p h = h
 changed-page (Anew q) i p h = h
-changed-page (Runs q w d) i p h = after-page d i (p .page) h
-changed-page (Became q f d) i p h = after-page d i (p .page) h
+changed-page (Runs q d w) i p h = after-page d i (p .page) h
+changed-page (Halts q) i p h = h
+changed-page (GoesOn q) i p h = h
+changed-page (Clears q) i p h = none-page
 
 -- and so do ticks
 worked-page : (p : Record) (o : Operation) (t : Bool) → Page p → Page (cond t (advanced p (advancedBy 1 o)) (finished p o))

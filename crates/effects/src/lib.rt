@@ -1,7 +1,7 @@
 // What a command that is executed, or barred with 28, makes of the record, and the record after a change.
 ghost use mathlib.Core.Path.{_≡_};
 ghost use Rattle.paper.specs.Records.{marked, resting, withLive};
-ghost use Rattle.paper.specs.Commands.{pageAfter, changed, unarmed, settles, starts, changeBy, errorsOf, changeBarred};
+ghost use Rattle.paper.specs.Commands.{pageAfter, changed, unarmed, turned, starts, changeBy, errorsOf, changeBarred};
 use types::Change;
 use types::Data;
 use types::Effect;
@@ -50,11 +50,10 @@ fn unarm(part: Part) -> Change
 }
 
 // The part, unarmed, in another phase with another latch.
-fn settle(part: Part, phase: Phase, wel: bool) -> Change
-    ensures { λ r. ⌜ r ≡ settles part phase wel ⌝ }
+fn turn(part: Part, phase: Phase, wel: bool) -> Part
+    ensures { λ r. ⌜ r ≡ turned part phase wel ⌝ }
 {
-    let next = mark(record::settle(part, phase, wel), false);
-    Change::Became(next, phase, Data::Kept)
+    mark(record::settle(part, phase, wel), false)
 }
 
 // The part busy with what a command begins.
@@ -64,11 +63,8 @@ fn start(work: Work, part: Part, phase: Phase, page: Data) -> Change
     match work {
         Work::NoWork => Change::Marked(false),
         Work::At(op) => {
-            let next = mark(
-                record::settle(part, phases::working_on(phase, op), true),
-                false,
-            );
-            Change::Runs(next, Work::At(op), page)
+            let next = turn(part, phases::working_on(phase, op), true);
+            Change::Runs(next, page, Work::At(op))
         }
     }
 }
@@ -87,14 +83,14 @@ pub fn change_by(effect: Effect, work: Work, part: Part, phase: Phase, input: &[
         Effect::Programs(_) => start(work, part, phase, Data::Sent),
         Effect::Erases(_) => start(work, part, phase, Data::Kept),
         Effect::Writes(_) => start(work, part, phase, Data::Kept),
-        Effect::Suspends => settle(part, phases::suspended_in(phase), false),
-        Effect::Resumes => settle(part, phases::resumed_in(phase), true),
+        Effect::Suspends => Change::Halts(turn(part, phases::suspended_in(phase), false)),
+        Effect::Resumes => Change::GoesOn(turn(part, phases::resumed_in(phase), true)),
         Effect::Sleeps => unarm(rest(part, true)),
         Effect::Wakes => unarm(rest(part, false)),
         Effect::Arms => Change::Marked(true),
         Effect::Resets => {
             let next = record::fresh_part(part.blocks, identity, stored);
-            Change::Became(next, Phase::Idle, Data::Zero)
+            Change::Clears(next)
         }
         Effect::SetsLive => {
             let set = operations::held_byte(Register::Extended, sent::byte_at(input, 1));
@@ -180,7 +176,7 @@ pub fn apply(change: Change, input: &[u8], state: Record) -> Record
                 page: page,
             }
         }
-        Change::Runs(part, work, becomes) => {
+        Change::Runs(part, becomes, work) => {
             let phase = state.phase;
             let working = phases::running_in(phase, work);
             let held = page_after(becomes, input, page);
@@ -190,12 +186,30 @@ pub fn apply(change: Change, input: &[u8], state: Record) -> Record
                 page: held,
             }
         }
-        Change::Became(part, phase, becomes) => {
-            let next = page_after(becomes, input, page);
+        Change::Halts(part) => {
+            let phase = state.phase;
+            let halted = phases::suspended_in(phase);
             Record {
                 part: part,
-                phase: phase,
-                page: next,
+                phase: halted,
+                page: page,
+            }
+        }
+        Change::GoesOn(part) => {
+            let phase = state.phase;
+            let resumed = phases::resumed_in(phase);
+            Record {
+                part: part,
+                phase: resumed,
+                page: page,
+            }
+        }
+        Change::Clears(part) => {
+            let none = record::no_data();
+            Record {
+                part: part,
+                phase: Phase::Idle,
+                page: none,
             }
         }
     }

@@ -10,8 +10,7 @@ use borrow.Author.Tests.{leb-true, ltb-true, ltb-false, le-leb, lt-ltb}
 use Rattle.types.specs.declared.Memory.{Memory}
 use Rattle.types.specs.declared.EraseUnit.{EraseUnit}
 use Rattle.types.specs.declared.EraseUnit.the-variants.{Sector, Block32, Block64, Chip, Row}
-use Rattle.types.specs.declared.Operation.{Operation}
-use Rattle.types.specs.declared.Operation.the-variants.{Program, Erase, Write}
+use Rattle.types.specs.declared.Operation.the-variants.{Erase}
 use Rattle.types.specs.declared.Phase.the-variants.{Idle, Busy}
 use Rattle.types.specs.declared.Work.the-variants.{At}
 use Rattle.types.specs.declared.Record.{Record}
@@ -25,17 +24,12 @@ use Rattle.paper.specs.Operations.{inUnit, Touch, blank}
 use Rattle.paper.specs.Soundness.{sound}
 use Rattle.paper.specs.Ticks.{finished, recordAfter, touchOf}
 use Rattle.paper.specs.History.{ticks, recordAfterCall, tickTouches, reachedBy, callTouches, byteAfter, byteAfterAll}
+use Rattle.paper.specs.Halted.{inDone}
 use Rattle.paper.proofs.Sizes.{size-range}
 use Rattle.paper.proofs.Soundness.{running-in-order}
 use Rattle.paper.proofs.Runs.{run-past, run-touch, past-touch}
 use Rattle.paper.proofs.Answers.{ticks-run}
 use Rattle.paper.proofs.Histories.{bytes-append}
-
--- a place lies in the pages that an operation has done, if it is an erase
-abbrev pub inDone : Operation → Memory → ℕ → Bool
-inDone (Program m s b k d) w a = false
-inDone (Erase u b d) w a = sameMemory w (memoryOf u) and leb b a and ltb a (b + d * pageBytes)
-inDone (Write r v) w a = false
 
 either-way : (t : Bool) → cond t erasedByte erasedByte ≡ erasedByte
 either-way true = refl

@@ -25,22 +25,19 @@ use Rattle.paper.specs.Phases.{running, halted, isBusy, workingOn, suspe
 use Rattle.paper.specs.Operations.{unitSuspends, canSuspend, inUnit}
 use Rattle.paper.specs.Soundness.{sound}
 use Rattle.paper.specs.Table.{decoded, columns}
-use Rattle.paper.specs.Commands.{changed, settles}
+use Rattle.paper.specs.Commands.{turned}
 use Rattle.paper.specs.Numbers.{commandNumber, ignoredNumber}
-use Rattle.paper.specs.History.{Call, transaction, ticks, recordAfterCall, recordAfterCalls, history, byteAfterAll}
+use Rattle.paper.specs.History.{Call, ticks, recordAfterCall, recordAfterCalls, history, byteAfterAll}
+use Rattle.paper.specs.Halted.{noneReleases, oneByte, interrupted, inDone, DoneBlank}
 use Rattle.paper.proofs.Phases.{no-work-at, at-same}
-use Rattle.paper.proofs.Soundness.{sound-parts, sound-in}
+use Rattle.paper.proofs.Soundness.{recordOf, sound-parts, sound-in}
 use Rattle.paper.proofs.Runs.{run-record}
 use Rattle.paper.proofs.Answers.{executes, ticks-run}
 use Rattle.paper.proofs.CallKept.{call-sound, calls-sound, calls-size}
 use Rattle.paper.proofs.Histories.{calls-append}
-use Rattle.paper.proofs.HaltedKept.{noneReleases, calls-halted}
-use Rattle.paper.proofs.EraseBytes.{inDone, pages-few, erase-ends}
-use Rattle.paper.proofs.ErasedPages.{DoneBlank, begun-blank, erase-whole}
-
--- a transaction of one byte, at a level of the pin
-abbrev pub oneByte : Bool → ℕ → Call
-oneByte wp c = transaction wp (c ∷ []) 1
+use Rattle.paper.proofs.HaltedKept.{calls-halted}
+use Rattle.paper.proofs.EraseBytes.{pages-few, erase-ends}
+use Rattle.paper.proofs.ErasedPages.{begun-blank, erase-whole}
 
 -- 75h and B0h are suspends, 7Ah and 30h resumes
 pub suspend-codes : (decoded 0x75 ≡ Known Suspend) × (decoded 0xB0 ≡ Known Suspend)
@@ -63,23 +60,23 @@ resume-number p o c wp a = rw a
 module _ (p : Record) (o : Operation) (s : sound p ≡ true) (wp : Bool) (c : ℕ) where
   -- a suspend of what runs alone and can be suspended is executed
   pub suspends-now : p .phase ≡ Busy o → canSuspend o ≡ true → decoded c ≡ Known Suspend
-      → recordAfterCall (oneByte wp c) p ≡ changed (settles (p .part) (Suspended o) false) (c ∷ []) p
+      → recordAfterCall (oneByte wp c) p ≡ recordOf (turned (p .part) (Suspended o) false) (Suspended o) (p .page)
   unfolding _or_
   suspends-now f h e =
       let a : p .part .asleep ≡ false = not-true _ (sound-in p (Busy o) f s .sleep) in
       let n : ignoredNumber (Known Suspend) (p .part) (p .phase) (c ∷ []) wp ≡ 0 = ap (λ (g : Phase). commandNumber (columns Suspend) NoWork (p .part) g (c ∷ []) wp) f ∙ suspend-number (p .part) o c wp a h in
       ap (λ (t : Answer). t .next) (executes p s wp Suspend (c ∷ []) (omega arith) (omega arith) e n)
-      ∙ ap (λ (g : Phase). changed (settles (p .part) (suspendedIn g) false) (c ∷ []) p) f
+      ∙ ap (λ (g : Phase). recordOf (turned (p .part) (suspendedIn g) false) (suspendedIn g) (p .page)) f
 
   -- and so is a resume of what is suspended
   pub resumes-now : p .phase ≡ Suspended o → decoded c ≡ Known Resume
-      → recordAfterCall (oneByte wp c) p ≡ changed (settles (p .part) (Busy o) true) (c ∷ []) p
+      → recordAfterCall (oneByte wp c) p ≡ recordOf (turned (p .part) (Busy o) true) (Busy o) (p .page)
   unfolding _or_
   resumes-now f e =
       let a : p .part .asleep ≡ false = not-true _ (sound-in p (Suspended o) f s .sleep) in
       let n : ignoredNumber (Known Resume) (p .part) (p .phase) (c ∷ []) wp ≡ 0 = ap (λ (g : Phase). commandNumber (columns Resume) NoWork (p .part) g (c ∷ []) wp) f ∙ resume-number (p .part) o c wp a in
       ap (λ (t : Answer). t .next) (executes p s wp Resume (c ∷ []) (omega arith) (omega arith) e n)
-      ∙ ap (λ (g : Phase). changed (settles (p .part) (resumedIn g) true) (c ∷ []) p) f
+      ∙ ap (λ (g : Phase). recordOf (turned (p .part) (resumedIn g) true) (resumedIn g) (p .page)) f
 
 -- a part that is suspended from an erase with d ticks done, the pages done holding FFh: after a resume and the ticks that are left its whole unit does
 pub resume-whole : (p : Record) (u : EraseUnit) (b d : ℕ) (wp : Bool) (c : ℕ) (m : Memory) (at x : ℕ) → sound p ≡ true → p .phase ≡ Suspended (Erase u b d) → decoded c ≡ Known Resume
@@ -95,10 +92,6 @@ at-rest Idle e h n = absurd (no-work-at h)
 at-rest (Busy o) e h n = absurd (no-work-at h)
 at-rest (Suspended o) e h n = ap Suspended (at-same h)
 at-rest (Nested o x) e h n = absurd (false≢true (sym n))
-
--- d ticks, a suspend, calls, and a resume
-abbrev pub interrupted : ℕ → Call → List Call → Call → List Call
-interrupted d suspend cs resume = ticks d ∷ suspend ∷ (cs ++ (resume ∷ []))
 
 -- a part runs an erase that can be suspended, from its first tick on
 module _ (p : Record) (u : EraseUnit) (b : ℕ) (s : sound p ≡ true) (f : p .phase ≡ Busy (Erase u b 0)) (g : unitSuspends u ≡ true) where

@@ -1,6 +1,6 @@
 -- Over every list of calls the pages that an erase has done hold FFh, while it runs and while it is suspended, however often and whatever runs within; so its whole unit does when it ends.
 use Prim.Native.Nat.{ℕ, zero, suc, _+_, _*_, _≤_, _<_}
-use mathlib.Core.Path.{_≡_, refl, sym, ap, _∙_, subst, subst⁻¹}
+use mathlib.Core.Path.{_≡_, refl, ap, _∙_, subst, subst⁻¹}
 use mathlib.Core.Bool.{Bool, true, false, cond, false≢true}
 use mathlib.Core.List.{List, [], _∷_, _++_}
 use native.Mathlib.Omega.{arith}
@@ -16,7 +16,6 @@ use Rattle.types.specs.declared.Work.{Work}
 use Rattle.types.specs.declared.Work.the-variants.{NoWork, At}
 use Rattle.types.specs.declared.Effect.{Effect}
 use Rattle.types.specs.declared.Effect.the-variants.{Looks, Enables, Disables, Programs, Erases, Writes, Suspends, Resumes, Sleeps, Wakes, Arms, Resets, SetsLive, ClearsErrors}
-use Rattle.types.specs.declared.Stored.{Stored}
 use Rattle.types.specs.declared.Record.{Record}
 use Rattle.types.specs.declared.Ticked.{Ticked}
 use Rattle.words.proofs.Tests.{and-l, and-r, and-in}
@@ -26,42 +25,23 @@ use Rattle.paper.specs.Erase.{memoryOf, unitPages, unitBytes, erasedByte
 use Rattle.paper.specs.Registers.{writeOf}
 use Rattle.paper.specs.Phases.{running, halted, workingOn, suspendedIn, resumedIn}
 use Rattle.paper.specs.Operations.{ticksInAll, ticksDone, advancedBy, inUnit, nextTouch}
-use Rattle.paper.specs.Soundness.{operationOk, phaseOk, sound}
+use Rattle.paper.specs.Soundness.{sound}
 use Rattle.paper.specs.Table.{columns}
 use Rattle.paper.specs.Commands.{changed, begins, changeBy}
 use Rattle.paper.specs.Numbers.{tickNumber}
 use Rattle.paper.specs.Calls.{ticked}
 use Rattle.paper.specs.Ticks.{finished, advanced, worked, tickedAt, tickOnce, recordAfter, touchAt, touchOf, workingTicks}
 use Rattle.paper.specs.History.{Call, transaction, ticks, recordAfterCall, recordAfterCalls, tickTouches, reachedBy, callTouches, history, byteAfter, byteAfterAll}
-use Rattle.paper.proofs.Phases.{no-work-at, at-same, going-runs, rest-idle}
-use Rattle.paper.proofs.Soundness.{InOrder, in-order, sound-parts}
+use Rattle.paper.specs.Halted.{inDone, BlankIn, DoneBlank}
+use Rattle.paper.proofs.Phases.{going-runs, rest-idle}
+use Rattle.paper.proofs.Soundness.{halted-in-order}
 use Rattle.paper.proofs.Kept.{run-sound}
 use Rattle.paper.proofs.TransactionKept.{after-transaction}
 use Rattle.paper.proofs.CallKept.{call-sound, calls-sound, calls-size}
 use Rattle.paper.proofs.Histories.{bytes-append, bytes-joined}
-use Rattle.paper.proofs.EraseBytes.{inDone, blank-sets, erase-fills}
+use Rattle.paper.proofs.EraseBytes.{blank-sets, erase-fills}
 use Rattle.paper.proofs.HaltedKept.{going-halted, rest-halted}
 use Rattle.paper.proofs.NestedBytes.{halted-spares}
-
--- the byte x at a place of a memory is FFh, if the place lies in the pages that an erase has done
-abbrev pub BlankIn : Memory → ℕ → ℕ → Work → Type 0
-BlankIn m at x NoWork = Unit {0}
-BlankIn m at x (At o) = inDone o m at ≡ true → x ≡ erasedByte
-
--- so of what runs, and of what is suspended
-abbrev pub DoneBlank : Memory → ℕ → ℕ → Phase → Type 0
-DoneBlank m at x f = BlankIn m at x (running f) × BlankIn m at x (halted f)
-
-halted-ok : (f : Phase) (o : Operation) (n : ℕ) (s : Stored) → halted f ≡ At o → phaseOk f n s ≡ true → operationOk o n s ≡ true
-halted-ok Idle o n s e h = absurd (no-work-at e)
-halted-ok (Busy x) o n s e h = absurd (no-work-at e)
-halted-ok (Suspended x) o n s e h = ap (λ (y : Operation). operationOk y n s) (sym (at-same e)) ∙ and-r _ _ h
-halted-ok (Nested x y) o n s e h = ap (λ (z : Operation). operationOk z n s) (sym (at-same e)) ∙ and-l _ _ (and-r _ _ h)
-
--- what is suspended on a sound part is in order
-halted-in-order : (p : Record) (o : Operation) → halted (p .phase) ≡ At o → sound p ≡ true → InOrder o (p .part .blocks) (p .part .stored)
-halted-in-order p o e h =
-    in-order o (p .part .blocks) (p .part .stored) (halted-ok (p .phase) o (p .part .blocks) (p .part .stored) e (sound-parts p h .phase-ok))
 
 module _ (m : Memory) (at : ℕ) where
   -- an operation that begins has done no page
@@ -79,16 +59,16 @@ module _ (m : Memory) (at : ℕ) where
   started-blank x (Nested z y) o n h = (λ t. absurd (n t), h .1)
 
   suspended-blank : (x : ℕ) (f : Phase) → DoneBlank m at x f → DoneBlank m at x (suspendedIn f)
-  suspended-blank x Idle h = h
+  suspended-blank x Idle h = (tt, tt)
   suspended-blank x (Busy o) h = (tt, h .0)
-  suspended-blank x (Suspended o) h = h
-  suspended-blank x (Nested o e) h = h
+  suspended-blank x (Suspended o) h = (tt, tt)
+  suspended-blank x (Nested o e) h = (tt, h .0)
 
   resumed-blank : (x : ℕ) (f : Phase) → DoneBlank m at x f → DoneBlank m at x (resumedIn f)
-  resumed-blank x Idle h = h
-  resumed-blank x (Busy o) h = h
+  resumed-blank x Idle h = (tt, tt)
+  resumed-blank x (Busy o) h = (tt, tt)
   resumed-blank x (Suspended o) h = (h .1, tt)
-  resumed-blank x (Nested o e) h = h
+  resumed-blank x (Nested o e) h = (h .1, tt)
 
   effect-blank : (c : Effect) (p : Record) (i : List ℕ) (x : ℕ) → DoneBlank m at x (p .phase) → DoneBlank m at x (changed (changeBy c (begins c (p .part .blocks) i) (p .part) (p .phase) i) i p .phase)
   unfolding programOf eraseOf writeOf

@@ -14,7 +14,7 @@ use Rattle.types.specs.declared.Record.{Record}
 use Rattle.words.specs.Logic.{_or_}
 use Rattle.words.proofs.Tests.{and-l, and-r, and-in}
 use Rattle.paper.specs.Sizes.{sizeOk}
-use Rattle.paper.specs.Phases.{running, isProgram, isErase}
+use Rattle.paper.specs.Phases.{running, halted, isProgram, isErase}
 use Rattle.paper.specs.Records.{marked, withLive}
 use Rattle.paper.specs.Operations.{ticksInAll, ticksDone, aligned, inside, targetFree, canSuspend, outside}
 use Rattle.paper.proofs.Phases.{no-work-at, at-same}
@@ -127,3 +127,14 @@ running-ok (Nested x y) o n s e h =
 pub running-in-order : (p : Record) (o : Operation) → running (p .phase) ≡ At o → sound p ≡ true → InOrder o (p .part .blocks) (p .part .stored)
 running-in-order p o e h =
     in-order o (p .part .blocks) (p .part .stored) (running-ok (p .phase) o (p .part .blocks) (p .part .stored) e (sound-parts p h .phase-ok))
+
+-- so is what is suspended on it
+halted-ok : (f : Phase) (o : Operation) (n : ℕ) (s : Stored) → halted f ≡ At o → phaseOk f n s ≡ true → operationOk o n s ≡ true
+halted-ok Idle o n s e h = absurd (no-work-at e)
+halted-ok (Busy x) o n s e h = absurd (no-work-at e)
+halted-ok (Suspended x) o n s e h = ap (λ (y : Operation). operationOk y n s) (sym (at-same e)) ∙ and-r _ _ h
+halted-ok (Nested x y) o n s e h = ap (λ (z : Operation). operationOk z n s) (sym (at-same e)) ∙ and-l _ _ (and-r _ _ h)
+
+pub halted-in-order : (p : Record) (o : Operation) → halted (p .phase) ≡ At o → sound p ≡ true → InOrder o (p .part .blocks) (p .part .stored)
+halted-in-order p o e h =
+    in-order o (p .part .blocks) (p .part .stored) (halted-ok (p .phase) o (p .part .blocks) (p .part .stored) e (sound-parts p h .phase-ok))

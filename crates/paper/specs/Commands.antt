@@ -17,7 +17,7 @@ use Rattle.types.specs.declared.Record.{Record}
 use Rattle.types.specs.declared.Data.{Data}
 use Rattle.types.specs.declared.Data.the-variants.{Kept, Sent, Zero}
 use Rattle.types.specs.declared.Change.{Change}
-use Rattle.types.specs.declared.Change.the-variants.{Same, Marked, Live, Anew, Runs, Became}
+use Rattle.types.specs.declared.Change.the-variants.{Same, Marked, Live, Anew, Runs, Halts, GoesOn, Clears}
 use Rattle.paper.specs.Phases.{runningIn, workingOn, suspendedIn, resumedIn}
 use Rattle.paper.specs.Records.{settled, freshPart, marked, resting, withLive}
 use Rattle.paper.specs.Program.{dataSent, pageData, noData, programOf}
@@ -37,8 +37,10 @@ changed Same i p = p
 changed (Marked armed) i p = record { part = marked (p .part) armed; phase = p .phase; page = p .page }
 changed (Live v) i p = record { part = withLive (marked (p .part) false) v; phase = p .phase; page = p .page }
 changed (Anew q) i p = record { part = q; phase = p .phase; page = p .page }
-changed (Runs q w d) i p = record { part = q; phase = runningIn (p .phase) w; page = pageAfter d i (p .page) }
-changed (Became q f d) i p = record { part = q; phase = f; page = pageAfter d i (p .page) }
+changed (Runs q d w) i p = record { part = q; phase = runningIn (p .phase) w; page = pageAfter d i (p .page) }
+changed (Halts q) i p = record { part = q; phase = suspendedIn (p .phase); page = p .page }
+changed (GoesOn q) i p = record { part = q; phase = resumedIn (p .phase); page = p .page }
+changed (Clears q) i p = record { part = q; phase = Idle; page = noData }
 
 -- what a command begins on a part of n blocks, with the input i
 abbrev pub begins : Effect → ℕ → List ℕ → Work
@@ -61,14 +63,14 @@ begins ClearsErrors n i = NoWork
 abbrev pub unarmed : Part → Change
 unarmed p = Anew (marked p false)
 
--- the part in another phase with another latch, and page data as it was
-abbrev pub settles : Part → Phase → Bool → Change
-settles p f wel = Became (marked (settled p f wel) false) f Kept
+-- the part in another phase with another latch, unarmed too
+abbrev pub turned : Part → Phase → Bool → Part
+turned p f wel = marked (settled p f wel) false
 
 -- the part busy with the operation that a command begins, which has no tick done; WEL stays 1
 abbrev pub starts : Work → Part → Phase → Data → Change
 starts NoWork p f d = Marked false
-starts (At o) p f d = Runs (marked (settled p (workingOn f o) true) false) (At o) d
+starts (At o) p f d = Runs (turned p (workingOn f o) true) d (At o)
 
 -- what an executed command changes, of a part in a phase, where it begins w, with the input i
 abbrev pub changeBy : Effect → Work → Part → Phase → List ℕ → Change
@@ -79,14 +81,14 @@ changeBy (Programs m) w p f i = starts w p f Sent
 changeBy (Erases u) w p f i = starts w p f Kept
 changeBy (Writes r) w p f i = starts w p f Kept
 -- WIP and WEL become 0, PSUS or ESUS 1
-changeBy Suspends w p f i = settles p (suspendedIn f) false
+changeBy Suspends w p f i = Halts (turned p (suspendedIn f) false)
 -- resume goes on with the next tick and sets WEL to 1
-changeBy Resumes w p f i = settles p (resumedIn f) true
+changeBy Resumes w p f i = GoesOn (turned p (resumedIn f) true)
 changeBy Sleeps w p f i = unarmed (resting p true)
 changeBy Wakes w p f i = unarmed (resting p false)
 changeBy Arms w p f i = Marked true
 -- both operations dropped, WEL 0, awake, unarmed, the live byte loaded: what power-up gives for the same size, identity and stored register bits
-changeBy Resets w p f i = Became (freshPart (p .blocks) (p .identity) (p .stored)) Idle Zero
+changeBy Resets w p f i = Clears (freshPart (p .blocks) (p .identity) (p .stored))
 -- 83h and 82h act at once, and leave WEL
 changeBy SetsLive w p f i = Live (liveSet (getD i 1 0) (p .live))
 changeBy ClearsErrors w p f i = Live (liveCleared (p .live))

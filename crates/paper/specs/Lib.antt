@@ -17,6 +17,7 @@ pub mod BlockTable
 pub mod Protection
 pub mod Suspend
 pub mod History
+pub mod Halted
 pub mod CBench
 pub mod Board
 pub mod Bench

@@ -80,15 +80,9 @@ workingOn f o = runningIn f (At o)
 abbrev pub restOf : Phase → Phase
 restOf f = runningIn f NoWork
 
--- the phase when what runs is suspended, and when what is suspended is resumed
+-- the phase when what runs is suspended, and when what is suspended goes on. What stood there before is gone: 25 lets a suspend through only where nothing is suspended, and a resume only where nothing runs
 abbrev pub suspendedIn : Phase → Phase
-suspendedIn Idle = Idle
-suspendedIn (Busy o) = Suspended o
-suspendedIn (Suspended o) = Suspended o
-suspendedIn (Nested o e) = Nested o e
+suspendedIn f = phaseOf NoWork (running f)
 
 abbrev pub resumedIn : Phase → Phase
-resumedIn Idle = Idle
-resumedIn (Busy o) = Busy o
-resumedIn (Suspended o) = Busy o
-resumedIn (Nested o e) = Nested o e
+resumedIn f = phaseOf (halted f) NoWork

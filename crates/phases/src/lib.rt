@@ -141,26 +141,16 @@ pub fn rest_of(phase: Phase) -> Phase
     }
 }
 
-// The phase when what runs is suspended.
+// The phase when what runs is suspended. What was suspended is gone.
 pub fn suspended_in(phase: Phase) -> Phase
     ensures { λ r. ⌜ r ≡ suspendedIn phase ⌝ }
 {
-    match phase {
-        Phase::Idle => Phase::Idle,
-        Phase::Busy(op) => Phase::Suspended(op),
-        Phase::Suspended(op) => Phase::Suspended(op),
-        Phase::Nested(inner, outer) => Phase::Nested(inner, outer),
-    }
+    phase_of(Work::NoWork, running(phase))
 }
 
-// The phase when what is suspended is resumed.
+// The phase when what is suspended goes on. What ran is gone.
 pub fn resumed_in(phase: Phase) -> Phase
     ensures { λ r. ⌜ r ≡ resumedIn phase ⌝ }
 {
-    match phase {
-        Phase::Idle => Phase::Idle,
-        Phase::Busy(op) => Phase::Busy(op),
-        Phase::Suspended(op) => Phase::Busy(op),
-        Phase::Nested(inner, outer) => Phase::Nested(inner, outer),
-    }
+    phase_of(halted(phase), Work::NoWork)
 }

@@ -5,12 +5,13 @@ use mathlib.Core.Bool.{Bool, true}
 use mathlib.Core.List.{List}
 use lib.ListN.{length, set}
 use borrow.Author.Tests.{eq-eqb}
+use Rattle.types.specs.declared.Work.the-variants.{NoWork}
 use Rattle.types.specs.declared.Record.{Record}
 use Rattle.types.specs.declared.Change.{Change}
-use Rattle.types.specs.declared.Change.the-variants.{Same, Marked, Live, Anew, Runs, Became}
+use Rattle.types.specs.declared.Change.the-variants.{Same, Marked, Live, Anew, Runs, Halts, GoesOn, Clears}
 use Rattle.words.specs.Logic.{bit}
 use Rattle.paper.specs.Records.{marked}
-use Rattle.paper.specs.Phases.{halted}
+use Rattle.paper.specs.Phases.{running, halted}
 use Rattle.paper.specs.Commands.{changed}
 use Rattle.paper.proofs.Phases.{phase-runs, phase-halts}
 use Rattle.paper.proofs.Soundness.{recordOf}
@@ -33,8 +34,10 @@ bytes-changed Same i p = refl
 bytes-changed (Marked armed) i p = mark-set p armed
 bytes-changed (Live v) i p = refl
 bytes-changed (Anew q) i p = refl
-bytes-changed (Runs q w d) i p = rw (phase-runs w (halted (p .phase)), phase-halts w (halted (p .phase)))
-bytes-changed (Became q f d) i p = refl
+bytes-changed (Runs q d w) i p = rw (phase-runs w (halted (p .phase)), phase-halts w (halted (p .phase)))
+bytes-changed (Halts q) i p = rw (phase-runs NoWork (running (p .phase)), phase-halts NoWork (running (p .phase)))
+bytes-changed (GoesOn q) i p = rw (phase-runs (halted (p .phase)) NoWork, phase-halts (halted (p .phase)) NoWork)
+bytes-changed (Clears q) i p = refl
 
 -- a change of the record that bytes hold
 pub held-changed : (c : Change) (i bs : List ℕ) → recordIn bs .ok ≡ true → changeWritten c i bs ≡ recordBytes (changed c i (recordIn bs .state))

@@ -6,18 +6,20 @@ use native.Mathlib.Omega.{arith}
 use lib.ListN.{length, take, drop, getD, replicate, set, length-append, length-take, length-drop, drop-of-length-le, take-append-drop}
 use lib.Seq.{take-all, take-length, take-at, drop-at, drop-drop}
 use Rattle.types.specs.declared.Phase.{Phase}
+use Rattle.types.specs.declared.Phase.the-variants.{Idle}
 use Rattle.types.specs.declared.Work.{Work}
 use Rattle.types.specs.declared.Work.the-variants.{NoWork}
 use Rattle.types.specs.declared.Part.{Part}
 use Rattle.words.specs.Logic.{bit}
 use Rattle.paper.specs.Sizes.{pageBytes}
+use Rattle.paper.specs.Program.{noData}
 use Rattle.paper.specs.Address.{highFirst}
 use Rattle.paper.proofs.Addresses.{high-first-none, high-first-more}
 use Rattle.runs.proofs.Laws.{copied-whole}
 use Rattle.address.specs.Bytes.{highFirstBytes}
 use Rattle.cells.specs.declared.Cells.{Cells}
 use Rattle.cells.specs.Operations.{workCells}
-use Rattle.record_bytes.specs.Layout.{baseAt, countAt, doneAt, operationLength, haltedAt, spareLength, partLength, phaseLength, headerLength, recordLength, storedBytes, partBytes, operationBytes, worksBytes, phaseBytes, header, headerRunning}
+use Rattle.record_bytes.specs.Layout.{baseAt, countAt, doneAt, operationLength, runningAt, haltedAt, spareAt, spareLength, partLength, phaseLength, headerLength, recordLength, storedBytes, partBytes, operationBytes, worksBytes, phaseBytes, header, headerRunning, worksLaid}
 
 -- of at most eight bytes the first eight are all
 pub take-few : (k : ℕ) (l : List ℕ) → k ≤ 8 → take 8 (take k l) ≡ take k l
@@ -166,6 +168,42 @@ part-as p w a z ew ea ez = rw (ew, ea, ez)
 -- bytes with others written at a place
 abbrev more : ℕ → ℕ → List ℕ → List ℕ → List ℕ
 more at k xs n = take at xs ++ (n ++ drop k (drop at xs))
+
+-- a record's bytes with others where what runs stands, then where what is suspended does, and then the part before
+module _ (bs : List ℕ) (l : length bs ≡ recordLength) (a y : List ℕ) (la : length a ≡ operationLength) (ey : y ≡ a) where
+  abbrev put : List ℕ
+  put = more runningAt operationLength bs y
+
+  part-there : length (take partLength bs) ≡ partLength
+  part-there = simp length-take (omega arith)
+
+  put-as : put ≡ (take partLength bs ++ a) ++ drop haltedAt bs
+  put-as = laid bs (take partLength bs) partLength operationLength bs part-there (sym (take-append-drop partLength bs)) (omega arith) y a ey
+
+  front-length : length (take partLength bs ++ a) ≡ haltedAt
+  front-length = length-append (take partLength bs) a ∙ rw (part-there, la) refl
+
+  pub put-room : length (take operationLength (drop haltedAt put)) ≡ operationLength
+  put-room = room bs (take partLength bs ++ a) haltedAt operationLength put front-length put-as (omega arith)
+
+  pub works-put : (b z : List ℕ) → z ≡ b → (q : Part) → partBytes q ++ drop partLength (more haltedAt operationLength put z) ≡ worksLaid q a b bs
+  works-put b z ez q =
+      let t = take partLength bs in
+      ap (λ (x : List ℕ). partBytes q ++ x)
+      (ap (drop partLength)
+      (laid bs (t ++ a) haltedAt operationLength put front-length put-as (omega arith) z b ez
+      ∙ append-assoc (t ++ a) b (drop spareAt bs)
+      ∙ append-assoc t a (b ++ drop spareAt bs))
+      ∙ drop-at t (a ++ (b ++ drop spareAt bs)) partLength part-there)
+
+-- the bytes of a part that does nothing, and of no page data
+pub idle-bytes : replicate phaseLength 0 ≡ phaseBytes Idle
+unfolding worksBytes operationBytes
+idle-bytes = refl
+
+pub no-data-bytes : replicate pageBytes 0 ≡ noData
+unfolding noData
+no-data-bytes = refl
 
 -- zeros with the kind and the value written in their places, and then the numbers
 module _ (s : Cells) (z : List ℕ) (ez : z ≡ replicate operationLength 0) where

@@ -8,7 +8,7 @@ use lib.Dec.{eqb, leb}
 use lib.ListN.{length, take, drop, getD, replicate, length-take, length-drop}
 use lib.Seq.{take-all, take-add, drop-drop, getD-take, getD-drop}
 use borrow.Author.Tests.{eq-eqb, ne-eqb, lt-leb, eqb-true, eqb-false, not-true, not-false}
-use Rattle.words.proofs.Tests.{and-true, and-assoc}
+use Rattle.words.proofs.Tests.{and-true, and-false, and-assoc}
 use Rattle.paper.specs.Sizes.{pageBytes}
 use Rattle.types.specs.declared.Phase.{Phase}
 use Rattle.types.specs.declared.Phase.the-variants.{Idle, Busy, Suspended, Nested}
@@ -19,13 +19,14 @@ use Rattle.words.specs.Logic.{_and_, bit}
 use Rattle.words.specs.Lists.{upTo, allZero}
 use Rattle.words.proofs.Lists.{upTo-part}
 use Rattle.paper.specs.Phases.{isIdle}
+use Rattle.paper.proofs.Phases.{phase-runs, phase-halts}
 use Rattle.address.specs.Bytes.{highFirstBytes}
 use Rattle.cells.specs.declared.Cells.{Cells}
 use Rattle.cells.specs.Operations.{cellsOf, workCells, operationIn}
 use Rattle.record_bytes.specs.declared.Found.{Found}
 use Rattle.record_bytes.specs.declared.Seen.{Seen}
-use Rattle.record_bytes.specs.Layout.{welAt, armedAt, asleepAt, liveAt, baseAt, countAt, doneAt, operationLength, runningAt, haltedAt, spareAt, spareLength, phaseLength, headerLength, recordLength, partBytes, operationBytes, worksBytes, phaseBytes, header}
-use Rattle.record_bytes.specs.Read.{numberAt, marksIn, sameCells, sameBytes, cellsIn, operationAt, workAt, storedOf, partIn, phaseIn, fieldsIn, holds, nothing, recordIn, found, seen, Fitting}
+use Rattle.record_bytes.specs.Layout.{welAt, armedAt, asleepAt, liveAt, baseAt, countAt, doneAt, operationLength, runningAt, haltedAt, spareAt, spareLength, phaseLength, headerLength, recordLength, partBytes, operationBytes, worksBytes, phaseBytes, operationAt}
+use Rattle.record_bytes.specs.Read.{numberAt, marksIn, sameCells, sameBytes, cellsIn, workAt, storedOf, partIn, phaseIn, fieldsIn, holds, nothing, recordIn, found, seen, Fitting}
 use Rattle.record_bytes.proofs.Laws.{two-bytes, operation-length, none-bytes}
 use Rattle.record_bytes.proofs.Same.{same-append, same-number}
 use Rattle.record_bytes.proofs.Back.{taken}
@@ -95,17 +96,13 @@ zero-same : (x : ℕ) → eqb 0 x ≡ eqb x 0
 zero-same zero = refl
 zero-same (suc x) = rw (ne-eqb 0 (suc x) (λ q. omega (arith, q)), ne-eqb (suc x) 0 (λ q. omega (arith, q)))
 
--- three tests and another, in turn
-turned : (m a k z : Bool) → (m and a and k and z) ≡ ((m and z and k) and a)
+-- four tests, in the order in which they are made
+turned : (m a k z : Bool) → (m and a and k and z) ≡ ((m and k) and z and a)
 unfolding _and_
-turned true true true true = refl
-turned true true true false = refl
-turned true true false true = refl
-turned true true false false = refl
-turned true false true true = refl
-turned true false true false = refl
-turned true false false true = refl
-turned true false false false = refl
+turned true true true z = sym (and-true z)
+turned true true false z = refl
+turned true false true z = sym (and-false z)
+turned true false false z = refl
 turned false a k z = refl
 
 -- the bytes of no operation with the zeros behind them
@@ -238,47 +235,59 @@ module _ (bs : List ℕ) (l : length bs ≡ recordLength) (low : (j : ℕ) → g
           ∙ same-append (operationBytes (cellsOf o)) ran _ behind (operation-length (cellsOf o) ∙ n)
           ∙ rw (runs-same, none-and-zeros) (ap (λ (t : Bool). k and t) (zeros-same (operationLength + spareLength) behind (simp (length-take, length-drop) (omega arith)) ∙ sym ez)))
 
-    module _ (c : Cells) (e : Operation) (ec : c ≡ cellsIn stood) (ee : e ≡ operationIn c) (f : Fitting (cellsOf e)) (k : Bool) (ek : k ≡ sameCells (cellsOf e) c) (z : Bool) (ez : z ≡ allZero spare) (t : Bool) (et : t ≡ (m and z and k)) where
-      stands-as : (byte haltedAt ≡ 0 → ⊥) → At e ≡ workAt bs haltedAt
-      stands-as h = ap At (ee ∙ ap operationIn ec) ∙ sym (some-work-in haltedAt h)
+    module _ (c : Cells) (e : Operation) (ec : c ≡ cellsIn stood) (ee : e ≡ operationIn c) (h : byte haltedAt ≡ 0 → ⊥) where
+      stands-as : At e ≡ workAt bs haltedAt
+      stands-as = ap At (ee ∙ ap operationIn ec) ∙ sym (some-work-in haltedAt h)
 
-      -- what stands behind what runs: what is suspended, and the zeros
-      behind-same : sameBytes (operationBytes (cellsOf e) ++ replicate spareLength 0) behind ≡ (k and z)
-      behind-same =
-          let n : operationLength ≡ length stood = sym (at-length haltedAt (omega arith)) in
-          ap (sameBytes (operationBytes (cellsOf e) ++ replicate spareLength 0)) behind-as
-          ∙ same-append (operationBytes (cellsOf e)) stood (replicate spareLength 0) spare (operation-length (cellsOf e) ∙ n)
-          ∙ rw (cells-same haltedAt e (omega arith) f, zeros-same spareLength spare spare-length, ← ec, ← ek, ← ez)
+      pub suspended-phase : byte runningAt ≡ 0 → Suspended e ≡ phaseIn bs
+      suspended-phase r = rw (no-work-in runningAt r, ← stands-as)
 
-      -- the tests, in the order in which they are made
-      in-turn : (a : Bool) → (m and a and k and z) ≡ (t and a)
-      in-turn a = turned m a k z ∙ rw (← et)
+      pub nested-phase : (byte runningAt ≡ 0 → ⊥) → (d : Cells) (o : Operation) → d ≡ cellsIn ran → o ≡ operationIn d → Nested o e ≡ phaseIn bs
+      nested-phase r d o ed eo = rw (some-work-in runningAt r, ← stands-as, eo, ed)
 
-      pub suspended-phase : byte runningAt ≡ 0 → (byte haltedAt ≡ 0 → ⊥) → Suspended e ≡ phaseIn bs
-      suspended-phase r h = rw (no-work-in runningAt r, ← stands-as h)
+      -- whatever runs, the bytes of the phase are those of its work and of what is suspended
+      works-as : phaseBytes (phaseIn bs) ≡ worksBytes (workAt bs runningAt) (At e)
+      works-as =
+          rw (phase-runs (workAt bs runningAt) (workAt bs haltedAt), phase-halts (workAt bs runningAt) (workAt bs haltedAt), ← stands-as)
 
-      pub suspended-held : byte runningAt ≡ 0 → (byte haltedAt ≡ 0 → ⊥) → (a : Bool) → a ≡ allZero ran → holds bs ≡ (t and a)
-      unfolding worksBytes
-      suspended-held r h a ea =
-          let n : operationLength ≡ length ran = sym (at-length runningAt (omega arith)) in
-          held-as (Suspended e) (a and k and z) (suspended-phase r h)
-          (ap (sameBytes (phaseBytes (Suspended e))) doing-as
-          ∙ same-append (operationBytes (workCells NoWork)) ran _ behind (operation-length (workCells NoWork) ∙ n)
-          ∙ rw (behind-same, ← none-bytes, zeros-same operationLength ran (sym n), ← ea))
-          ∙ in-turn a
+      module _ (f : Fitting (cellsOf e)) (k : Bool) (ek : k ≡ sameCells (cellsOf e) c) (t : Bool) (et : t ≡ (m and k)) where
+        -- what stands behind what runs: what is suspended, and the zeros
+        behind-same : sameBytes (operationBytes (cellsOf e) ++ replicate spareLength 0) behind ≡ (k and allZero spare)
+        behind-same =
+            let n : operationLength ≡ length stood = sym (at-length haltedAt (omega arith)) in
+            ap (sameBytes (operationBytes (cellsOf e) ++ replicate spareLength 0)) behind-as
+            ∙ same-append (operationBytes (cellsOf e)) stood (replicate spareLength 0) spare (operation-length (cellsOf e) ∙ n)
+            ∙ rw (cells-same haltedAt e (omega arith) f, zeros-same spareLength spare spare-length, ← ec, ← ek)
 
-      pub nested-phase : (byte runningAt ≡ 0 → ⊥) → (byte haltedAt ≡ 0 → ⊥) → (d : Cells) (o : Operation) → d ≡ cellsIn ran → o ≡ operationIn d → Nested o e ≡ phaseIn bs
-      nested-phase r h d o ed eo = rw (some-work-in runningAt r, ← stands-as h, eo, ed)
+        -- the bytes of what runs are those of the work that they are read as, an operation or none
+        abbrev own : Bool
+        own = sameBytes (operationBytes (workCells (workAt bs runningAt))) ran
 
-      pub nested-held : (byte runningAt ≡ 0 → ⊥) → (byte haltedAt ≡ 0 → ⊥) → (d : Cells) (o : Operation) → d ≡ cellsIn ran → o ≡ operationIn d → Fitting (cellsOf o) → (a : Bool) → a ≡ sameCells (cellsOf o) d → holds bs ≡ (t and a)
-      unfolding worksBytes
-      nested-held r h d o ed eo g a ea =
-          let n : operationLength ≡ length ran = sym (at-length runningAt (omega arith)) in
-          held-as (Nested o e) (a and k and z) (nested-phase r h d o ed eo)
-          (ap (sameBytes (phaseBytes (Nested o e))) doing-as
-          ∙ same-append (operationBytes (cellsOf o)) ran _ behind (operation-length (cellsOf o) ∙ n)
-          ∙ rw (behind-same, cells-same runningAt o (omega arith) g, ← ed, ← ea))
-          ∙ in-turn a
+        -- a record is held where the tests hold: of the marks and what is suspended, then of the zeros, and then of what runs
+        halted-held : (z : Bool) → z ≡ allZero spare → (a : Bool) → own ≡ a → holds bs ≡ (t and z and a)
+        unfolding worksBytes
+        halted-held z ez a ea =
+            let n : operationLength ≡ length ran = sym (at-length runningAt (omega arith)) in
+            held-as (phaseIn bs) (a and k and z) refl
+            (ap (λ (x : List ℕ). sameBytes x doing) works-as
+            ∙ ap (sameBytes (worksBytes (workAt bs runningAt) (At e))) doing-as
+            ∙ same-append (operationBytes (workCells (workAt bs runningAt))) ran _ behind (operation-length (workCells (workAt bs runningAt)) ∙ n)
+            ∙ rw (behind-same, ea, ← ez))
+            ∙ turned m a k z
+            ∙ rw (← et)
+
+        -- so no record is held where the first of them fails
+        pub halted-none : t ≡ false → holds bs ≡ false
+        unfolding _and_
+        halted-none n = halted-held (allZero spare) refl own refl ∙ rw n
+
+        pub suspended-held : byte runningAt ≡ 0 → (z : Bool) → z ≡ allZero spare → (a : Bool) → a ≡ allZero ran → holds bs ≡ (t and z and a)
+        suspended-held r z ez a ea =
+            halted-held z ez a (rw (no-work-in runningAt r, ← none-bytes, ea) (zeros-same operationLength ran (at-length runningAt (omega arith))))
+
+        pub nested-held : (byte runningAt ≡ 0 → ⊥) → (d : Cells) (o : Operation) → d ≡ cellsIn ran → o ≡ operationIn d → Fitting (cellsOf o) → (z : Bool) → z ≡ allZero spare → (a : Bool) → a ≡ sameCells (cellsOf o) d → holds bs ≡ (t and z and a)
+        nested-held r d o ed eo g z ez a ea =
+            halted-held z ez a (rw (← runs-as d o ed eo g a ea r) (runs-same d o ed eo g a ea))
 
 -- a kind is 0, or is not, as the code tests it
 pub none-there : (b : ℕ) → not (not (eqb b 0)) ≡ true → b ≡ 0

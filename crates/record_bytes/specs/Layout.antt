@@ -6,13 +6,15 @@ use lib.Dec.{eqb}
 use lib.ListN.{length, take, drop, replicate, set}
 use Rattle.types.specs.declared.Stored.{Stored}
 use Rattle.types.specs.declared.Phase.{Phase}
+use Rattle.types.specs.declared.Phase.the-variants.{Idle}
 use Rattle.types.specs.declared.Work.{Work}
 use Rattle.types.specs.declared.Part.{Part}
 use Rattle.types.specs.declared.Record.{Record}
 use Rattle.types.specs.declared.Change.{Change}
-use Rattle.types.specs.declared.Change.the-variants.{Same, Marked, Live, Anew, Runs, Became}
+use Rattle.types.specs.declared.Change.the-variants.{Same, Marked, Live, Anew, Runs, Halts, GoesOn, Clears}
 use Rattle.words.specs.Logic.{bit}
 use Rattle.paper.specs.Sizes.{pageBytes}
+use Rattle.paper.specs.Program.{noData}
 use Rattle.paper.specs.Phases.{running, halted}
 use Rattle.paper.specs.Commands.{pageAfter}
 use Rattle.paper.specs.Calls.{noStored}
@@ -128,14 +130,35 @@ written p bs = cond (eqb (length bs) recordLength) (recordBytes p) bs
 abbrev pub headerRunning : Part → Work → List ℕ → List ℕ
 headerRunning q w bs = partBytes q ++ (operationBytes (workCells w) ++ take (operationLength + spareLength) (drop haltedAt bs))
 
+-- the bytes of an operation from a place on
+abbrev pub operationAt : List ℕ → ℕ → List ℕ
+operationAt bs at = take operationLength (drop at bs)
+
+-- a record's bytes with the part written, and other bytes where what runs and what is suspended stand
+abbrev pub worksLaid : Part → List ℕ → List ℕ → List ℕ → List ℕ
+worksLaid q w h bs = partBytes q ++ (w ++ (h ++ drop spareAt bs))
+
+-- so what runs is suspended, and so what is suspended goes on: its bytes are moved, and zeros stand where they stood
+abbrev pub bytesHalted : Part → List ℕ → List ℕ
+bytesHalted q bs = worksLaid q (replicate operationLength 0) (operationAt bs runningAt) bs
+
+abbrev pub bytesResumed : Part → List ℕ → List ℕ
+bytesResumed q bs = worksLaid q (operationAt bs haltedAt) (replicate operationLength 0) bs
+
+-- a part that does nothing and has no page data
+abbrev pub bytesCleared : Part → List ℕ
+bytesCleared q = header q Idle ++ noData
+
 -- the bytes of a record after a change by a call with the input i
 abbrev pub bytesChanged : Change → List ℕ → List ℕ → List ℕ
 bytesChanged Same i bs = bs
 bytesChanged (Marked armed) i bs = set bs armedAt (bit armed)
 bytesChanged (Live v) i bs = set (set bs armedAt 0) liveAt v
 bytesChanged (Anew q) i bs = partBytes q ++ drop partLength bs
-bytesChanged (Runs q w d) i bs = headerRunning q w bs ++ pageAfter d i (drop headerLength bs)
-bytesChanged (Became q f d) i bs = header q f ++ pageAfter d i (drop headerLength bs)
+bytesChanged (Runs q d w) i bs = headerRunning q w bs ++ pageAfter d i (drop headerLength bs)
+bytesChanged (Halts q) i bs = bytesHalted q bs
+bytesChanged (GoesOn q) i bs = bytesResumed q bs
+bytesChanged (Clears q) i bs = bytesCleared q
 
 -- a buffer with the change written; bytes of another length are left as they are
 unfoldable pub changeWritten : Change → List ℕ → List ℕ → List ℕ

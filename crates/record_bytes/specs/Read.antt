@@ -20,7 +20,7 @@ use Rattle.cells.specs.declared.Cells.{Cells}
 use Rattle.cells.specs.Operations.{cells, workCells, workOf}
 use Rattle.record_bytes.specs.declared.Found.{Found}
 use Rattle.record_bytes.specs.declared.Seen.{Seen}
-use Rattle.record_bytes.specs.Layout.{storedAt, welAt, armedAt, asleepAt, liveAt, baseAt, countAt, doneAt, operationLength, runningAt, haltedAt, headerLength, recordLength, header}
+use Rattle.record_bytes.specs.Layout.{storedAt, welAt, armedAt, asleepAt, liveAt, baseAt, countAt, doneAt, runningAt, haltedAt, headerLength, recordLength, header, operationAt}
 
 -- the number that k bytes from a place on are
 abbrev pub numberAt : List ℕ → ℕ → ℕ → ℕ
@@ -30,11 +30,7 @@ numberAt bs at k = highFirst (take k (drop at bs))
 unfoldable pub cellsIn : List ℕ → Cells
 cellsIn bs = cells (getD bs 0 0) (getD bs 1 0) (numberAt bs baseAt 8) (numberAt bs countAt 8) (numberAt bs doneAt 8)
 
--- the bytes of an operation from a place on
-abbrev pub operationAt : List ℕ → ℕ → List ℕ
-operationAt bs at = take operationLength (drop at bs)
-
--- the operation there, or none
+-- the operation in the bytes from a place on, or none
 abbrev pub workAt : List ℕ → ℕ → Work
 workAt bs at = workOf (cellsIn (operationAt bs at))
 

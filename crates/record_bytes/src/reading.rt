@@ -186,11 +186,14 @@ pub fn read_part(bytes: &[u8]) -> Seen
     let halted = cells_in(&bytes[places::HALTED..places::SPARE]);
     let outer = cells::operation_in(halted);
     let beneath = same_cells(cells::cells_of(outer), halted);
+    let held = words::both(marks, beneath);
+    if !held {
+        return none_seen();
+    }
     let spare = runs::zero_from(&bytes[places::SPARE..places::PAGE], 0);
-    let held = words::both(marks, words::both(spare, beneath));
     if !runs {
         let rests = runs::zero_from(&bytes[places::RUNNING..places::HALTED], 0);
-        if words::both(held, rests) {
+        if words::both(spare, rests) {
             return Seen {
                 ok: true,
                 part: part,
@@ -203,7 +206,7 @@ pub fn read_part(bytes: &[u8]) -> Seen
     let running = cells_in(&bytes[places::RUNNING..places::HALTED]);
     let op = cells::operation_in(running);
     let kept = same_cells(cells::cells_of(op), running);
-    if words::both(held, kept) {
+    if words::both(spare, kept) {
         return Seen {
             ok: true,
             part: part,
@@ -254,11 +257,14 @@ pub fn read_any(bytes: &[u8]) -> Found
     let halted = cells_in(&bytes[places::HALTED..places::SPARE]);
     let outer = cells::operation_in(halted);
     let beneath = same_cells(cells::cells_of(outer), halted);
+    let held = words::both(whole, beneath);
+    if !held {
+        return none_found();
+    }
     let spare = runs::zero_from(&bytes[places::SPARE..places::PAGE], 0);
-    let held = words::both(whole, words::both(spare, beneath));
     if !runs {
         let rests = runs::zero_from(&bytes[places::RUNNING..places::HALTED], 0);
-        if words::both(held, rests) {
+        if words::both(spare, rests) {
             return Found {
                 ok: true,
                 part: part,
@@ -270,7 +276,7 @@ pub fn read_any(bytes: &[u8]) -> Found
     let running = cells_in(&bytes[places::RUNNING..places::HALTED]);
     let op = cells::operation_in(running);
     let kept = same_cells(cells::cells_of(op), running);
-    if words::both(held, kept) {
+    if words::both(spare, kept) {
         return Found {
             ok: true,
             part: part,

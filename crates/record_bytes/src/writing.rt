@@ -2,11 +2,14 @@
 ghost use mathlib.Core.Path.{_≡_};
 ghost use mathlib.Core.List.{[], _++_};
 ghost use lib.ListN.{length, drop};
+ghost use Rattle.types.specs.declared.Phase.the-variants.{Idle};
 ghost use Rattle.paper.specs.Sizes.{pageBytes};
+ghost use Rattle.paper.specs.Program.{noData};
 ghost use Rattle.paper.specs.Commands.{pageAfter};
+ghost use Rattle.paper.proofs.Soundness.{recordOf};
 ghost use Rattle.address.specs.Bytes.{highFirstBytes};
 ghost use Rattle.cells.specs.Operations.{cellsOf, workCells};
-ghost use Rattle.record_bytes.specs.Layout.{partLength, operationLength, phaseLength, headerLength, recordLength, partBytes, operationBytes, phaseBytes, header, headerRunning, written, changeWritten};
+ghost use Rattle.record_bytes.specs.Layout.{partLength, operationLength, phaseLength, headerLength, recordLength, partBytes, operationBytes, phaseBytes, header, headerRunning, written, worksLaid, bytesHalted, bytesResumed, bytesCleared, changeWritten};
 use crate::places;
 use types::Change;
 use types::Data;
@@ -124,6 +127,72 @@ fn write_running(part: Part, work: Work, bytes: &mut [u8])
     write_part(part, bytes);
 }
 
+// An operation's bytes, copied out.
+fn operation_at(bytes: &[u8]) -> [u8; places::OPERATION_BYTES]
+    requires { ⌜ length (now bytes) ≡ operationLength ⌝ }
+    ensures { λ r. ⌜ r ≡ now (bytes .entry) ⌝ }
+{
+    let mut held = [0u8; places::OPERATION_BYTES];
+    bytes::copy(bytes, &mut held);
+    held
+}
+
+// A part written over a record's first bytes, with the bytes of what runs and of what is suspended.
+fn write_works(
+    part: Part,
+    running: [u8; places::OPERATION_BYTES],
+    halted: [u8; places::OPERATION_BYTES],
+    bytes: &mut [u8],
+)
+    requires { ⌜ length (now bytes) ≡ recordLength ⌝ }
+    ensures { λ _. ⌜ now (bytes .exit) ≡ worksLaid part running halted (now (bytes .entry)) ⌝ }
+{
+    bytes::copy(&running, &mut bytes[places::RUNNING..places::HALTED]);
+    bytes::copy(&halted, &mut bytes[places::HALTED..places::SPARE]);
+    write_part(part, bytes);
+}
+
+// A part whose running operation is suspended: its bytes are moved.
+fn write_halted(part: Part, bytes: &mut [u8])
+    requires { ⌜ length (now bytes) ≡ recordLength ⌝ }
+    ensures { λ _. ⌜ now (bytes .exit) ≡ bytesHalted part (now (bytes .entry)) ⌝ }
+{
+    let held = operation_at(&bytes[places::RUNNING..places::HALTED]);
+    let none = [0u8; places::OPERATION_BYTES];
+    write_works(part, none, held, bytes);
+}
+
+// A part whose suspended operation goes on: its bytes are moved back.
+fn write_resumed(part: Part, bytes: &mut [u8])
+    requires { ⌜ length (now bytes) ≡ recordLength ⌝ }
+    ensures { λ _. ⌜ now (bytes .exit) ≡ bytesResumed part (now (bytes .entry)) ⌝ }
+{
+    let held = operation_at(&bytes[places::HALTED..places::SPARE]);
+    let none = [0u8; places::OPERATION_BYTES];
+    write_works(part, held, none, bytes);
+}
+
+// A part that does nothing and has no page data. The zeros are written in two runs with the part between them, which is
+// less than one run of them all.
+fn write_cleared(part: Part, bytes: &mut [u8])
+    requires { ⌜ length (now bytes) ≡ recordLength ⌝ }
+    ensures { λ _. ⌜ now (bytes .exit) ≡ bytesCleared part ⌝ }
+{
+    runs::fill(&mut bytes[places::RUNNING..places::PAGE], 0);
+    write_part(part, bytes);
+    runs::fill(&mut bytes[places::PAGE..places::END], 0);
+}
+
+// The record of an idle part with no page data written as its bytes. A buffer of another length is left as it is.
+pub fn write_idle(part: Part, bytes: &mut [u8])
+    ensures { λ _. ⌜ now (bytes .exit) ≡ written (recordOf part Idle noData) (now (bytes .entry)) ⌝ }
+{
+    if bytes.len() != places::END {
+        return;
+    }
+    write_cleared(part, bytes);
+}
+
 // A record written as its bytes. A buffer of another length is left as it is.
 pub fn write_record(state: Record, bytes: &mut [u8])
     ensures { λ _. ⌜ now (bytes .exit) ≡ written state (now (bytes .entry)) ⌝ }
@@ -170,14 +239,13 @@ pub fn write_change(change: Change, input: &[u8], bytes: &mut [u8])
             bytes[places::LIVE] = live;
         }
         Change::Anew(part) => write_part(part, bytes),
-        Change::Runs(part, work, becomes) => {
+        Change::Runs(part, becomes, work) => {
             write_running(part, work, bytes);
             write_page(becomes, input, &mut bytes[places::PAGE..places::END]);
         }
-        Change::Became(part, phase, becomes) => {
-            write_header(part, phase, bytes);
-            write_page(becomes, input, &mut bytes[places::PAGE..places::END]);
-        }
+        Change::Halts(part) => write_halted(part, bytes),
+        Change::GoesOn(part) => write_resumed(part, bytes),
+        Change::Clears(part) => write_cleared(part, bytes),
     }
 }
 
@@ -200,15 +268,13 @@ pub fn write_after(change: Change, bytes: &mut [u8])
             bytes[places::LIVE] = byte;
         }
         Change::Anew(part) => write_part(part, bytes),
-        Change::Runs(part, work, page) => {
+        Change::Runs(part, page, work) => {
             write_running(part, work, bytes);
             let none_sent = [0u8; 0];
             write_page(page, &none_sent, &mut bytes[places::PAGE..places::END]);
         }
-        Change::Became(part, phase, page) => {
-            write_header(part, phase, bytes);
-            let nothing_sent = [0u8; 0];
-            write_page(page, &nothing_sent, &mut bytes[places::PAGE..places::END]);
-        }
+        Change::Halts(part) => write_halted(part, bytes),
+        Change::GoesOn(part) => write_resumed(part, bytes),
+        Change::Clears(part) => write_cleared(part, bytes),
     }
 }

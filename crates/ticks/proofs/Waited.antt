@@ -32,7 +32,7 @@ use Rattle.ticks.specs.Waited.{ticksLeft, tickChange, soundIn, numberIn,
 
 -- whichever it is
 changed-as : (p : Record) (o : Operation) (k : ℕ) (t : Bool)
-    → changed (cond {A = Change} t (Runs (finishedPart (p .part) (p .phase) o) NoWork Zero) (Runs (p .part) (At (advancedBy k o)) Kept)) [] p
+    → changed (cond {A = Change} t (Runs (finishedPart (p .part) (p .phase) o) Zero NoWork) (Runs (p .part) Kept (At (advancedBy k o)))) [] p
     ≡ cond t (finished p o) (advanced p (advancedBy k o))
 changed-as p o k true = refl
 changed-as p o k false = refl

@@ -35,8 +35,8 @@ ticksLeft o blocks = ticksInAll o blocks - ticksDone o
 abbrev pub changeAfter : ℕ → Operation → Part → Phase → Change
 changeAfter k o p f =
     cond (eqb k (ticksLeft o (p .blocks)))
-    (Runs (finishedPart p f o) NoWork Zero)
-    (Runs p (At (advancedBy k o)) Kept)
+    (Runs (finishedPart p f o) Zero NoWork)
+    (Runs p Kept (At (advancedBy k o)))
 
 -- what n ticks change, where w runs
 abbrev pub tickChange : ℕ → Work → Part → Phase → Change

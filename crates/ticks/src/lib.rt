@@ -173,9 +173,9 @@ fn change_after(count: usize, left: usize, op: Operation, part: Part, phase: Pha
 {
     if count == left {
         let last = finish(part, phase, op);
-        return Change::Runs(last, Work::NoWork, Data::Zero);
+        return Change::Runs(last, Data::Zero, Work::NoWork);
     }
-    Change::Runs(part, Work::At(advance(op, count)), Data::Kept)
+    Change::Runs(part, Data::Kept, Work::At(advance(op, count)))
 }
 
 // Ticks of a part on which an operation runs.

@@ -128,15 +128,17 @@ pub enum Data {
 }
 
 // What a call makes of a record: the same; the same but for the armed mark; unarmed, and the same but for the live byte;
-// the part anew; the part anew, what runs and page data so, and what is suspended as it was; or part and phase anew, and
-// page data so.
+// or the part anew. With it what runs and page data may become so, and what is suspended stay as it was; what runs may
+// be suspended; what is suspended may go on; or both are dropped, and page data is zero.
 pub enum Change {
     Same,
     Marked(bool),
     Live(u8),
     Anew(Part),
-    Runs(Part, Work, Data),
-    Became(Part, Phase, Data),
+    Runs(Part, Data, Work),
+    Halts(Part),
+    GoesOn(Part),
+    Clears(Part),
 }
 
 // The commands, in the order of the command table; then those of the extended read register.

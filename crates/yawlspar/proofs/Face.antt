@@ -1,13 +1,15 @@
 -- What the definitions for C come to in each case: no record held, and the call itself.
 use Prim.Native.Nat.{ℕ, _≤_}
-use mathlib.Core.Path.{_≡_, sym, ap, _∙_}
-use mathlib.Core.Bool.{Bool, true, false}
+use mathlib.Core.Path.{_≡_, refl, sym, ap, _∙_}
+use mathlib.Core.Bool.{Bool, true, false, cond}
 use mathlib.Core.List.{List, []}
 use lib.Dec.{eqb, leb}
 use native.Mathlib.Omega.{arith}
 use lib.ListN.{length, take, drop, length-take, length-drop}
 use borrow.Author.Tests.{eqb-true, leb-true, eq-eqb, ne-eqb}
 use Rattle.types.specs.declared.Memory.{Memory}
+use Rattle.types.specs.declared.Identity.{Identity}
+use Rattle.types.specs.declared.Phase.the-variants.{Idle}
 use Rattle.types.specs.declared.Stored.{Stored}
 use Rattle.types.specs.declared.Record.{Record}
 use Rattle.types.specs.declared.Outcome.{Outcome}
@@ -19,8 +21,10 @@ use Rattle.words.proofs.Tests.{and-l, and-r, unless-zero, orElse-zero, orElse-o
 use Rattle.paper.specs.Sizes.{pageBytes}
 use Rattle.paper.specs.Soundness.{sound}
 use Rattle.paper.specs.Registers.{withBytes, withExtended}
-use Rattle.paper.specs.Numbers.{laterRefusal, laterTickNumber}
-use Rattle.paper.specs.Calls.{noStored, poweredUp, outcomeOf, outputAfter, ticked, tickedMemory}
+use Rattle.paper.specs.Program.{noData}
+use Rattle.paper.specs.Records.{fresh}
+use Rattle.paper.specs.Numbers.{powerUpNumber, laterRefusal, laterTickNumber}
+use Rattle.paper.specs.Calls.{noStored, zeroRecord, poweredUp, outcomeOf, outputAfter, ticked, tickedMemory}
 use Rattle.paper.proofs.Sizes.{size-range}
 use Rattle.paper.proofs.Soundness.{recordOf}
 use Rattle.paper.proofs.CallKept.{done-at-most}
@@ -31,7 +35,7 @@ use Rattle.record_bytes.specs.Layout.{headerLength, recordLength, recordBytes, 
 use Rattle.record_bytes.specs.Read.{Held, recordIn, found}
 use Rattle.record_bytes.proofs.Back.{held-length, held-state}
 use Rattle.record_bytes.proofs.Changed.{held-changed}
-use Rattle.yawlspar.specs.Face.{packed, Asked, givenNumber, identityOf, upOf, upNumber, powerUpBytes, heldOutcome, transactAnswer, transactBytes, transactOutput, tickAnswer, tickBytes, tickMemory}
+use Rattle.yawlspar.specs.Face.{packed, Asked, givenNumber, identityOf, registersOf, upOf, upNumber, powerUpBytes, heldOutcome, transactAnswer, transactBytes, transactOutput, tickAnswer, tickBytes, tickMemory}
 
 -- no record held
 module _ (h : Held) (e : h .ok ≡ false) where
@@ -146,6 +150,18 @@ given l q e =
 pub up-with : (q : Asked) (s : Stored) → s ≡ noStored → poweredUp (q .blocks) (identityOf q) (withBytes (q .status) (q .function) (withExtended (q .extended) s)) ≡ upOf q
 up-with q s e =
     ap (λ (x : Stored). poweredUp (q .blocks) (identityOf q) (withBytes (q .status) (q .function) (withExtended (q .extended) x))) e
+
+-- what power-up gives, taken or refused, is idle and has no page data
+idle-up : (n : ℕ) (id : Identity) (s : Stored) (k : ℕ) (t : Bool) → let u = cond {A = PoweredUp} t (record { next = fresh n id s; number = 0 }) (record { next = zeroRecord; number = k }) in
+    recordOf (u .next .part) Idle noData ≡ u .next
+idle-up n id s k true = refl
+idle-up n id s k false = refl
+
+pub up-idle : (q : Asked) (x : PoweredUp) → x ≡ upOf q → recordOf (x .next .part) Idle noData ≡ x .next
+unfolding poweredUp
+up-idle q x u =
+    let n = powerUpNumber (q .blocks) (registersOf q) in
+    rw u (idle-up (q .blocks) (identityOf q) (registersOf q) n (eqb n 0))
 
 module _ (q : Asked) (bs : List ℕ) (k : ℕ) (g : k ≡ givenNumber (length bs) q) where
   pub given-number : (k ≡ 0 → ⊥) → k ≡ upNumber (length bs) q

@@ -94,7 +94,7 @@ pub extern "C" fn yawlspar_power_up(
         return up.number as u64;
     }
     let next = up.next;
-    record_bytes::writing::write_record(next, bytes);
+    record_bytes::writing::write_idle(next.part, bytes);
     0
 }
 

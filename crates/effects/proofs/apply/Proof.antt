@@ -36,8 +36,20 @@ page-after-requires c κs = search needs
 enum-known-change-5 : tie.Need-enum-known-change-5
 enum-known-change-5 c = search needs
 
-page-after-requires-2 : tie.Need-page-after-requires-2
-page-after-requires-2 c κs = search needs
+suspended-in-requires : tie.Need-suspended-in-requires
+suspended-in-requires c κs = search needs
+
+enum-known-change-6 : tie.Need-enum-known-change-6
+enum-known-change-6 c = search needs
+
+resumed-in-requires : tie.Need-resumed-in-requires
+resumed-in-requires c κs = search needs
+
+enum-known-change-7 : tie.Need-enum-known-change-7
+enum-known-change-7 c = search needs
+
+no-data-requires : tie.Need-no-data-requires
+no-data-requires c κs = search needs
 
 returns : tie.Need-returns
 returns c = rw (c .enum-told .given .1)
@@ -55,7 +67,13 @@ returns-5 : tie.Need-returns-5
 returns-5 c = rw (c .before .before .before .change4 .given .1, c .page-after .ensures, c .before .running-in .ensures)
 
 returns-6 : tie.Need-returns-6
-returns-6 c = rw (c .before .before .change5 .given .1, c .page-after2 .ensures)
+returns-6 c = rw (c .before .before .change5 .given .1, c .suspended-in .ensures)
+
+returns-7 : tie.Need-returns-7
+returns-7 c = rw (c .before .before .change6 .given .1, c .resumed-in .ensures)
+
+returns-8 : tie.Need-returns-8
+returns-8 c = rw (c .before .before .change7 .given .1, c .no-data .ensures)
 
 pub apply-spec : {M : Type 1} → statement M
 apply-spec =
@@ -72,10 +90,16 @@ apply-spec =
     running-in-requires
     page-after-requires
     enum-known-change-5
-    page-after-requires-2
+    suspended-in-requires
+    enum-known-change-6
+    resumed-in-requires
+    enum-known-change-7
+    no-data-requires
     returns
     returns-2
     returns-3
     returns-4
     returns-5
-    returns-6)
+    returns-6
+    returns-7
+    returns-8)

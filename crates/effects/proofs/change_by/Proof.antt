@@ -48,8 +48,8 @@ enum-told-7 c = search needs
 suspended-in-requires : tie.Need-suspended-in-requires
 suspended-in-requires c κs = search needs
 
-settle-requires-3 : tie.Need-settle-requires-3
-settle-requires-3 c κs = search needs
+turn-requires : tie.Need-turn-requires
+turn-requires c κs = search needs
 
 enum-told-8 : tie.Need-enum-told-8
 enum-told-8 c = search needs
@@ -57,8 +57,8 @@ enum-told-8 c = search needs
 resumed-in-requires : tie.Need-resumed-in-requires
 resumed-in-requires c κs = search needs
 
-settle-requires-4 : tie.Need-settle-requires-4
-settle-requires-4 c κs = search needs
+turn-requires-2 : tie.Need-turn-requires-2
+turn-requires-2 c κs = search needs
 
 enum-told-9 : tie.Need-enum-told-9
 enum-told-9 c = search needs
@@ -124,10 +124,10 @@ returns-6 : tie.Need-returns-6
 returns-6 c = rw (c .before .enum-told6 .given .1) (c .start3 .ensures)
 
 returns-7 : tie.Need-returns-7
-returns-7 c = rw (c .before .before .enum-told7 .given .1, ← c .before .suspended-in .ensures) (c .settle3 .ensures)
+returns-7 c = rw (c .before .before .enum-told7 .given .1, c .turn .ensures, c .before .suspended-in .ensures)
 
 returns-8 : tie.Need-returns-8
-returns-8 c = rw (c .before .before .enum-told8 .given .1, ← c .before .resumed-in .ensures) (c .settle4 .ensures)
+returns-8 c = rw (c .before .before .enum-told8 .given .1, c .turn2 .ensures, c .before .resumed-in .ensures)
 
 returns-9 : tie.Need-returns-9
 returns-9 c = rw (c .before .before .enum-told9 .given .1, c .unarm3 .ensures, c .before .rest .ensures)
@@ -166,10 +166,10 @@ change-by-spec =
     start-requires-3
     enum-told-7
     suspended-in-requires
-    settle-requires-3
+    turn-requires
     enum-told-8
     resumed-in-requires
-    settle-requires-4
+    turn-requires-2
     enum-told-9
     rest-requires
     unarm-requires-3

@@ -1,11 +1,12 @@
 -- `yawlspar::yawlspar_power_up` meets its contract: refused, the buffer is left alone; else it has the record's length and takes its bytes.
-use mathlib.Core.Path.{sym, _∙_}
+use mathlib.Core.Path.{sym, ap, _∙_}
 use native.Mathlib.Omega.{arith}
 use denote.Ref.{now}
 use borrow.Author.Needs.{needs}
+use Rattle.record_bytes.specs.Layout.{recordBytes}
 use Rattle.record_bytes.proofs.Back.{written-in}
 use Rattle.yawlspar.specs.Face.{asked}
-use Rattle.yawlspar.proofs.Face.{given, up-with, given-number, own-number, own-bytes, no-bytes}
+use Rattle.yawlspar.proofs.Face.{given, up-with, up-idle, given-number, own-number, own-bytes, no-bytes}
 use Rattle.yawlspar.proofs.yawlspar_power_up.Statement.{statement}
 use Rattle.yawlspar.proofs.yawlspar_power_up.Tie as tie
 
@@ -66,8 +67,8 @@ returns-2 c =
     let e = own-number q (now (a .bytes)) (g .result) (g .ensures) (u .result) (c .before .before .before .before .before .if1 .left) w in
     (omega (arith, e), no-bytes q (now (a .bytes)) (g .result) (g .ensures) _ e (c .before .if2 .taken))
 
-write-record-requires : tie.Need-write-record-requires
-write-record-requires c κs = search needs
+write-idle-requires : tie.Need-write-idle-requires
+write-idle-requires c κs = search needs
 
 same-length : tie.Need-same-length
 same-length c = search needs
@@ -82,7 +83,7 @@ returns-3 c =
     let z = c .before .before .before .before .before .before .before .before .before .if1 .left in
     let o = c .before .before .before .before .before .if2 .left in
     let e = own-number q (now (a .bytes)) (g .result) (g .ensures) (u .result) z w in
-    (omega (arith, e, o), c .before .before .write-record .ensures ∙ written-in _ _ (given _ _ (sym (g .ensures) ∙ z) .whole) ∙ own-bytes q (now (a .bytes)) (g .result) (g .ensures) (u .result) z w o)
+    (omega (arith, e, o), c .before .before .write-idle .ensures ∙ written-in _ _ (given _ _ (sym (g .ensures) ∙ z) .whole) ∙ ap recordBytes (up-idle q (u .result) w) ∙ own-bytes q (now (a .bytes)) (g .result) (g .ensures) (u .result) z w o)
 
 pub yawlspar-power-up-spec : {M : Type 1} → statement M
 yawlspar-power-up-spec =
@@ -103,6 +104,6 @@ yawlspar-power-up-spec =
     power-up-requires
     cast-result-2
     returns-2
-    write-record-requires
+    write-idle-requires
     same-length
     returns-3)

@@ -1,0 +1,81 @@
+-- A suspended operation over calls: which calls let it go, and what the pages hold that an erase has done.
+use Prim.Native.Nat.{ℕ, _+_, _*_}
+use mathlib.Core.Path.{_≡_}
+use mathlib.Core.Bool.{Bool, true, false, not}
+use mathlib.Core.List.{List, [], _∷_, _++_}
+use lib.ListN.{getD}
+use lib.Dec.{eqb, leb, ltb}
+use Rattle.types.specs.declared.Memory.{Memory}
+use Rattle.types.specs.declared.Operation.{Operation}
+use Rattle.types.specs.declared.Operation.the-variants.{Program, Erase, Write}
+use Rattle.types.specs.declared.Phase.{Phase}
+use Rattle.types.specs.declared.Work.{Work}
+use Rattle.types.specs.declared.Work.the-variants.{NoWork, At}
+use Rattle.types.specs.declared.Decoded.{Decoded}
+use Rattle.types.specs.declared.Decoded.the-variants.{Known, Unknown}
+use Rattle.types.specs.declared.Effect.{Effect}
+use Rattle.types.specs.declared.Effect.the-variants.{Looks, Enables, Disables, Programs, Erases, Writes, Suspends, Resumes, Sleeps, Wakes, Arms, Resets, SetsLive, ClearsErrors}
+use Rattle.types.specs.declared.Record.{Record}
+use Rattle.words.specs.Logic.{_and_}
+use Rattle.paper.specs.Sizes.{arrayBytes, rowsBytes, pageBytes, sameMemory}
+use Rattle.paper.specs.Erase.{memoryOf, erasedByte}
+use Rattle.paper.specs.Phases.{running, halted}
+use Rattle.paper.specs.Table.{decoded, columns}
+use Rattle.paper.specs.Calls.{transacted}
+use Rattle.paper.specs.History.{Call, transaction, ticks, recordAfterCall}
+
+-- what a command does lets a suspended operation go: resume goes on with it, reset drops it
+abbrev pub letsGo : Effect → Bool
+letsGo Looks = false
+letsGo Enables = false
+letsGo Disables = false
+letsGo (Programs m) = false
+letsGo (Erases u) = false
+letsGo (Writes r) = false
+letsGo Suspends = false
+letsGo Resumes = true
+letsGo Sleeps = false
+letsGo Wakes = false
+letsGo Arms = false
+letsGo Resets = true
+letsGo SetsLive = false
+letsGo ClearsErrors = false
+
+-- so the command that a first byte is
+abbrev pub letsGoBy : Decoded → Bool
+letsGoBy (Known k) = letsGo (columns k .effect)
+letsGoBy Unknown = false
+
+-- a call lets the suspended operation go: it is a resume or a reset that is executed
+abbrev pub releases : Call → Record → Bool
+releases (transaction wp i o) p =
+    eqb (transacted p (arrayBytes (p .part .blocks)) rowsBytes wp i o .number) 0 and letsGoBy (decoded (getD i 0 0))
+releases (ticks n) p = false
+
+-- no call of a list does
+abbrev pub noneReleases : List Call → Record → Bool
+noneReleases [] p = true
+noneReleases (c ∷ cs) p = not (releases c p) and noneReleases cs (recordAfterCall c p)
+
+-- a transaction of one byte, at a level of the pin
+abbrev pub oneByte : Bool → ℕ → Call
+oneByte wp c = transaction wp (c ∷ []) 1
+
+-- d ticks, a suspend, calls, and a resume
+abbrev pub interrupted : ℕ → Call → List Call → Call → List Call
+interrupted d suspend cs resume = ticks d ∷ suspend ∷ (cs ++ (resume ∷ []))
+
+-- a place lies in the pages that an operation has done, if it is an erase
+abbrev pub inDone : Operation → Memory → ℕ → Bool
+inDone (Program m s b k d) w a = false
+inDone (Erase u b d) w a = sameMemory w (memoryOf u) and leb b a and ltb a (b + d * pageBytes)
+inDone (Write r v) w a = false
+
+-- the byte x at a place of a memory is FFh, if the place lies in the pages that an erase has done
+abbrev pub BlankIn : Memory → ℕ → ℕ → Work → Type 0
+BlankIn m at x NoWork = Unit {0}
+BlankIn m at x (At o) = inDone o m at ≡ true → x ≡ erasedByte
+
+-- so of what runs, and of what is suspended
+abbrev pub DoneBlank : Memory → ℕ → ℕ → Phase → Type 0
+DoneBlank m at x f = BlankIn m at x (running f) × BlankIn m at x (halted f)
