@@ -93,6 +93,7 @@ pub extern "C" fn yawlspar_power_up(
     if up.number != 0 {
         return up.number as u64;
     }
+    // what it gives is idle and has no page data
     let next = up.next;
     record_bytes::writing::write_idle(next.part, bytes);
     0
