@@ -70,7 +70,7 @@ pub run-halted : (n : ℕ) (p : Record) → halted (recordAfter n p .phase) ≡ 
 run-halted zero p = refl
 run-halted (suc n) p = ticked-halted (recordAfter n p) (running (recordAfter n p .phase)) ∙ run-halted n p
 
--- the codes that do are 7Ah, 30h and 99h
+-- the codes that let what is suspended go are 7Ah, 30h and 99h
 pub letting-go : codesOf (λ (k : Columns). letsGo (k .effect)) codes ≡ 0x7A ∷ 0x30 ∷ 0x99 ∷ []
 letting-go = refl
 
