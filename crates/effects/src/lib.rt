@@ -1,7 +1,7 @@
 // What a command that is executed, or barred with 28, makes of the record, and the record after a change.
 ghost use mathlib.Core.Path.{_≡_};
 ghost use Rattle.paper.specs.Records.{marked, resting, withLive};
-ghost use Rattle.paper.specs.Commands.{pageAfter, changed, unarmed, turned, starts, changeBy, errorsOf, changeBarred};
+ghost use Rattle.paper.specs.Commands.{pageAfter, changed, unarmed, starts, changeBy, errorsOf, changeBarred};
 use types::Change;
 use types::Data;
 use types::Effect;
@@ -42,18 +42,11 @@ fn rest(part: Part, asleep: bool) -> Part
     next
 }
 
-// The part anew, unarmed.
-fn unarm(part: Part) -> Change
+// The part, unarmed.
+fn unarm(part: Part) -> Part
     ensures { λ r. ⌜ r ≡ unarmed part ⌝ }
 {
-    Change::Anew(mark(part, false))
-}
-
-// The part, unarmed, in another phase with another latch.
-fn turn(part: Part, phase: Phase, wel: bool) -> Part
-    ensures { λ r. ⌜ r ≡ turned part phase wel ⌝ }
-{
-    mark(record::settle(part, phase, wel), false)
+    mark(part, false)
 }
 
 // The part busy with what a command begins.
@@ -63,7 +56,7 @@ fn start(work: Work, part: Part, phase: Phase, page: Data) -> Change
     match work {
         Work::NoWork => Change::Marked(false),
         Work::At(op) => {
-            let next = turn(part, phases::working_on(phase, op), true);
+            let next = unarm(record::settle(part, phases::working_on(phase, op), true));
             Change::Runs(next, page, Work::At(op))
         }
     }
@@ -78,15 +71,21 @@ pub fn change_by(effect: Effect, work: Work, part: Part, phase: Phase, input: &[
     let stored = part.stored;
     match effect {
         Effect::Looks => Change::Marked(false),
-        Effect::Enables => unarm(record::settle(part, phase, true)),
-        Effect::Disables => unarm(record::settle(part, phase, false)),
+        Effect::Enables => Change::Anew(unarm(record::settle(part, phase, true))),
+        Effect::Disables => Change::Anew(unarm(record::settle(part, phase, false))),
         Effect::Programs(_) => start(work, part, phase, Data::Sent),
         Effect::Erases(_) => start(work, part, phase, Data::Kept),
         Effect::Writes(_) => start(work, part, phase, Data::Kept),
-        Effect::Suspends => Change::Halts(turn(part, phases::suspended_in(phase), false)),
-        Effect::Resumes => Change::GoesOn(turn(part, phases::resumed_in(phase), true)),
-        Effect::Sleeps => unarm(rest(part, true)),
-        Effect::Wakes => unarm(rest(part, false)),
+        Effect::Suspends => {
+            let next = phases::suspended_in(phase);
+            Change::Halts(unarm(record::settle(part, next, false)))
+        }
+        Effect::Resumes => {
+            let next = phases::resumed_in(phase);
+            Change::GoesOn(unarm(record::settle(part, next, true)))
+        }
+        Effect::Sleeps => Change::Anew(unarm(rest(part, true))),
+        Effect::Wakes => Change::Anew(unarm(rest(part, false))),
         Effect::Arms => Change::Marked(true),
         Effect::Resets => {
             let next = record::fresh_part(part.blocks, identity, stored);

@@ -31,7 +31,7 @@ use Rattle.paper.specs.Ticks.{finished, advanced, worked, tickedAt, recordAfter
 use Rattle.paper.specs.Calls.{ticked}
 use Rattle.paper.specs.History.{Call, transaction, ticks, recordAfterCall, tickTouches, callTouches, history, byteAfter, byteAfterAll, shielded, shieldedThroughout}
 use Rattle.paper.proofs.Protected.{Blocked, not-free-exactly, none-protected, none-counted}
-use Rattle.paper.proofs.Phases.{rest-idle}
+use Rattle.paper.proofs.Phases.{other-runs}
 use Rattle.paper.proofs.Soundness.{InOrder, running-in-order}
 use Rattle.paper.proofs.Kept.{run-sound}
 use Rattle.paper.proofs.CallKept.{call-sound}
@@ -113,7 +113,7 @@ module _ (m : Memory) (at : ℕ) where
   -- a tick keeps it so: a register changes with the last tick alone, after which nothing runs
   worked-guarded : (p : Record) (o : Operation) (t : Bool) → shielded m at p ≡ true → Guarded (cond t (advanced p (advancedBy 1 o)) (finished p o))
   worked-guarded p o true g b = g
-  worked-guarded p o false g b = absurd (false≢true (sym (ap (workIs anyOperation) (rest-idle (p .phase))) ∙ b))
+  worked-guarded p o false g b = absurd (false≢true (sym (ap (workIs anyOperation) (other-runs (p .phase) NoWork)) ∙ b))
 
   tick-guarded : (p : Record) (w : Work) → running (p .phase) ≡ w → Guarded p → Guarded (tickedAt p w)
   unfolding worked

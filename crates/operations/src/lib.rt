@@ -1,10 +1,10 @@
 // An operation: its ticks, its target, and what it keeps.
 ghost use mathlib.Core.Path.{_≡_};
 ghost use Prim.Native.Nat.{_+_};
-ghost use lib.Dec.{ltb, leb};
+ghost use lib.Dec.{leb};
 ghost use Rattle.types.specs.declared.Operation.the-variants.{Program, Erase};
 ghost use Rattle.words.specs.Logic.{_and_};
-ghost use Rattle.paper.specs.Sizes.{memoryBytes, sameMemory};
+ghost use Rattle.paper.specs.Sizes.{memoryBytes, sameMemory, fromOn};
 ghost use Rattle.paper.specs.Protection.{codeOf};
 ghost use Rattle.paper.specs.Registers.{held};
 ghost use Rattle.paper.specs.Operations.{ticksInAll, ticksDone, free, unitFree, targetFree, memorySuspends, unitSuspends, canSuspend, inUnit, outside, outsideOf, keptBy};
@@ -174,7 +174,7 @@ fn same_memory(a: Memory, b: Memory) -> bool
 
 // Whether a place is one of size bytes from a base on.
 fn lies_within(place: usize, base: usize, size: usize) -> bool
-    ensures { λ r. ⌜ r ≡ (leb base place and ltb place (base + size)) ⌝ }
+    ensures { λ r. ⌜ r ≡ fromOn base size place ⌝ }
 {
     if place < base {
         return false;

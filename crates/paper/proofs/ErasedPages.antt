@@ -11,7 +11,7 @@ use Rattle.types.specs.declared.EraseUnit.{EraseUnit}
 use Rattle.types.specs.declared.Operation.{Operation}
 use Rattle.types.specs.declared.Operation.the-variants.{Program, Erase, Write}
 use Rattle.types.specs.declared.Phase.{Phase}
-use Rattle.types.specs.declared.Phase.the-variants.{Idle, Busy, Suspended, Nested}
+use Rattle.types.specs.declared.Phase.the-variants.{Idle, Busy}
 use Rattle.types.specs.declared.Work.{Work}
 use Rattle.types.specs.declared.Work.the-variants.{NoWork, At}
 use Rattle.types.specs.declared.Effect.{Effect}
@@ -23,7 +23,7 @@ use Rattle.paper.specs.Sizes.{arrayBytes, rowsBytes, sameMemory, pageByt
 use Rattle.paper.specs.Program.{programOf}
 use Rattle.paper.specs.Erase.{memoryOf, unitPages, unitBytes, erasedByte, eraseOf}
 use Rattle.paper.specs.Registers.{writeOf}
-use Rattle.paper.specs.Phases.{running, halted, workingOn, suspendedIn, resumedIn}
+use Rattle.paper.specs.Phases.{running, halted, phaseOf, workingOn}
 use Rattle.paper.specs.Operations.{ticksInAll, ticksDone, advancedBy, inUnit, nextTouch}
 use Rattle.paper.specs.Soundness.{sound}
 use Rattle.paper.specs.Table.{columns}
@@ -33,14 +33,13 @@ use Rattle.paper.specs.Calls.{ticked}
 use Rattle.paper.specs.Ticks.{finished, advanced, worked, tickedAt, tickOnce, recordAfter, touchAt, touchOf, workingTicks}
 use Rattle.paper.specs.History.{Call, transaction, ticks, recordAfterCall, recordAfterCalls, tickTouches, reachedBy, callTouches, history, byteAfter, byteAfterAll}
 use Rattle.paper.specs.Halted.{inDone, BlankIn, DoneBlank}
-use Rattle.paper.proofs.Phases.{going-runs, rest-idle}
+use Rattle.paper.proofs.Phases.{phase-runs, phase-halts}
 use Rattle.paper.proofs.Soundness.{halted-in-order}
 use Rattle.paper.proofs.Kept.{run-sound}
 use Rattle.paper.proofs.TransactionKept.{after-transaction}
 use Rattle.paper.proofs.CallKept.{call-sound, calls-sound, calls-size}
 use Rattle.paper.proofs.Histories.{bytes-append, bytes-joined}
 use Rattle.paper.proofs.EraseBytes.{blank-sets, erase-fills}
-use Rattle.paper.proofs.HaltedKept.{going-halted, rest-halted}
 use Rattle.paper.proofs.NestedBytes.{halted-spares}
 
 module _ (m : Memory) (at : ℕ) where
@@ -51,24 +50,14 @@ module _ (m : Memory) (at : ℕ) where
       let g : at < b + 0 * pageBytes = ltb-true _ _ (and-r _ _ (and-r _ _ h)) in
       omega arith
 
-  -- and what is done stays so in the phases that follow
+  -- a phase of what runs and what is suspended, of each of which it holds
+  works-blank : (x : ℕ) (w h : Work) → BlankIn m at x w → BlankIn m at x h → DoneBlank m at x (phaseOf w h)
+  works-blank x w h b d =
+      (subst⁻¹ (BlankIn m at x) (phase-runs w h) b, subst⁻¹ (BlankIn m at x) (phase-halts w h) d)
+
+  -- and what is done stays so where something begins
   started-blank : (x : ℕ) (f : Phase) (o : Operation) → (inDone o m at ≡ true → ⊥) → DoneBlank m at x f → DoneBlank m at x (workingOn f o)
-  started-blank x Idle o n h = (λ t. absurd (n t), tt)
-  started-blank x (Busy y) o n h = (λ t. absurd (n t), tt)
-  started-blank x (Suspended y) o n h = (λ t. absurd (n t), h .1)
-  started-blank x (Nested z y) o n h = (λ t. absurd (n t), h .1)
-
-  suspended-blank : (x : ℕ) (f : Phase) → DoneBlank m at x f → DoneBlank m at x (suspendedIn f)
-  suspended-blank x Idle h = (tt, tt)
-  suspended-blank x (Busy o) h = (tt, h .0)
-  suspended-blank x (Suspended o) h = (tt, tt)
-  suspended-blank x (Nested o e) h = (tt, h .0)
-
-  resumed-blank : (x : ℕ) (f : Phase) → DoneBlank m at x f → DoneBlank m at x (resumedIn f)
-  resumed-blank x Idle h = (tt, tt)
-  resumed-blank x (Busy o) h = (tt, tt)
-  resumed-blank x (Suspended o) h = (h .1, tt)
-  resumed-blank x (Nested o e) h = (h .1, tt)
+  started-blank x f o n h = works-blank x (At o) (halted f) (λ t. absurd (n t)) (h .1)
 
   effect-blank : (c : Effect) (p : Record) (i : List ℕ) (x : ℕ) → DoneBlank m at x (p .phase) → DoneBlank m at x (changed (changeBy c (begins c (p .part .blocks) i) (p .part) (p .phase) i) i p .phase)
   unfolding programOf eraseOf writeOf
@@ -78,8 +67,8 @@ module _ (m : Memory) (at : ℕ) where
   effect-blank (Programs w) p i x h = started-blank x (p .phase) (programOf w (p .part .blocks) i) false≢true h
   effect-blank (Erases u) p i x h = started-blank x (p .phase) (eraseOf u (p .part .blocks) i) (nothing-done u _) h
   effect-blank (Writes r) p i x h = started-blank x (p .phase) (writeOf r i) false≢true h
-  effect-blank Suspends p i x h = suspended-blank x (p .phase) h
-  effect-blank Resumes p i x h = resumed-blank x (p .phase) h
+  effect-blank Suspends p i x h = works-blank x NoWork (running (p .phase)) tt (h .0)
+  effect-blank Resumes p i x h = works-blank x (halted (p .phase)) NoWork (h .1) tt
   effect-blank Sleeps p i x h = h
   effect-blank Wakes p i x h = h
   effect-blank Arms p i x h = h
@@ -117,10 +106,9 @@ module _ (m : Memory) (at : ℕ) where
       let y = byteAfter m at (touchOf p) x in
       let q = ap (λ (w : Work). byteAfter m at (touchAt w (p .page)) x) e in
       let r : BlankIn m at y (At (advancedBy 1 o)) = subst⁻¹ (λ (z : ℕ). BlankIn m at z (At (advancedBy 1 o))) q (next-blank o (p .page) x (subst (BlankIn m at x) e (h .0))) in
-      (subst⁻¹ (BlankIn m at y) (going-runs (p .phase) (advancedBy 1 o)) r, subst⁻¹ (BlankIn m at y) (going-halted (p .phase) (advancedBy 1 o)) (halted-blank p x (halted (p .phase)) refl s (h .1)))
+      works-blank y (At (advancedBy 1 o)) (halted (p .phase)) r (halted-blank p x (halted (p .phase)) refl s (h .1))
   worked-blank p x o false e s h =
-      let y = byteAfter m at (touchOf p) x in
-      (subst⁻¹ (BlankIn m at y) (rest-idle (p .phase)) tt, subst⁻¹ (BlankIn m at y) (rest-halted (p .phase)) (halted-blank p x (halted (p .phase)) refl s (h .1)))
+      works-blank (byteAfter m at (touchOf p) x) NoWork (halted (p .phase)) tt (halted-blank p x (halted (p .phase)) refl s (h .1))
 
   ticked-blank : (p : Record) (x : ℕ) (w : Work) → running (p .phase) ≡ w → sound p ≡ true → DoneBlank m at x (p .phase) → DoneBlank m at (byteAfter m at (touchOf p) x) (tickedAt p w .phase)
   unfolding worked

@@ -8,7 +8,6 @@ use lib.Dec.{eqb, ltb}
 use borrow.Author.Tests.{eqb-true, not-true}
 use Rattle.types.specs.declared.Operation.{Operation}
 use Rattle.types.specs.declared.Phase.{Phase}
-use Rattle.types.specs.declared.Phase.the-variants.{Idle, Busy, Suspended, Nested}
 use Rattle.types.specs.declared.Work.{Work}
 use Rattle.types.specs.declared.Work.the-variants.{NoWork, At}
 use Rattle.types.specs.declared.Command.{Command}
@@ -26,7 +25,7 @@ use Rattle.types.specs.declared.Change.the-variants.{Marked}
 use Rattle.words.specs.Logic.{_and_}
 use Rattle.words.proofs.Tests.{and-l, and-r}
 use Rattle.paper.specs.Sizes.{arrayBytes, rowsBytes}
-use Rattle.paper.specs.Phases.{running, halted, workIs, anyOperation, workingOn, restOf}
+use Rattle.paper.specs.Phases.{running, halted, workIs, anyOperation}
 use Rattle.paper.specs.Operations.{ticksInAll, ticksDone, advancedBy}
 use Rattle.paper.specs.Suspend.{suspendable}
 use Rattle.paper.specs.Soundness.{sound}
@@ -37,28 +36,16 @@ use Rattle.paper.specs.Calls.{refused, ignored, executed, outcomeTo, out
 use Rattle.paper.specs.Ticks.{finished, advanced, worked, tickedAt, recordAfter}
 use Rattle.paper.specs.History.{Call, transaction, ticks, recordAfterCall, recordAfterCalls}
 use Rattle.paper.specs.Halted.{letsGo, letsGoBy, releases, noneReleases}
-use Rattle.paper.proofs.Phases.{phase-halts}
+use Rattle.paper.proofs.Phases.{phase-halts, other-halts}
 use Rattle.paper.proofs.Table.{codesOf}
 use Rattle.paper.proofs.CallKept.{after-tick-call}
 use Rattle.paper.proofs.Numbers.{command-taken}
 use Rattle.paper.proofs.Nested.{executed-so}
 
--- what is suspended stays so where something begins or goes on, and when it ends
-pub going-halted : (f : Phase) (o : Operation) → halted (workingOn f o) ≡ halted f
-going-halted Idle o = refl
-going-halted (Busy x) o = refl
-going-halted (Suspended x) o = refl
-going-halted (Nested x e) o = refl
-
-pub rest-halted : (f : Phase) → halted (restOf f) ≡ halted f
-rest-halted Idle = refl
-rest-halted (Busy x) = refl
-rest-halted (Suspended x) = refl
-rest-halted (Nested x e) = refl
-
+-- what is suspended stays so where something goes on, and when it ends
 worked-halted : (p : Record) (o : Operation) (t : Bool) → halted (cond t (advanced p (advancedBy 1 o)) (finished p o) .phase) ≡ halted (p .phase)
-worked-halted p o true = going-halted (p .phase) (advancedBy 1 o)
-worked-halted p o false = rest-halted (p .phase)
+worked-halted p o true = other-halts (p .phase) (At (advancedBy 1 o))
+worked-halted p o false = other-halts (p .phase) NoWork
 
 ticked-halted : (p : Record) (w : Work) → halted (tickedAt p w .phase) ≡ halted (p .phase)
 unfolding worked
@@ -82,7 +69,7 @@ no-suspend f e h t = false≢true (sym (ap (λ (w : Work). not (workIs anyOperat
 module _ (p : Record) (e : Operation) (h : halted (p .phase) ≡ At e) where
   starts-halted : (w : Work) (d : Data) (i : List ℕ) → halted (changed (starts w (p .part) (p .phase) d) i p .phase) ≡ At e
   starts-halted NoWork d i = h
-  starts-halted (At o) d i = going-halted (p .phase) o ∙ h
+  starts-halted (At o) d i = other-halts (p .phase) (At o) ∙ h
 
   begun-halted : (k : Command) (d : Data) (i : List ℕ) → halted (changed (starts (begins (columns k .effect) (p .part .blocks) i) (p .part) (p .phase) d) i p .phase) ≡ At e
   begun-halted k d i = starts-halted (begins (columns k .effect) (p .part .blocks) i) d i

@@ -1,12 +1,12 @@
 -- What runs, and the phases that follow.
-use mathlib.Core.Path.{_≡_, refl, sym, ap}
+use mathlib.Core.Path.{_≡_, refl, sym, ap, _∙_}
 use mathlib.Core.Bool.{Bool, true, false, false≢true}
 use Rattle.types.specs.declared.Operation.{Operation}
 use Rattle.types.specs.declared.Phase.{Phase}
 use Rattle.types.specs.declared.Phase.the-variants.{Idle, Busy, Suspended, Nested}
 use Rattle.types.specs.declared.Work.{Work}
 use Rattle.types.specs.declared.Work.the-variants.{NoWork, At}
-use Rattle.paper.specs.Phases.{running, halted, workIs, anyOperation, isBusy, isSuspended, isIdle, phaseOf, workingOn, restOf}
+use Rattle.paper.specs.Phases.{running, halted, workIs, anyOperation, isBusy, isSuspended, isIdle, phaseOf, runningIn}
 
 -- no operation is one
 abbrev isWork : Work → Bool
@@ -42,37 +42,19 @@ phase-halts (At o) NoWork = refl
 phase-halts NoWork (At e) = refl
 phase-halts (At o) (At e) = refl
 
--- what a part works on runs, and ends in the same rest
-pub going-runs : (f : Phase) (o : Operation) → running (workingOn f o) ≡ At o
-going-runs Idle o = refl
-going-runs (Busy y) o = refl
-going-runs (Suspended y) o = refl
-going-runs (Nested z y) o = refl
+-- with other work running, or none, it is what runs, and what is suspended is as it was
+pub other-runs : (f : Phase) (w : Work) → running (runningIn f w) ≡ w
+other-runs f w = phase-runs w (halted f)
 
-pub going-on : (f : Phase) (x o : Operation) → workingOn (workingOn f x) o ≡ workingOn f o
-going-on Idle x o = refl
-going-on (Busy y) x o = refl
-going-on (Suspended y) x o = refl
-going-on (Nested z y) x o = refl
+pub other-halts : (f : Phase) (w : Work) → halted (runningIn f w) ≡ halted f
+other-halts f w = phase-halts w (halted f)
 
-pub going-same : (f : Phase) (o : Operation) → running f ≡ At o → workingOn f o ≡ f
-going-same Idle o e = absurd (no-work-at e)
-going-same (Busy y) o e = ap Busy (sym (at-same e))
-going-same (Suspended y) o e = absurd (no-work-at e)
-going-same (Nested z y) o e = ap (λ (t : Operation). Nested t y) (sym (at-same e))
+-- so other work in its place leaves nothing of it, and the same work changes nothing
+pub other-again : (f : Phase) (v w : Work) → runningIn (runningIn f v) w ≡ runningIn f w
+other-again f v w = ap (phaseOf w) (other-halts f v)
 
-pub going-rest : (f : Phase) (o : Operation) → restOf (workingOn f o) ≡ restOf f
-going-rest Idle o = refl
-going-rest (Busy y) o = refl
-going-rest (Suspended y) o = refl
-going-rest (Nested z y) o = refl
-
--- the rest of what runs is no work
-pub rest-idle : (f : Phase) → running (restOf f) ≡ NoWork
-rest-idle Idle = refl
-rest-idle (Busy o) = refl
-rest-idle (Suspended o) = refl
-rest-idle (Nested o e) = refl
+pub other-same : (f : Phase) (w : Work) → running f ≡ w → runningIn f w ≡ f
+other-same f w e = ap (λ (v : Work). runningIn f v) (sym e) ∙ phase-works f
 
 -- a busy part is not idle
 pub busy-not-idle : (f : Phase) → isBusy f ≡ true → isIdle f ≡ false

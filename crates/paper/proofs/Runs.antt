@@ -23,7 +23,7 @@ use Rattle.paper.specs.Phases.{running, workIs, anyOperation, workingOn,
 use Rattle.paper.specs.Records.{made}
 use Rattle.paper.specs.Operations.{ticksInAll, ticksDone, advancedBy, Touch, none, nextTouch, touched}
 use Rattle.paper.specs.Ticks.{finished, advanced, worked, tickedAt, tickOnce, touchAt, touchOf, works, recordAfter, memoryAfter, workingTicks, ran}
-use Rattle.paper.proofs.Phases.{going-runs, going-on, going-same, going-rest, rest-idle}
+use Rattle.paper.proofs.Phases.{other-runs, other-again, other-same}
 use Rattle.paper.proofs.Soundness.{recordOf}
 
 -- 1 where there is work
@@ -70,18 +70,18 @@ module _ (p : Record) (o : Operation) (e : running (p .phase) ≡ At o) where
 module _ (p : Record) (o : Operation) (e : running (p .phase) ≡ At o) where
   -- the same with its operation at another point
   runs-at : (x : Operation) → running (advanced p x .phase) ≡ At x
-  runs-at x = going-runs (p .phase) x
+  runs-at x = other-runs (p .phase) (At x)
 
   advanced-again : (x y : Operation) → advanced (advanced p x) y ≡ advanced p y
-  advanced-again x y = ap (λ (f : Phase). recordOf (p .part) f (p .page)) (going-on (p .phase) x y)
+  advanced-again x y = ap (λ (f : Phase). recordOf (p .part) f (p .page)) (other-again (p .phase) (At x) (At y))
 
   advanced-none : advanced p (advancedBy 0 o) ≡ p
   advanced-none =
-      ap (λ (f : Phase). recordOf (p .part) f (p .page)) (ap (workingOn (p .phase)) (by-none o) ∙ going-same (p .phase) o e)
+      ap (λ (f : Phase). recordOf (p .part) f (p .page)) (ap (workingOn (p .phase)) (by-none o) ∙ other-same (p .phase) (At o) e)
 
   finished-from : (t : ℕ) → finished (advanced p (advancedBy t o)) (advancedBy t o) ≡ finished p o
   finished-from t =
-      ap (λ (f : Phase). recordOf (made (p .part) (storedAfter (advancedBy t o) (p .part .stored)) f false) f noData) (going-rest (p .phase) (advancedBy t o))
+      ap (λ (f : Phase). recordOf (made (p .part) (storedAfter (advancedBy t o) (p .part .stored)) f false) f noData) (other-again (p .phase) (At (advancedBy t o)) NoWork)
       ∙ ap (λ (g : Stored). recordOf (made (p .part) g (restOf (p .phase)) false) (restOf (p .phase)) noData) (by-stored t o (p .part .stored))
 
   -- its record after k ticks that are not the last: so many ticks more are done
@@ -105,14 +105,14 @@ module _ (p : Record) (o : Operation) (e : running (p .phase) ≡ At o) where
   -- ticks past the last change nothing
   pub run-past : (k j : ℕ) → ticksDone o + suc k ≡ ticksInAll o (p .part .blocks) → recordAfter (suc k + j) p ≡ finished p o
   run-past k zero h = rw add-zero (run-last k h)
-  run-past k (suc j) h = rw add-suc (ap tickOnce (run-past k j h) ∙ ap (tickedAt (finished p o)) (rest-idle (p .phase)))
+  run-past k (suc j) h = rw add-suc (ap tickOnce (run-past k j h) ∙ ap (tickedAt (finished p o)) (other-runs (p .phase) NoWork))
 
   -- what k ticks reach
   pub run-touch : (k : ℕ) → ticksDone o + k < ticksInAll o (p .part .blocks) → touchOf (recordAfter k p) ≡ nextTouch (advancedBy k o) (p .page)
   run-touch k h = ap touchOf (run-record k h) ∙ ap (λ (w : Work). touchAt w (p .page)) (runs-at (advancedBy k o))
 
   pub past-touch : touchOf (finished p o) ≡ none
-  past-touch = ap (λ (w : Work). touchAt w noData) (rest-idle (p .phase))
+  past-touch = ap (λ (w : Work). touchAt w noData) (other-runs (p .phase) NoWork)
 
   pub run-memory : (m : Memory) (xs : List ℕ) (k : ℕ) → ticksDone o + k ≤ ticksInAll o (p .part .blocks) → memoryAfter m k p xs ≡ ran m k o (p .page) xs
   run-memory m xs zero h = refl
@@ -135,7 +135,7 @@ module _ (p : Record) (o : Operation) (e : running (p .phase) ≡ At o) where
   pub run-works-past : (k j : ℕ) → ticksDone o + suc k ≡ ticksInAll o (p .part .blocks) → workingTicks (suc k + j) p ≡ suc k
   run-works-past k zero h = rw add-zero (run-works (suc k) (omega arith))
   run-works-past k (suc j) h =
-      let w : works (recordAfter (suc k + j) p) ≡ 0 = ap works (run-past k j h) ∙ ap workBit (rest-idle (p .phase)) in
+      let w : works (recordAfter (suc k + j) p) ≡ 0 = ap works (run-past k j h) ∙ ap workBit (other-runs (p .phase) NoWork) in
       rw (add-suc) (rw (w, run-works-past k j h) (add-zero (suc k)))
 
   -- n ticks, of which k find something left to do

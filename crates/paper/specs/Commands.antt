@@ -1,7 +1,7 @@
 -- What a transaction makes of the record.
 use Prim.Native.Nat.{ℕ, _+_}
 use mathlib.Core.List.{List}
-use mathlib.Core.Bool.{Bool, true, false, cond}
+use mathlib.Core.Bool.{true, false, cond}
 use lib.ListN.{getD}
 use lib.Dec.{eqb}
 use Rattle.types.specs.declared.Phase.{Phase}
@@ -59,33 +59,29 @@ begins Resets n i = NoWork
 begins SetsLive n i = NoWork
 begins ClearsErrors n i = NoWork
 
--- every transaction but an executed 66h leaves the part unarmed: so the part anew
-abbrev pub unarmed : Part → Change
-unarmed p = Anew (marked p false)
-
--- the part in another phase with another latch, unarmed too
-abbrev pub turned : Part → Phase → Bool → Part
-turned p f wel = marked (settled p f wel) false
+-- every transaction but an executed 66h leaves the part unarmed
+abbrev pub unarmed : Part → Part
+unarmed p = marked p false
 
 -- the part busy with the operation that a command begins, which has no tick done; WEL stays 1
 abbrev pub starts : Work → Part → Phase → Data → Change
 starts NoWork p f d = Marked false
-starts (At o) p f d = Runs (turned p (workingOn f o) true) d (At o)
+starts (At o) p f d = Runs (unarmed (settled p (workingOn f o) true)) d (At o)
 
 -- what an executed command changes, of a part in a phase, where it begins w, with the input i
 abbrev pub changeBy : Effect → Work → Part → Phase → List ℕ → Change
 changeBy Looks w p f i = Marked false
-changeBy Enables w p f i = unarmed (settled p f true)
-changeBy Disables w p f i = unarmed (settled p f false)
+changeBy Enables w p f i = Anew (unarmed (settled p f true))
+changeBy Disables w p f i = Anew (unarmed (settled p f false))
 changeBy (Programs m) w p f i = starts w p f Sent
 changeBy (Erases u) w p f i = starts w p f Kept
 changeBy (Writes r) w p f i = starts w p f Kept
 -- WIP and WEL become 0, PSUS or ESUS 1
-changeBy Suspends w p f i = Halts (turned p (suspendedIn f) false)
+changeBy Suspends w p f i = Halts (unarmed (settled p (suspendedIn f) false))
 -- resume goes on with the next tick and sets WEL to 1
-changeBy Resumes w p f i = GoesOn (turned p (resumedIn f) true)
-changeBy Sleeps w p f i = unarmed (resting p true)
-changeBy Wakes w p f i = unarmed (resting p false)
+changeBy Resumes w p f i = GoesOn (unarmed (settled p (resumedIn f) true))
+changeBy Sleeps w p f i = Anew (unarmed (resting p true))
+changeBy Wakes w p f i = Anew (unarmed (resting p false))
 changeBy Arms w p f i = Marked true
 -- both operations dropped, WEL 0, awake, unarmed, the live byte loaded: what power-up gives for the same size, identity and stored register bits
 changeBy Resets w p f i = Clears (freshPart (p .blocks) (p .identity) (p .stored))

@@ -4,7 +4,7 @@ use mathlib.Core.Path.{_≡_}
 use mathlib.Core.Bool.{Bool, true, false, not}
 use mathlib.Core.List.{List, [], _∷_, _++_}
 use lib.ListN.{getD}
-use lib.Dec.{eqb, leb, ltb}
+use lib.Dec.{eqb}
 use Rattle.types.specs.declared.Memory.{Memory}
 use Rattle.types.specs.declared.Operation.{Operation}
 use Rattle.types.specs.declared.Operation.the-variants.{Program, Erase, Write}
@@ -17,7 +17,7 @@ use Rattle.types.specs.declared.Effect.{Effect}
 use Rattle.types.specs.declared.Effect.the-variants.{Looks, Enables, Disables, Programs, Erases, Writes, Suspends, Resumes, Sleeps, Wakes, Arms, Resets, SetsLive, ClearsErrors}
 use Rattle.types.specs.declared.Record.{Record}
 use Rattle.words.specs.Logic.{_and_}
-use Rattle.paper.specs.Sizes.{arrayBytes, rowsBytes, pageBytes, sameMemory}
+use Rattle.paper.specs.Sizes.{arrayBytes, rowsBytes, pageBytes, sameMemory, fromOn}
 use Rattle.paper.specs.Erase.{memoryOf, erasedByte}
 use Rattle.paper.specs.Phases.{running, halted}
 use Rattle.paper.specs.Table.{decoded, columns}
@@ -68,7 +68,7 @@ interrupted d suspend cs resume = ticks d ∷ suspend ∷ (cs ++ (resume ∷ [])
 -- a place lies in the pages that an operation has done, if it is an erase
 abbrev pub inDone : Operation → Memory → ℕ → Bool
 inDone (Program m s b k d) w a = false
-inDone (Erase u b d) w a = sameMemory w (memoryOf u) and leb b a and ltb a (b + d * pageBytes)
+inDone (Erase u b d) w a = sameMemory w (memoryOf u) and fromOn b (d * pageBytes) a
 inDone (Write r v) w a = false
 
 -- the byte x at a place of a memory is FFh, if the place lies in the pages that an erase has done

@@ -3,13 +3,13 @@ use Prim.Native.Nat.{ℕ, zero, suc, _+_}
 use mathlib.Core.List.{List, [], _∷_, _++_}
 use mathlib.Core.Bool.{Bool, true, not, cond}
 use lib.ListN.{length}
-use lib.Dec.{eqb, ltb, leb}
+use lib.Dec.{eqb}
 use Rattle.types.specs.declared.Memory.{Memory}
 use Rattle.types.specs.declared.Identity.{Identity}
 use Rattle.types.specs.declared.Stored.{Stored}
 use Rattle.types.specs.declared.Record.{Record}
 use Rattle.words.specs.Logic.{_and_, whenZero}
-use Rattle.paper.specs.Sizes.{arrayBytes, rowsBytes, pageBytes, sameMemory}
+use Rattle.paper.specs.Sizes.{arrayBytes, rowsBytes, pageBytes, sameMemory, fromOn}
 use Rattle.paper.specs.Program.{narrowedByte}
 use Rattle.paper.specs.Erase.{erasedByte}
 use Rattle.paper.specs.Operations.{free, Touch, none, blank, narrow}
@@ -59,7 +59,7 @@ historyOf n id s cs = history cs (poweredUp n id s .next)
 -- the byte x at a place of a memory after a touch: set to FFh by an erase tick that reached it, narrowed by a program tick that did
 abbrev pub byteAfter : Memory → ℕ → Touch → ℕ → ℕ
 byteAfter m at none x = x
-byteAfter m at (blank w b) x = cond (sameMemory m w and leb b at and ltb at (b + pageBytes)) erasedByte x
+byteAfter m at (blank w b) x = cond (sameMemory m w and fromOn b pageBytes at) erasedByte x
 byteAfter m at (narrow w a d) x = cond (sameMemory m w and eqb at a) (narrowedByte x d) x
 
 -- the byte after a history, from its starting value

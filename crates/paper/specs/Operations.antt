@@ -3,7 +3,7 @@ use Prim.Native.Nat.{ℕ, _+_, _*_, _/_}
 use mathlib.Core.List.{List}
 use mathlib.Core.Bool.{Bool, true, false, not, cond}
 use lib.ListN.{getD}
-use lib.Dec.{eqb, ltb, leb}
+use lib.Dec.{eqb, leb}
 use Rattle.types.specs.declared.Memory.{Memory}
 use Rattle.types.specs.declared.Memory.the-variants.{Array, Rows}
 use Rattle.types.specs.declared.EraseUnit.{EraseUnit}
@@ -14,7 +14,7 @@ use Rattle.types.specs.declared.Operation.the-variants.{Program, Erase, Write}
 use Rattle.types.specs.declared.Work.{Work}
 use Rattle.types.specs.declared.Work.the-variants.{NoWork, At}
 use Rattle.words.specs.Logic.{_and_}
-use Rattle.paper.specs.Sizes.{memoryBytes, sameMemory, pageBytes}
+use Rattle.paper.specs.Sizes.{memoryBytes, sameMemory, fromOn, pageBytes}
 use Rattle.paper.specs.Protection.{codeOf, protectedAt, locked}
 use Rattle.paper.specs.Program.{pageBase, pagePlace, narrowed}
 use Rattle.paper.specs.Erase.{memoryOf, unitPages, unitBytes, unitBase, pageErased}
@@ -90,7 +90,7 @@ canSuspend (Write r v) = false
 -- a place of a memory lies in its unit, if it is an erase
 abbrev pub inUnit : Operation → ℕ → Memory → ℕ → Bool
 inUnit (Program m s b k d) n w a = false
-inUnit (Erase u b d) n w a = sameMemory w (memoryOf u) and leb b a and ltb a (b + unitBytes u n)
+inUnit (Erase u b d) n w a = sameMemory w (memoryOf u) and fromOn b (unitBytes u n) a
 inUnit (Write r v) n w a = false
 
 -- an operation lies outside the unit of another: the page of a program does (nothing else is asked)

@@ -1,10 +1,10 @@
 -- The part on the bench: its sizes.
-use Prim.Native.Nat.{ℕ, _*_, _/_}
+use Prim.Native.Nat.{ℕ, _+_, _*_, _/_}
 use mathlib.Core.Bool.{Bool, true, false}
-use lib.Dec.{eqb}
+use lib.Dec.{eqb, ltb, leb}
 use Rattle.types.specs.declared.Memory.{Memory}
 use Rattle.types.specs.declared.Memory.the-variants.{Array, Rows}
-use Rattle.words.specs.Logic.{_or_}
+use Rattle.words.specs.Logic.{_and_, _or_}
 
 -- 4, 8 or 16 blocks, and one short size of 1 block
 unfoldable pub sizeOk : ℕ → Bool
@@ -28,6 +28,10 @@ sameMemory Array Array = true
 sameMemory Array Rows = false
 sameMemory Rows Array = false
 sameMemory Rows Rows = true
+
+-- a place is one of size bytes from the place b on
+abbrev pub fromOn : ℕ → ℕ → ℕ → Bool
+fromOn b size a = leb b a and ltb a (b + size)
 
 -- the bytes of a memory of a part of n blocks
 abbrev pub memoryBytes : Memory → ℕ → ℕ

@@ -85,11 +85,6 @@ module _ (bs : List ℕ) (l : length bs ≡ recordLength) where
     abbrev doing : List ℕ
     doing = take partLength bs ++ (y ++ drop phaseLength (drop partLength bs))
 
-    pub doing-length : length doing ≡ recordLength
-    doing-length =
-        length-append (take partLength bs) (y ++ drop phaseLength (drop partLength bs))
-        ∙ simp (length-append, length-take, length-drop) (omega (arith, ap length e, phase-length f))
-
     pub part-laid : (p : Part) → partBytes p ++ drop partLength doing ≡ header p f ++ drop headerLength bs
     part-laid p =
         let t : length (take partLength bs) ≡ partLength = simp length-take (omega arith) in
@@ -115,11 +110,6 @@ module _ (bs : List ℕ) (l : length bs ≡ recordLength) where
   module _ (w : Work) (y : List ℕ) (e : y ≡ operationBytes (workCells w)) where
     abbrev going : List ℕ
     going = take partLength bs ++ (y ++ drop operationLength (drop partLength bs))
-
-    pub going-length : length going ≡ recordLength
-    going-length =
-        length-append (take partLength bs) (y ++ drop operationLength (drop partLength bs))
-        ∙ simp (length-append, length-take, length-drop) (omega (arith, ap length e, operation-length (workCells w)))
 
     pub part-kept : (p : Part) → partBytes p ++ drop partLength going ≡ headerRunning p w bs ++ drop headerLength bs
     part-kept p =
@@ -235,9 +225,6 @@ module _ (z : List ℕ) (l : length z ≡ phaseLength) (w h : Work) (a : List �
 
   a-length : length a ≡ operationLength
   a-length = ap length ea ∙ operation-length (workCells w)
-
-  pub ran-length : length ran ≡ phaseLength
-  ran-length = simp (length-append, length-drop) (omega (arith, a-length))
 
   module _ (b : List ℕ) (eb : b ≡ operationBytes (workCells h)) where
     b-length : length b ≡ operationLength

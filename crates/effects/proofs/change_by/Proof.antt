@@ -48,8 +48,11 @@ enum-told-7 c = search needs
 suspended-in-requires : tie.Need-suspended-in-requires
 suspended-in-requires c κs = search needs
 
-turn-requires : tie.Need-turn-requires
-turn-requires c κs = search needs
+settle-requires-3 : tie.Need-settle-requires-3
+settle-requires-3 c κs = search needs
+
+unarm-requires-3 : tie.Need-unarm-requires-3
+unarm-requires-3 c κs = search needs
 
 enum-told-8 : tie.Need-enum-told-8
 enum-told-8 c = search needs
@@ -57,8 +60,11 @@ enum-told-8 c = search needs
 resumed-in-requires : tie.Need-resumed-in-requires
 resumed-in-requires c κs = search needs
 
-turn-requires-2 : tie.Need-turn-requires-2
-turn-requires-2 c κs = search needs
+settle-requires-4 : tie.Need-settle-requires-4
+settle-requires-4 c κs = search needs
+
+unarm-requires-4 : tie.Need-unarm-requires-4
+unarm-requires-4 c κs = search needs
 
 enum-told-9 : tie.Need-enum-told-9
 enum-told-9 c = search needs
@@ -66,8 +72,8 @@ enum-told-9 c = search needs
 rest-requires : tie.Need-rest-requires
 rest-requires c κs = search needs
 
-unarm-requires-3 : tie.Need-unarm-requires-3
-unarm-requires-3 c κs = search needs
+unarm-requires-5 : tie.Need-unarm-requires-5
+unarm-requires-5 c κs = search needs
 
 enum-told-10 : tie.Need-enum-told-10
 enum-told-10 c = search needs
@@ -75,8 +81,8 @@ enum-told-10 c = search needs
 rest-requires-2 : tie.Need-rest-requires-2
 rest-requires-2 c κs = search needs
 
-unarm-requires-4 : tie.Need-unarm-requires-4
-unarm-requires-4 c κs = search needs
+unarm-requires-6 : tie.Need-unarm-requires-6
+unarm-requires-6 c κs = search needs
 
 enum-told-11 : tie.Need-enum-told-11
 enum-told-11 c = search needs
@@ -124,16 +130,16 @@ returns-6 : tie.Need-returns-6
 returns-6 c = rw (c .before .enum-told6 .given .1) (c .start3 .ensures)
 
 returns-7 : tie.Need-returns-7
-returns-7 c = rw (c .before .before .enum-told7 .given .1, c .turn .ensures, c .before .suspended-in .ensures)
+returns-7 c = rw (c .before .before .before .enum-told7 .given .1, c .unarm3 .ensures, c .before .settle3 .ensures, c .before .before .suspended-in .ensures)
 
 returns-8 : tie.Need-returns-8
-returns-8 c = rw (c .before .before .enum-told8 .given .1, c .turn2 .ensures, c .before .resumed-in .ensures)
+returns-8 c = rw (c .before .before .before .enum-told8 .given .1, c .unarm4 .ensures, c .before .settle4 .ensures, c .before .before .resumed-in .ensures)
 
 returns-9 : tie.Need-returns-9
-returns-9 c = rw (c .before .before .enum-told9 .given .1, c .unarm3 .ensures, c .before .rest .ensures)
+returns-9 c = rw (c .before .before .enum-told9 .given .1, c .unarm5 .ensures, c .before .rest .ensures)
 
 returns-10 : tie.Need-returns-10
-returns-10 c = rw (c .before .before .enum-told10 .given .1, c .unarm4 .ensures, c .before .rest2 .ensures)
+returns-10 c = rw (c .before .before .enum-told10 .given .1, c .unarm6 .ensures, c .before .rest2 .ensures)
 
 returns-11 : tie.Need-returns-11
 returns-11 c = rw (c .enum-told11 .given .1)
@@ -166,16 +172,18 @@ change-by-spec =
     start-requires-3
     enum-told-7
     suspended-in-requires
-    turn-requires
+    settle-requires-3
+    unarm-requires-3
     enum-told-8
     resumed-in-requires
-    turn-requires-2
+    settle-requires-4
+    unarm-requires-4
     enum-told-9
     rest-requires
-    unarm-requires-3
+    unarm-requires-5
     enum-told-10
     rest-requires-2
-    unarm-requires-4
+    unarm-requires-6
     enum-told-11
     enum-told-12
     fresh-part-requires

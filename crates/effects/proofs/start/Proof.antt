@@ -12,14 +12,17 @@ enum-known-work c = search needs
 working-on-requires : tie.Need-working-on-requires
 working-on-requires c κs = search needs
 
-turn-requires : tie.Need-turn-requires
-turn-requires c κs = search needs
+settle-requires : tie.Need-settle-requires
+settle-requires c κs = search needs
+
+unarm-requires : tie.Need-unarm-requires
+unarm-requires c κs = search needs
 
 returns : tie.Need-returns
 returns c = rw (c .enum-told .given .1)
 
 returns-2 : tie.Need-returns-2
-returns-2 c = rw (c .before .before .before .work .given .1, c .turn .ensures, c .before .working-on .ensures)
+returns-2 c = rw (c .before .before .before .before .work .given .1, c .unarm .ensures, c .before .settle .ensures, c .before .before .working-on .ensures)
 
 pub start-spec : {M : Type 1} → statement M
 start-spec =
@@ -28,6 +31,6 @@ start-spec =
     enum-told
     enum-known-work
     working-on-requires
-    turn-requires
+    settle-requires unarm-requires
     returns
     returns-2)
