@@ -3,12 +3,13 @@
 #   file: src/lib.rt          holds for the pairs after it
 #   wrong: NAME               a wrong answer
 #   in: FUNCTION              whose body it changes; or `law FILE.NAME`, which refuses a wrong definition
+#   at: FACT                  the fact of its contract that fails; where the group has several in one function
 #   says: WORDS               what it gets wrong
 #   old: TEXT                 a pair, and there may be several
 #   new: TEXT
 #
-# A line for each: the crate, the group, the name, the function, the words, and where its pairs change the crate, as
-# FILE:LINE, with 0 for a text that does not stand there once.
+# A line for each: the crate, the group, the name, the function, the words, where its pairs change the crate, as
+# FILE:LINE, with 0 for a text that does not stand there once, and the fact.
 BEGIN {
     OFS = "\t"
     split(file, folder, "/")
@@ -17,8 +18,8 @@ BEGIN {
     sub(/\.edit$/, "", group)
 }
 function end_answer() {
-    if (wrong != "") print crate, group, wrong, within, says, places
-    wrong = within = says = places = ""
+    if (wrong != "") print crate, group, wrong, within, says, places, fact
+    wrong = within = says = places = fact = ""
 }
 function line_of(old,    source, line, n, at, found) {
     source = "crates/" crate "/" changed
@@ -32,6 +33,7 @@ function line_of(old,    source, line, n, at, found) {
 /^file: / { changed = substr($0, 7) }
 /^wrong: / { end_answer(); wrong = substr($0, 8) }
 /^in: / { within = substr($0, 5) }
+/^at: / { fact = substr($0, 5) }
 /^says: / { says = substr($0, 7) }
 /^old: / {
     if (wrong == "") wrong = "?"

@@ -57,9 +57,12 @@ stage == "answers" {
     if ($4 == "" || $5 == "" || $6 == "") { wrong(at ": " $3 " lacks its `in:`, its `says:` or its pair"); next }
     if (($1 "/" $3) in answer) wrong(at ": " $3 " stands in " edit_file($1, answer[$1 "/" $3]) " too")
     answer[$1 "/" $3] = $2
-    if (($1, $2, $4) in alone) wrong(at ": " $3 " and " alone[$1, $2, $4] " are both in " $4 ", and the log could not tell which is refused")
+    if (($1, $2, $4) in alone && (facts[$1, $2, $4] == "" || $7 == "" || ($1, $2, $4, $7) in fact))
+        wrong(at ": " $3 " and " alone[$1, $2, $4] " are both in " $4 ", and the log could not tell which is refused")
     alone[$1, $2, $4] = $3
-    wants[++want_count] = $1 "\t" $2 "\t" $4 "\t" $3
+    facts[$1, $2, $4] = $7
+    fact[$1, $2, $4, $7] = 1
+    wants[++want_count] = $1 "\t" $2 "\t" $4 "\t" $3 "\t" $7
     count = split($6, pairs, " ")
     for (k = 1; k <= count; k++) {
         split(pairs[k], spot, ":")
@@ -74,7 +77,7 @@ stage == "answers" {
     if ($4 ~ /^law /) { if (!(key in law)) laws[$1] = laws[$1] (laws[$1] == "" ? "" : "\t") key; law[key] = substr($4, 5) }
     next
 }
-stage == "refused" { refused[$1 "\t" $2 "\t" $3] = 1; next }
+stage == "refused" { refused[$1 "\t" $2 "\t" $3 "\t"] = refused[$1 "\t" $2 "\t" $3 "\t" $4] = 1; next }
 
 stage == "page" {
     page_line[++page_count] = $0
@@ -120,7 +123,7 @@ END {
     }
     if (mode == "--logs") for (i = 1; i <= want_count; i++) {
         split(wants[i], want, "\t")
-        if (!((want[1] "\t" want[2] "\t" want[3]) in refused)) wrong(edit_file(want[1], want[2]) ": " want[4] " is not refused at " want[3] " itself, by a fact of its own (target/must-fail/" want[1] "/" want[2] "/.log)")
+        if (!((want[1] "\t" want[2] "\t" want[3] "\t" want[5]) in refused)) wrong(edit_file(want[1], want[2]) ": " want[4] " is not refused at " want[3] " itself, by " (want[5] == "" ? "a fact of its own" : "its `" want[5] "`") " (target/must-fail/" want[1] "/" want[2] "/.log)")
     }
     make_list()
     if (!list_start || list_end < list_start) wrong(page ": it lacks the lines '" start "' and '" end "'")

@@ -1,5 +1,5 @@
-# What was refused in the log of a group for a fact of its own. A line for each: the crate, the group, and the function
-# or the law.
+# What was refused in the log of a group for a fact of its own. A line for each: the crate, the group, the function or
+# the law, and of a function the fact, where its proof names it.
 #
 # A function is refused by itself where a fact of its contract fails: what it leaves when it returns (`returns`), or
 # after a turn of a loop (`loop-again`), in its own proof, or in the one that is made for it where it has none. That an
@@ -16,7 +16,7 @@ function judge(said,    place, fact) {
         if (sub(/\/Proof$/, "", place)) {
             if (fact !~ /^(returns|loop-again)(-[0-9]+)?$/) return
             gsub(/\//, "::", place)
-            print crate, group, place
+            print crate, group, place, fact
         } else {
             gsub(/\//, ".", place)
             print crate, group, "law " place "." fact
