@@ -27,21 +27,28 @@ extern "C" {
  * count take no address:
  *
  *   code     the block protection bits BP3..BP0 of the status register, as a number from 0 to 15,
- *            with BP0 as its lowest bit: (status >> 2) & 15
- *   blocks   the size of the array in blocks of 65,536 bytes: 1, 4, 8 or 16
+ *            with BP0 as its lowest bit: (status >> 2) & 15. On 512 blocks it is 16 more where the top or bottom
+ *            bit TBS, bit 1 of the function register, is 1: a number from 0 to 31,
+ *            ((status >> 2) & 15) | ((function & 2) << 3)
+ *   blocks   the size of the array in blocks of 65,536 bytes: 1, 4, 8, 16 or 512
  *   address  any number
  *
- * The rule, for an array of N blocks, which are numbered from 0:
+ * The rule, for an array of N = 1, 4, 8 or 16 blocks, which are numbered from 0:
  *   code 0 or 15    no block is protected;
  *   code c, 1..7    the top min(N, 2^(c-1)) blocks are protected;
  *   code c, 8..14   the bottom min(N, 2^(14-c)) blocks are protected.
+ * and of 512 blocks:
+ *   code 0 or 16            no block is protected;
+ *   code c, 1..9            the top 2^(c-1) blocks are protected;
+ *   code 16 + c, c = 1..9   the bottom 2^(c-1) blocks are protected;
+ *   10..15 and 26..31       all blocks are protected.
  */
 
 /*
  * Says whether the question can be answered. The address does not matter to it. The result is
  *   0  if it can;
- *   1  if blocks is not 1, 4, 8 or 16;
- *   5  if blocks is one of these and code is above 15.
+ *   1  if blocks is not 1, 4, 8, 16 or 512;
+ *   5  if blocks is one of these and code is above 15, of 512 blocks above 31.
  * The size is judged first: where both are wrong, the result is 1.
  */
 uint64_t yawlspar_protection_number(uint64_t code, uint64_t blocks, uint64_t address);
@@ -53,8 +60,8 @@ uint64_t yawlspar_protection_number(uint64_t code, uint64_t blocks, uint64_t add
  *
  * first + count is at most blocks, and a count of 0 goes with a first of 0. A program, or an erase of a sector or
  * of a block of 32 or 64 Kbyte, whose address lies in one of these blocks is ignored, with 28 if no lower number
- * applies. A chip erase goes by the code itself, which has to be 0: code 15 protects no block, and a chip erase is
- * ignored under it all the same.
+ * applies. A chip erase goes by BP3..BP0, which have to be 0: of 1 to 16 blocks code 15 protects none, and a chip erase
+ * is ignored under it all the same.
  */
 uint64_t yawlspar_protected_first(uint64_t code, uint64_t blocks);
 uint64_t yawlspar_protected_count(uint64_t code, uint64_t blocks);
@@ -92,7 +99,7 @@ uint64_t yawlspar_page_place(uint64_t start, uint64_t index);
  * the lowest is the answer. A call that is refused, with 1 to 6, leaves every byte of every buffer as it
  * was, and the number above is 0.
  */
-#define YAWLSPAR_RECORD_BYTES 333
+#define YAWLSPAR_RECORD_BYTES 334
 #define YAWLSPAR_NUMBER(r) ((r) & 255)
 #define YAWLSPAR_PLACE(r) ((r) >> 8)
 #define YAWLSPAR_TICKS(r) ((r) >> 8)
@@ -101,17 +108,19 @@ uint64_t yawlspar_page_place(uint64_t start, uint64_t index);
  * Power-up: makes the record of a part that is idle and awake.
  *
  *   record                          record_len bytes, which are written
- *   blocks                          the size of the array in blocks: 1, 4, 8 or 16
+ *   blocks                          the size of the array in blocks: 1, 4, 8, 16 or 512
  *   maker, type, capacity, device   the identity bytes
  *   status, function, extended      the stored registers; status bits 1..0, function bits 3..0 and bits 4..0 of
- *                                   the extended read register are zero
+ *                                   the extended read register are zero, but that of 512 blocks function bit 1
+ *                                   is TBS: 0 for top, 1 for bottom. No command changes it
  *
  * The live byte of the extended read register, which 81h reads and 83h sets, is loaded from the stored one, with
- * E_ERR, P_ERR and PROT_E 0.
+ * E_ERR, P_ERR and PROT_E 0. The bank address register, which a part of 512 blocks has, is 00h: three address bytes,
+ * and the lower 16 Mbyte.
  *
  * The number is
  *   0  if the record was written;
- *   1  if blocks is not 1, 4, 8 or 16;
+ *   1  if blocks is not 1, 4, 8, 16 or 512;
  *   5  if record_len is not YAWLSPAR_RECORD_BYTES, if one of the seven other numbers is above 255, or
  *      if a register bit is set that has to be zero.
  */
@@ -152,14 +161,14 @@ uint64_t yawlspar_transact(uint8_t *record, size_t record_len, const uint8_t *ar
  *   record   the part's record; the next one is written over it
  *   array    the part's array, which an operation may write
  *   rows     the four information rows, which an operation may write
- *   ticks    0 to 4,096
+ *   ticks    0 to 4,096; of a part of 512 blocks 0 to 131,072
  *
  * The number is
  *   0  if the ticks were run;
  *   1  if the array's length is not that of the record's size, or that size is none;
  *   2  if rows_len is not 1,024;
  *   5  if the bytes hold no record, or the record is not sound;
- *   6  if ticks is above 4,096.
+ *   6  if ticks is above 4,096, of a part of 512 blocks above 131,072.
  * Where the bytes hold no record there is no size to judge: the number is then 2 or 5. YAWLSPAR_TICKS is
  * how many of the ticks did work.
  */

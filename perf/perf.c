@@ -33,7 +33,7 @@ extern int clock_gettime(int clock, struct timespec *time);
 #define CLOCK_PROCESS_CPUTIME_ID 2 /* what else the machine does does not count */
 #define LEAST_NANOSECONDS 200000000.0
 #define ROUNDS 3
-#define BLOCKS_MOST 16u
+#define BLOCKS_MOST REF_LARGE
 
 static uint8_t record[YAWLSPAR_RECORD_BYTES];
 static struct part part;
@@ -54,7 +54,7 @@ static void must_be(uint64_t got, uint64_t expected)
 static void set_up(uint32_t blocks)
 {
     array_length = (size_t)blocks * REF_BLOCK;
-    memset(array, 0xFF, sizeof array);
+    memset(array, 0xFF, array_length);
     memset(rows, 0xFF, sizeof rows);
     memset(input, 0xFF, sizeof input);
     must_be(yawlspar_power_up(record, sizeof record, blocks, 0x9D, 0x60, 0x14, 0x13, 0, 0, 0), 0);
@@ -219,6 +219,25 @@ static void read_job(const struct one_model *on)
     must_be(on->transact(4096), 0);
 }
 
+/* Four address bytes, in the upper 16 Mbyte. */
+static void put_far(uint8_t code, uint32_t address)
+{
+    put(code, address >> 8);
+    input[4] = (uint8_t)address;
+}
+
+static void far_read_job(const struct one_model *on)
+{
+    put_far(0x13, 0x01001234);
+    must_be(on->transact(4096), 0);
+}
+
+static void enter_far(const struct one_model *on)
+{
+    input[0] = 0xB7;
+    must_be(on->transact(1), 0);
+}
+
 static void write_job(const struct one_model *on, size_t length, uint32_t ticks)
 {
     uint8_t code = input[0];
@@ -234,6 +253,12 @@ static void program_job(const struct one_model *on)
 {
     put(0x02, 0x001200);
     write_job(on, 260, 256);
+}
+
+static void far_program_job(const struct one_model *on)
+{
+    put_far(0x02, 0x01001200);
+    write_job(on, 261, 256);
 }
 
 static void sector_job(const struct one_model *on)
@@ -257,7 +282,7 @@ static void sector_steps_job(const struct one_model *on)
 static void chip_job(const struct one_model *on)
 {
     input[0] = 0xC7;
-    write_job(on, 1, 4096);
+    write_job(on, 1, (uint32_t)(array_length / REF_PAGE));
 }
 
 /* The calls go through pointers, so that the compiler cannot leave one out. */
@@ -269,6 +294,11 @@ static void read_bytes(void)
     copy(output, array + 0x001234, 4092);
 }
 
+static void far_read_bytes(void)
+{
+    copy(output, array + 0x01001234, 4091);
+}
+
 static void sector_bytes(void)
 {
     fill(array + 0x002000, 0xFF, 4096);
@@ -276,7 +306,7 @@ static void sector_bytes(void)
 
 static void chip_bytes(void)
 {
-    fill(array, 0xFF, sizeof array);
+    fill(array, 0xFF, array_length);
 }
 
 struct job {
@@ -312,6 +342,11 @@ static const struct job jobs[] = {
     {"06h, D7h, 16 ticks, 16 blocks", 16, 4096, NULL, sector_job, sector_bytes},
     {"06h, D7h, 16 times 1 tick", 16, 4096, NULL, sector_steps_job, NULL},
     {"06h, C7h, 4,096 ticks, 16 blocks", 16, 1048576, NULL, chip_job, chip_bytes},
+    {"05h of 2 bytes, 512 blocks", 512, 1, NULL, status_job, NULL},
+    {"03h of 4,096 bytes, 512 blocks", 512, 4092, NULL, read_job, read_bytes},
+    {"13h of 4,096 bytes, 512 blocks", 512, 4091, NULL, far_read_job, far_read_bytes},
+    {"06h, 02h far, 256 ticks, 512 blocks", 512, 256, enter_far, far_program_job, NULL},
+    {"06h, C7h, 131,072 ticks, 512 blocks", 512, 33554432, NULL, chip_job, chip_bytes},
 };
 
 static void begin(const struct job *job)
@@ -408,7 +443,7 @@ static void print_job(const struct job *job)
     model = time_of(job, MODEL);
     reference = time_of(job, REFERENCE);
     bytes = time_of(job, BYTES);
-    printf("%-34s %11.0f %11.0f", job->name, 1e9 / model, 1e9 / reference);
+    printf("%-36s %11.0f %11.0f", job->name, 1e9 / model, 1e9 / reference);
     print_rate(job->bytes, model);
     print_rate(job->bytes, reference);
     print_rate(job->bytes, bytes);
@@ -421,8 +456,8 @@ static void print_table(void)
 {
     size_t i;
 
-    printf("%-34s %23s %29s %19s\n", "", "jobs per second", "Mbyte per second", "model's time by");
-    printf("%-34s %11s %11s %9s %9s %9s %9s %9s\n", "job", "model", "reference", "model", "reference", "bytes",
+    printf("%-36s %23s %29s %19s\n", "", "jobs per second", "Mbyte per second", "model's time by");
+    printf("%-36s %11s %11s %9s %9s %9s %9s %9s\n", "job", "model", "reference", "model", "reference", "bytes",
            "reference", "bytes");
     for (i = 0; i < COUNT(jobs); i++)
         print_job(&jobs[i]);

@@ -2,6 +2,7 @@
  *
  *   generate SEED          an input for bench, of 65,536 bytes or some more
  *   generate SEED sizes    an input for bench_sizes, of some 60,000 bytes; each sixth runs past 262,144
+ *   generate SEED 512      the same for bench_sizes on 512 blocks
  *
  * SEED is a decimal number of up to 18 digits. The same arguments give the same bytes.
  *
@@ -20,6 +21,7 @@ struct form {
 
 static const struct form for_bench = {65536, {.message_most = 64, .long_one_in = 16, .blocks = 1}};
 static const struct form for_sizes = {262144, {.message_most = TRAFFIC_MOST, .long_one_in = 100, .blocks = 16}};
+static const struct form for_large = {262144, {.message_most = TRAFFIC_MOST, .long_one_in = 100, .blocks = 512}};
 static const struct form *form;
 
 /* ---- Text ---- */
@@ -118,11 +120,12 @@ static void spoilt(void)
     text[from + below((uint32_t)(length - from))] = pick_byte(bad, COUNT(bad));
 }
 
+/* Where a K line may have six digits, the two of six are good. */
 static const char *const malformed[] = {
     "", " ", "T", "T ", "L", "L ", "K", "K ", "T 0", "T 050", "T 05 ", "T 05\r", "T 05\t", " T 05",
     "T  05", "T\t05", "T05", "T 05 00", "T 0a", "T aB", "t 05", "l 05", "k 1", "T 0x05", "TT 05",
-    "K 123456", "K 000001", "K -1", "K +1", "K 1A", "K A", "K 1 ", "K 1\r", "K  1", "K1", "K 1 1",
-    "05", "1", "?", "\r", "\t", "X 05", "T-05", "K 1.5", "T 5", "T 050g", "T 06,", "#", "T: 06"};
+    "K 123456", "K 000001", "K 1234567", "K 0000001", "K -1", "K +1", "K 1A", "K A", "K 1 ", "K 1\r", "K  1",
+    "K1", "K 1 1", "05", "1", "?", "\r", "\t", "X 05", "T-05", "K 1.5", "T 5", "T 050g", "T 06,", "#", "T: 06"};
 
 static void malformed_line(void)
 {
@@ -151,7 +154,9 @@ static void malformed_line(void)
 
 static uint32_t too_many_ticks(void)
 {
-    return one_in(2) ? TRAFFIC_MOST + 1 : between(TRAFFIC_MOST + 1, 99999);
+    uint32_t least = traffic_ticks_most() + 1;
+
+    return one_in(2) ? least : between(least, form == &for_large ? 999999 : 99999);
 }
 
 void traffic_strange(void)
@@ -269,10 +274,10 @@ static void generate(uint64_t seed)
     begin_traffic(seed, &form->limits);
     locks = one_in(3) ? 0 : any_byte();
     locks_from = between(10000, 50000);
-    if (form == &for_sizes)
-        write_sizes_input(seed);
-    else
+    if (form == &for_bench)
         write_input(seed, form->cut);
+    else
+        write_sizes_input(seed);
 }
 
 static int write_text(void)
@@ -291,13 +296,17 @@ static int write_text(void)
 
 int main(int argc, char **argv)
 {
-    static const char usage[] = "usage: generate SEED [sizes], SEED a decimal number of up to 18 digits\n";
+    static const char usage[] = "usage: generate SEED [sizes | 512], SEED a decimal number of up to 18 digits\n";
     uint64_t seed;
 
-    if (argc < 2 || argc > 3 || !seed_of(argv[1], &seed) ||
-        (argc == 3 && strcmp(argv[2], "sizes") != 0))
+    if (argc == 2)
+        form = &for_bench;
+    else if (argc == 3 && strcmp(argv[2], "sizes") == 0)
+        form = &for_sizes;
+    else if (argc == 3 && strcmp(argv[2], "512") == 0)
+        form = &for_large;
+    if (form == NULL || !seed_of(argv[1], &seed))
         return write(2, usage, sizeof usage - 1) < 0 ? 1 : 2;
-    form = argc == 3 ? &for_sizes : &for_bench;
     generate(seed);
     return write_text();
 }

@@ -1,6 +1,6 @@
 /* The model behind the reference's front end: the calls that tests/reference/bench.c makes, answered by the
  * proved archive through include/yawlspar.h. Linked with that front end it is the program bench_sizes (with the
- * argument `sizes`), so that a script runs on parts of every size. There is one part at a time. */
+ * argument `sizes` or `512`), so that a script runs on parts of every size. There is one part at a time. */
 #include "../reference/reference.h"
 #include "yawlspar.h"
 

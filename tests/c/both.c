@@ -108,6 +108,12 @@ static void fail_byte(const struct call *call, const char *what, long place, siz
 
 /* ---- Memory ---- */
 
+/* How much of ARRAY_ROOM a run uses: more than it is lent, but not all of it where 16 blocks do. */
+static size_t array_room(void)
+{
+    return run_blocks == REF_LARGE ? ARRAY_ROOM : 17 * REF_BLOCK;
+}
+
 /* Where a buffer of this room begins in its store. The bytes around it, and after a lent length, are guards. */
 static uint8_t *place_in(uint8_t *store, size_t room, uint32_t skew)
 {
@@ -133,7 +139,7 @@ static void make_side(struct side *side, int which, uint64_t seed)
     struct chance chance = {seed};
 
     side->record = place_in(record[which], RECORD_ROOM, number_below(&chance, SKEWS));
-    side->array = place_in(array[which], ARRAY_ROOM, number_below(&chance, SKEWS));
+    side->array = place_in(array[which], array_room(), number_below(&chance, SKEWS));
     side->rows = place_in(rows[which], ROWS_ROOM, number_below(&chance, SKEWS));
     side->input = place_in(input[which], MESSAGE_ROOM, number_below(&chance, SKEWS));
     side->output = place_in(output[which], MESSAGE_ROOM, number_below(&chance, SKEWS));
@@ -241,13 +247,86 @@ static bool whole_is_due(const struct call *call, uint64_t expected)
            run_calls % run_blocks == 0;
 }
 
-static void compare_memory(const struct call *call, uint64_t expected)
+/* 512 blocks are not compared whole after each call that is due. After each call these places are compared:
+ *   - the guards, and a window that moves on with each call and so comes to every place;
+ *   - after ticks, the unit or page of the operation that ran, with a page on each side; a chip erase's is the array;
+ *   - the unit or page of an operation that now begins or goes on, before it is written over.
+ * The whole is compared at the end of the run. So a byte that a call leaves wrong is found, if late: it stays wrong
+ * until an operation writes over it, and that operation's unit is compared before it does and after each call of its
+ * ticks. */
+#define WINDOW (64u * REF_PAGE)
+
+static bool runs(const struct part *at)
+{
+    return at->phase == BUSY || at->phase == NESTED;
+}
+
+static bool is_on_array(const struct operation *op)
+{
+    return op->kind == PP || op->kind == SER || op->kind == BER32 || op->kind == BER64 || op->kind == CER;
+}
+
+static size_t reach_of(const struct operation *op)
+{
+    switch (op->kind) {
+    case PP:
+        return REF_PAGE;
+    case SER:
+        return 4096;
+    case BER32:
+        return 32768;
+    case BER64:
+        return 65536;
+    default:
+        return array_length();
+    }
+}
+
+/* The places from `from` on, with a page on each side of them as far as there is one. */
+static void same_places(const struct call *call, size_t from, size_t length)
+{
+    size_t to = from + length + REF_PAGE;
+
+    from = from < REF_PAGE ? 0 : from - REF_PAGE;
+    to = to > array_length() ? array_length() : to;
+    same(call, "array", model.array, reference.array, (long)from, to - from, array_length());
+}
+
+static void same_window(const struct call *call)
+{
+    size_t windows = array_length() / WINDOW;
+
+    same_guards(call, "array", model.array, reference.array, array_length());
+    same_places(call, (size_t)(run_calls * 1021 % windows) * WINDOW, WINDOW); /* 1,021 is odd: all come in turn */
+}
+
+static void compare_large_array(const struct call *call, const struct part *before, uint64_t expected)
+{
+    same_window(call);
+    if (YAWLSPAR_TICKS(expected) > 0 && call->kind == TICK && is_on_array(&before->op))
+        same_places(call, before->op.base, reach_of(&before->op));
+    if (runs(&part) && !runs(before) && is_on_array(&part.op))
+        same_places(call, part.op.base, reach_of(&part.op));
+}
+
+static void compare_memory(const struct call *call, const struct part *before, uint64_t expected)
 {
     same_but_array(call);
-    if (whole_is_due(call, expected))
+    if (run_blocks == REF_LARGE)
+        compare_large_array(call, before, expected);
+    else if (whole_is_due(call, expected))
         same_array(call);
     else
         same_guards(call, "array", model.array, reference.array, array_length());
+}
+
+void same_memory_in_part(const struct call *call)
+{
+    same_but_array(call);
+    if (run_blocks == REF_LARGE)
+        same_window(call);
+    else
+        same_array(call);
 }
 
 static bool same_operation(const struct operation *a, const struct operation *b)
@@ -261,7 +340,8 @@ static bool same_part(const struct part *a, const struct part *b)
     return a->size == b->size && a->m == b->m && a->t == b->t && a->c == b->c && a->d == b->d &&
            a->status == b->status && a->function == b->function && a->extended == b->extended &&
            a->live == b->live && a->e_err == b->e_err && a->p_err == b->p_err && a->prot_e == b->prot_e &&
-           a->wel == b->wel && a->armed == b->armed && a->asleep == b->asleep && a->phase == b->phase &&
+           a->bank == b->bank && a->wel == b->wel && a->armed == b->armed && a->asleep == b->asleep &&
+           a->phase == b->phase &&
            same_operation(&a->op, &b->op) && same_operation(&a->outer, &b->outer) &&
            memcmp(a->data, b->data, REF_PAGE) == 0;
 }
@@ -284,11 +364,6 @@ static void compare_record(const struct call *call, const struct part *before, u
 
 /* ---- What is expected ---- */
 
-static bool is_size(uint64_t blocks)
-{
-    return blocks == 1 || blocks == 4 || blocks == 8 || blocks == 16;
-}
-
 static bool are_bytes(const struct call *call)
 {
     return call->maker < 256 && call->type < 256 && call->capacity < 256 && call->device < 256 &&
@@ -305,7 +380,7 @@ static uint64_t expect_power_up(const struct call *call)
     struct part fresh;
     int number;
 
-    if (!is_size(call->blocks))
+    if (!ref_size_ok(call->blocks))
         return 1;
     if (call->record != YAWLSPAR_RECORD_BYTES || !are_bytes(call))
         return 5;
@@ -434,7 +509,7 @@ uint64_t step(const struct call *call)
     got = call_model(&model, call);
     if (got != expected)
         fail_result(call, expected, got);
-    compare_memory(call, expected);
+    compare_memory(call, &before, expected);
     compare_record(call, &before, expected);
     return got;
 }

@@ -4,6 +4,8 @@
  * Each call is made of both, on memory of its own for each, and the two are compared: the result, every
  * byte of the output, the array and the rows. Guard bytes stand around each buffer. At the first difference
  * the program tells the call and what differs, and ends with status 1.
+ *
+ * An array of 512 blocks is compared in part after most calls, and whole when a run ends: see both.c.
  */
 #ifndef BOTH_H
 #define BOTH_H
@@ -18,7 +20,7 @@
 
 /* How many bytes there are to lend, so that calls can be lent more than the right length. */
 #define RECORD_ROOM (YAWLSPAR_RECORD_BYTES + 64u)
-#define ARRAY_ROOM (17u * REF_BLOCK)
+#define ARRAY_ROOM ((REF_LARGE + 1u) * REF_BLOCK)
 #define ROWS_ROOM (2u * REF_ROWS)
 #define MESSAGE_ROOM (2u * REF_MOST)
 
@@ -75,12 +77,16 @@ void prepare(const struct call *call);
 void same_record(const struct call *call);
 void same_memory(const struct call *call);
 
+/* The same, but of 512 blocks only another few pages each time. */
+void same_memory_in_part(const struct call *call);
+
 /* Tells the call and ends the program. */
 void fail(const struct call *call, const char *what, uint64_t expected, uint64_t got) __attribute__((noreturn));
 
 /* ---- The runs. ---- */
 
 void directed_calls(void);
+void large_calls(void);
 void damaged_records(void);
 void random_calls(uint64_t seed, uint64_t least);
 

@@ -4,19 +4,24 @@
  * bytes: either it is refused, and then nothing at all was written, or the bytes hold a sound record, and then
  * the number is one of the table, nothing outside of the buffers was written, a transaction left array and rows,
  * and the same call on a copy does the same. Only a few fields are looked for, by two records that differ in one of
- * them alone: the stored byte of the extended read register, and what the record holds of the two operations of a part
- * that programs during erase suspend. Of these is known which values are sound. */
+ * them alone: the stored byte of the extended read register, the function register, the bank address register, and what
+ * the record holds of the two operations of a part that programs during erase suspend. Of these is known which values
+ * are sound.
+ *
+ * Most of it is on one block. On 512 blocks a few pages of the array are looked at after each call, others each
+ * time, and what ticks wrote is not put back; the two copies are compared whole in the end. */
 #include "both.h"
 
 extern int memcmp(const void *, const void *, unsigned long);
 extern void *memcpy(void *, const void *, unsigned long);
 extern void *memset(void *, int, unsigned long);
 
-#define BLOCKS 1u
+#define WINDOW (16u * REF_PAGE)
 
 static struct chance chance;
+static uint32_t blocks;
 static uint8_t sound[YAWLSPAR_RECORD_BYTES]; /* the record before it was changed */
-static uint8_t array[BLOCKS * REF_BLOCK], rows[REF_ROWS];
+static uint8_t array[16u * REF_BLOCK], rows[REF_ROWS]; /* what they held then; the array of an old size only */
 
 /* ---- A call on changed bytes ---- */
 
@@ -36,17 +41,55 @@ static struct call some_tick(uint64_t ticks)
     return call;
 }
 
+static size_t array_bytes(void)
+{
+    return (size_t)blocks * REF_BLOCK;
+}
+
+static bool is_large(void)
+{
+    return blocks == REF_LARGE;
+}
+
+static void keep_memory(void)
+{
+    if (!is_large())
+        memcpy(array, model.array, array_bytes());
+    memcpy(rows, model.rows, sizeof rows);
+}
+
 static void put_back_memory(void)
 {
-    memcpy(model.array, array, sizeof array);
     memcpy(model.rows, rows, sizeof rows);
-    memcpy(reference.array, array, sizeof array);
     memcpy(reference.rows, rows, sizeof rows);
+    if (is_large())
+        return;
+    memcpy(model.array, array, array_bytes());
+    memcpy(reference.array, array, array_bytes());
+}
+
+/* Some pages of a large array, as they are before a transaction. */
+static uint8_t window[WINDOW];
+static size_t window_at;
+
+static void keep_window(void)
+{
+    if (!is_large())
+        return;
+    window_at = (size_t)number_below(&chance, (uint32_t)(array_bytes() / WINDOW)) * WINDOW;
+    memcpy(window, model.array + window_at, sizeof window);
+}
+
+static bool array_is_left(void)
+{
+    if (is_large())
+        return memcmp(model.array + window_at, window, sizeof window) == 0;
+    return memcmp(model.array, array, array_bytes()) == 0;
 }
 
 static void transaction_left_memory(const struct call *call)
 {
-    if (memcmp(model.array, array, sizeof array) != 0 || memcmp(model.rows, rows, sizeof rows) != 0)
+    if (!array_is_left() || memcmp(model.rows, rows, sizeof rows) != 0)
         fail(call, "whether a transaction wrote array or rows", 0, 1);
 }
 
@@ -55,6 +98,7 @@ static uint64_t try_call(const struct call *call)
 {
     uint64_t result, again;
 
+    keep_window();
     prepare(call);
     result = call_model(&model, call);
     if (!is_refusal(result)) {
@@ -63,7 +107,7 @@ static uint64_t try_call(const struct call *call)
             fail(call, "the same call on a copy", result, again);
     }
     same_record(call);
-    same_memory(call);
+    same_memory_in_part(call);
     if (call->kind == TRANSACT)
         transaction_left_memory(call);
     else if (YAWLSPAR_TICKS(result) > 0)
@@ -374,19 +418,39 @@ static const struct state states[] = {
       {6, {0x02, 0x00, 0x50, 0x00, 8, 7}}}},
 };
 
-static void reach(const struct state *state)
+/* The same on 512 blocks. */
+static const struct state large_states[] = {
+    {"changed: 512 blocks, idle in bank 1 with four bytes", 0, 0, {{2, {0xC5, 0x81}}}},
+    {"changed: 512 blocks, asleep in bank 1", 0, 0, {{2, {0x17, 0x01}}, {1, {0x06}}, {1, {0xB9}}}},
+    {"changed: 512 blocks, in a program", 2, 0,
+     {{1, {0x06}}, {9, {0x12, 0x01, 0xFF, 0xFF, 0xFD, 1, 2, 3, 4}}, {1, {0x66}}}},
+    {"changed: 512 blocks, in a block erase", 200, 0, {{1, {0x06}}, {5, {0xDC, 0x01, 0x80, 0x00, 0x00}}}},
+    {"changed: 512 blocks, in a chip erase", 65537, 0, {{1, {0x06}}, {1, {0xC7}}}},
+    {"changed: 512 blocks, in a program within a sector erase", 5, 2,
+     {{1, {0x06}}, {5, {0x21, 0x01, 0x00, 0x00, 0x00}}, {1, {0x75}}, {1, {0x06}},
+      {9, {0x02, 0xFF, 0xFF, 0xFD, 1, 2, 3, 4, 5}}, {1, {0x66}}}},
+};
+
+static struct call identified(void)
 {
     struct call call = fitting(POWER_UP);
-    uint64_t number;
-    size_t i;
 
     call.maker = 0x9D;
     call.type = 0x60;
     call.capacity = 0x14;
     call.device = 0x13;
     call.status = 0x40;
-    call.function = 0x10;
+    call.function = is_large() ? 0x12 : 0x10; /* with TBS */
     call.extended = 0x60;
+    return call;
+}
+
+static void reach(const struct state *state)
+{
+    struct call call = identified();
+    uint64_t number;
+    size_t i;
+
     step(&call);
     for (i = 0; i < COUNT(state->sent) && state->sent[i].length > 0; i++) {
         memcpy(message, state->sent[i].bytes, state->sent[i].length);
@@ -403,17 +467,30 @@ static void reach(const struct state *state)
     step(&call);
 }
 
-static void change(const struct state *state, uint64_t seed)
+static void begin(const char *name, uint64_t seed, uint32_t size)
+{
+    blocks = size;
+    begin_run(name, seed, size);
+}
+
+static void compare_whole(void)
+{
+    struct call call = some_tick(0);
+
+    same_memory(&call);
+}
+
+static void change(const struct state *state, uint64_t seed, uint32_t size)
 {
     chance.state = seed;
-    begin_run(state->name, seed, BLOCKS);
+    begin(state->name, seed, size);
     reach(state);
     memcpy(sound, model.record, sizeof sound);
-    memcpy(array, model.array, sizeof array);
-    memcpy(rows, model.rows, sizeof rows);
+    keep_memory();
     each_byte_changed();
     some_bytes_changed(100);
     cut_and_lengthened();
+    compare_whole();
 }
 
 /* ---- One field of a record ---- */
@@ -424,12 +501,10 @@ static size_t place_that_differs(const struct state *one, const struct state *ot
     struct call call = transaction(2);
     size_t place = 0, places = 0, i;
 
-    begin_run(one->name, 1, BLOCKS);
     reach(one);
     memcpy(sound, model.record, sizeof sound);
     reach(other);
-    memcpy(array, model.array, sizeof array);
-    memcpy(rows, model.rows, sizeof rows);
+    keep_memory();
     for (i = 0; i < sizeof sound; i++)
         if (model.record[i] != sound[i]) {
             place = i;
@@ -461,8 +536,10 @@ static void stored_byte_changed(void)
     struct call call = transaction(2);
     uint8_t bytes[YAWLSPAR_RECORD_BYTES];
     uint32_t value, sound_values = 0, shown = 0;
-    size_t place = place_that_differs(&set_once, &set_both);
+    size_t place;
 
+    begin(set_once.name, 1, 1);
+    place = place_that_differs(&set_once, &set_both);
     memcpy(bytes, sound, sizeof bytes);
     for (value = 0; value < 256; value++) {
         bytes[place] = (uint8_t)value;
@@ -481,6 +558,118 @@ static void stored_byte_changed(void)
     if (shown != 0xFF)
         fail(&call, "which values of bits 7..5 are shown, as bits", 0xFF, shown);
 }
+
+/* ---- The registers of 512 blocks ---- */
+
+/* Which values of the byte at a place are sound, and that this code, which reads it, shows each of them. */
+static void sound_values_are(size_t place, bool (*is_sound)(uint32_t value), uint8_t code)
+{
+    struct call call = transaction(2);
+    uint8_t bytes[YAWLSPAR_RECORD_BYTES];
+    uint32_t value;
+
+    memcpy(bytes, sound, sizeof bytes);
+    for (value = 0; value < 256; value++) {
+        bool is;
+
+        bytes[place] = (uint8_t)value;
+        is = read_status(bytes) != 5;
+        if (is != is_sound(value))
+            fail(&call, is ? "a value that is not sound, taken" : "a sound value, refused", 0, value);
+        if (is && code != 0) {
+            message[0] = code;
+            message[1] = 0x00;
+            if (try_call(&call) != 256)
+                fail(&call, "the number of a register read", 0, 1);
+            if (model.output[1] != value)
+                fail(&call, "what a register read shows", value, model.output[1]);
+        }
+        try_record(bytes);
+    }
+}
+
+/* EXTADD and the bank bit; bits 6..1 are zero. */
+static bool is_bank(uint32_t value)
+{
+    return value == 0x00 || value == 0x01 || value == 0x80 || value == 0x81;
+}
+
+static bool is_zero(uint32_t value)
+{
+    return value == 0;
+}
+
+/* Of an idle part: bits 3..0 are zero, but for TBS. */
+static bool is_large_function(uint32_t value)
+{
+    return (value & 0x0D) == 0;
+}
+
+static bool is_old_function(uint32_t value)
+{
+    return (value & 0x0F) == 0;
+}
+
+/* The bank address register's byte is found on 512 blocks, by writing it. There four values are sound, and 00h alone
+ * on the other sizes, whose records have it in the same place. */
+static void bank_byte_changed(const uint32_t *old, size_t count)
+{
+    static const struct state bank_0 = {"changed: the bank address register", 0, 0, {{2, {0xC5, 0x00}}}};
+    static const struct state bank_1 = {"", 0, 0, {{2, {0xC5, 0x81}}}};
+    size_t place;
+
+    begin(bank_0.name, 1, REF_LARGE);
+    place = place_that_differs(&bank_0, &bank_1);
+    sound_values_are(place, is_bank, 0xC8);
+    compare_whole();
+    for (; count > 0; count--, old++) {
+        struct call call;
+
+        begin(bank_0.name, 1, *old);
+        call = identified();
+        step(&call);
+        memcpy(sound, model.record, sizeof sound);
+        keep_memory();
+        sound_values_are(place, is_zero, 0);
+    }
+}
+
+/* The function register's byte is found by two power-ups. */
+static void function_byte_changed(uint32_t size)
+{
+    struct call call;
+    size_t place = 0, places = 0, i;
+
+    begin("changed: the function register", 1, size);
+    call = identified();
+    step(&call);
+    memcpy(sound, model.record, sizeof sound);
+    keep_memory();
+    call.function ^= 0xE0;
+    step(&call);
+    for (i = 0; i < sizeof sound; i++)
+        if (model.record[i] != sound[i]) {
+            place = i;
+            places++;
+        }
+    if (places != 1)
+        fail(&call, "at how many places two records differ", 1, places);
+    sound_values_are(place, is_large() ? is_large_function : is_old_function, 0x48);
+    compare_whole();
+}
+
+static void registers_changed(void)
+{
+    static const uint32_t old[] = {1, 4, 8, 16};
+    size_t i;
+
+    bank_byte_changed(old, COUNT(old));
+    for (i = 0; i < COUNT(old); i++)
+        function_byte_changed(old[i]);
+    function_byte_changed(REF_LARGE);
+}
+
+/* ---- The two operations of a part that programs during erase suspend ---- */
 
 /* Two states whose records differ in one field alone, and how many of the 256 values of the byte there are sound. */
 struct pair {
@@ -537,8 +726,10 @@ static void field_changed(const struct pair *pair)
     struct call call = transaction(2);
     uint8_t bytes[YAWLSPAR_RECORD_BYTES];
     uint32_t value, sound_values = 0;
-    size_t place = place_that_differs(&pair->one, &pair->other);
+    size_t place;
 
+    begin(pair->one.name, 1, 1);
+    place = place_that_differs(&pair->one, &pair->other);
     memcpy(bytes, sound, sizeof bytes);
     for (value = 0; value < 256; value++) {
         bytes[place] = (uint8_t)value;
@@ -555,7 +746,10 @@ void damaged_records(void)
     size_t i;
 
     for (i = 0; i < COUNT(states); i++)
-        change(&states[i], i + 1);
+        change(&states[i], i + 1, 1);
+    for (i = 0; i < COUNT(large_states); i++)
+        change(&large_states[i], i + 1, REF_LARGE);
+    registers_changed();
     stored_byte_changed();
     for (i = 0; i < COUNT(pairs); i++)
         field_changed(&pairs[i]);

@@ -1,50 +1,23 @@
 /* Calls whose numbers are worked out by hand from the specification: 1 to 6 in each call that can give them,
  * the lowest where several apply, and the cases 12 and 13 that it works on paper. And 28, in the blocks that
  * yawlspar_protected_first and yawlspar_protected_count name, and what the extended read register tells of it. And
- * the programs that run during erase suspend. */
-#include "both.h"
+ * the programs that run during erase suspend. All of it is on each size; what is of 512 blocks alone is in large.c. */
+#include "steps.h"
 
-extern int memcmp(const void *, const void *, unsigned long);
 extern void *memcpy(void *, const void *, unsigned long);
 extern void *memset(void *, int, unsigned long);
 
 static const uint64_t no_bytes[] = {256, 257, UINT64_C(1) << 32, UINT64_C(1) << 63, UINT64_MAX};
-static const uint64_t sizes[] = {1, 4, 8, 16};
+static const uint64_t sizes[] = {1, 4, 8, 16, REF_LARGE};
 static const size_t no_records[] = {0, 1, YAWLSPAR_RECORD_BYTES - 1, YAWLSPAR_RECORD_BYTES + 1, RECORD_ROOM};
-
-static void result_is(const struct call *call, uint64_t number, uint64_t above)
-{
-    uint64_t got = step(call);
-
-    if (YAWLSPAR_NUMBER(got) != number)
-        fail(call, "the number", number, YAWLSPAR_NUMBER(got));
-    if (YAWLSPAR_PLACE(got) != above || YAWLSPAR_TICKS(got) != above)
-        fail(call, "the number above the low 8 bits", above, YAWLSPAR_PLACE(got));
-}
-
-static void number_is(const struct call *call, uint64_t number)
-{
-    result_is(call, number, 0);
-}
-
-static void powered(uint32_t blocks)
-{
-    struct call call = fitting(POWER_UP);
-
-    call.blocks = blocks;
-    call.maker = 0x11;
-    call.type = 0x22;
-    call.capacity = 0x33;
-    call.device = 0x44;
-    result_is(&call, 0, 0);
-}
 
 /* ---- Power-up: 1, 5 ---- */
 
 static void power_up_sizes(void)
 {
-    static const uint64_t no_sizes[] = {0,  2,  3,  5,   6,   7,     9,                 15,
-                                        17, 32, 64, 257, 272, 65537, (UINT64_C(1) << 32) + 1, UINT64_MAX};
+    static const uint64_t no_sizes[] = {
+        0, 2, 3, 5, 6, 7, 9, 15, 17, 32, 64, 256, 257, 272, 511, 513, 514, 528, 768, 1024, 65536 + 1, 65536 + 512,
+        131072, (UINT64_C(1) << 32) + 1, (UINT64_C(1) << 32) + 512, (UINT64_C(1) << 63) + 512, UINT64_MAX};
     size_t i;
 
     for (i = 0; i < COUNT(no_sizes); i++) {
@@ -53,6 +26,7 @@ static void power_up_sizes(void)
         call.blocks = no_sizes[i];
         number_is(&call, 1);
         call.status = 0x03; /* and 5 */
+        call.function = 0x0F;
         call.extended = 0x1F;
         call.maker = 256;
         call.record = 0;
@@ -60,7 +34,13 @@ static void power_up_sizes(void)
     }
 }
 
-static void power_up_registers(void)
+/* Function bits 3..0 are zero, but for the TBS of 512 blocks. */
+static bool function_is_good(uint32_t blocks, uint64_t value)
+{
+    return (value & (blocks == REF_LARGE ? 0x0D : 0x0F)) == 0;
+}
+
+static void power_up_registers(uint32_t blocks)
 {
     uint64_t value;
 
@@ -71,7 +51,7 @@ static void power_up_registers(void)
         function.function = value;
         extended.extended = value;
         number_is(&status, value % 4 == 0 ? 0 : 5);
-        number_is(&function, value % 16 == 0 ? 0 : 5);
+        number_is(&function, function_is_good(blocks, value) ? 0 : 5);
         number_is(&extended, value % 32 == 0 ? 0 : 5);
     }
 }
@@ -91,17 +71,19 @@ static void power_up_numbers_that_fit_no_byte(void)
         }
 }
 
-static void power_up_numbers(void)
+static void power_up_numbers(uint32_t blocks)
 {
     size_t i;
 
     power_up_sizes();
-    power_up_registers();
+    power_up_registers(blocks);
     power_up_numbers_that_fit_no_byte();
     for (i = 0; i < COUNT(no_records); i++) {
         struct call call = fitting(POWER_UP);
 
         call.record = no_records[i];
+        number_is(&call, 5);
+        call.function = TBS;
         number_is(&call, 5);
     }
 }
@@ -167,6 +149,10 @@ static void other_arrays(struct call call)
     }
     call.array = right - 1;
     number_is(&call, 1);
+    call.array = right - REF_BLOCK;
+    number_is(&call, 1);
+    call.array = right / 2;
+    number_is(&call, 1);
     call.array = 0;
     number_is(&call, 1);
 }
@@ -202,31 +188,49 @@ static void transact_numbers(void)
 
 /* ---- Ticks: 1, 2, 5, 6 ---- */
 
+/* The most ticks in a call. */
+static uint64_t ticks_most(uint32_t blocks)
+{
+    return blocks == REF_LARGE ? 131072 : 4096;
+}
+
 static const struct {
     size_t array_over, rows;
-    uint64_t ticks, number;
+    uint64_t ticks; /* beyond the most */
+    uint64_t number;
 } tick_rows[] = {
-    {0, 1024, 0, 0},         {0, 1024, 4096, 0},
-    {1, 1024, 1, 1},         {1, 0, 4097, 1},
-    {65536, 1024, 1, 1},     {0, 1023, 1, 2},
-    {0, 1025, 1, 2},         {0, 0, 4097, 2},
-    {0, 1024, 4097, 6},      {0, 1024, 65536, 6},
-    {0, 1024, UINT64_C(1) << 32, 6}, {0, 1024, (UINT64_C(1) << 32) + 1, 6},
-    {0, 1024, UINT64_C(1) << 63, 6}, {0, 1024, UINT64_MAX, 6},
+    {0, 1024, 0, 0},     {1, 1024, 0, 1},     {1, 0, 1, 1},     {65536, 1024, 0, 1},
+    {0, 1023, 0, 2},     {0, 1025, 0, 2},     {0, 0, 1, 2},     {0, 1024, 1, 6},
+    {0, 1024, 2, 6},     {0, 1024, 65536, 6}, {0, 1024, 126976, 6},
 };
 
-static void tick_table(void)
+/* Great numbers; many would be good if they were cut to 32 bits or fewer. */
+static const uint64_t many_ticks[] = {
+    UINT64_C(1) << 18, UINT64_C(1) << 31, UINT64_C(1) << 32, (UINT64_C(1) << 32) + 1, (UINT64_C(1) << 32) + 4096,
+    (UINT64_C(1) << 32) + 131072, UINT64_C(1) << 63, (UINT64_C(1) << 63) + 1, UINT64_MAX,
+};
+
+static void tick_table(uint32_t blocks)
 {
+    struct call call;
     size_t i;
 
     for (i = 0; i < COUNT(tick_rows); i++) {
-        struct call call = fitting(TICK);
-
+        call = fitting(TICK);
         call.array += tick_rows[i].array_over;
         call.rows = tick_rows[i].rows;
-        call.ticks = tick_rows[i].ticks;
+        call.ticks = ticks_most(blocks) + tick_rows[i].ticks;
         number_is(&call, tick_rows[i].number);
     }
+    for (i = 0; i < COUNT(many_ticks); i++) {
+        call = fitting(TICK);
+        call.ticks = many_ticks[i];
+        number_is(&call, 6);
+    }
+    call = fitting(TICK);
+    number_is(&call, 0);
+    call.ticks = ticks_most(blocks) - 1;
+    number_is(&call, 0);
 }
 
 static void tick_without_record(void)
@@ -241,6 +245,8 @@ static void tick_without_record(void)
         number_is(&call, 5);
         call.ticks = 4097;
         number_is(&call, 5);
+        call.ticks = 131073;
+        number_is(&call, 5);
         call.array = 1;
         number_is(&call, 5);
         call.rows = 1;
@@ -248,46 +254,14 @@ static void tick_without_record(void)
     }
 }
 
-static void tick_numbers(void)
+static void tick_numbers(uint32_t blocks)
 {
-    tick_table();
+    tick_table(blocks);
     other_arrays(fitting(TICK));
     tick_without_record();
 }
 
 /* ---- Cases ---- */
-
-static void sent_at(uint64_t wp_high, const void *bytes, size_t length, uint64_t number, uint64_t place)
-{
-    struct call call = fitting(TRANSACT);
-
-    memcpy(message, bytes, length);
-    call.input = call.output = length;
-    call.wp_high = wp_high;
-    result_is(&call, number, place);
-}
-
-/* Sends these bytes with WP# high. */
-static void sent(const void *bytes, size_t length, uint64_t number, uint64_t place)
-{
-    sent_at(1, bytes, length, number, place);
-}
-
-static void output_is(size_t place, uint8_t expected)
-{
-    struct call call = fitting(TRANSACT);
-
-    if (model.output[place] != expected)
-        fail(&call, "an output byte of the last call", expected, model.output[place]);
-}
-
-static void ticked(uint64_t ticks, uint64_t number, uint64_t worked)
-{
-    struct call call = fitting(TICK);
-
-    call.ticks = ticks;
-    result_is(&call, number, worked);
-}
 
 /* 12: 4,096 ticks finish CER; 4,097 asked: 6, none done. */
 static void case_12(void)
@@ -335,17 +309,14 @@ static void write_is(uint32_t blocks, uint32_t status, uint8_t command, uint32_t
 {
     const uint8_t bytes[] = {command, (uint8_t)(address >> 16), (uint8_t)(address >> 8), (uint8_t)address, 0x00};
     size_t length = command == 0x02 ? 5 : command == 0xC7 ? 1 : 4;
-    struct call up = fitting(POWER_UP);
 
-    up.blocks = blocks;
-    up.status = status;
-    result_is(&up, 0, 0);
+    powered_with(blocks, (uint8_t)status, 0, 0);
     sent("\x06", 1, 0, 1);
     sent(bytes, length, number, length);
 }
 
 /* Programs and erases are ignored with 28 in the protected blocks and in no other; a chip erase wherever the code is
- * not 0, though 15 protects no block. SRWD and QE do not matter to them. */
+ * not 0, though 15 protects no block. SRWD and QE do not matter to them. This is on the old sizes. */
 static void protected_blocks(uint32_t blocks)
 {
     uint32_t code, block;
@@ -368,56 +339,18 @@ static void protected_blocks(uint32_t blocks)
 
 /* ---- Why a write did nothing ---- */
 
-#define E_ERR 0x08
-#define P_ERR 0x04
-#define PROT_E 0x02
-#define WIP 0x01
+/* A status whose code bars chip erases and protects none of the blocks that are written below: code 15; of 512
+ * blocks, where that protects all, code 1, which protects the top one. */
+static uint8_t guard(uint32_t blocks)
+{
+    return blocks == REF_LARGE ? 1 * 4 : 15 * 4;
+}
 
-/* A power-up with code 15, row 3 locked and a stored byte, whose bits 7..5 81h shows. Chip erases are ignored, and
+/* A power-up with that status, row 3 locked and a stored byte, whose bits 7..5 81h shows. Chip erases are ignored, and
  * writes of row 3; all else may be written. */
 static void guarded(uint32_t blocks, uint8_t stored)
 {
-    struct call up = fitting(POWER_UP);
-
-    up.blocks = blocks;
-    up.status = 0x3C;
-    up.function = 0x80;
-    up.extended = stored;
-    result_is(&up, 0, 0);
-}
-
-/* A command that drives nothing. */
-static void command(const void *bytes, size_t length, uint64_t number)
-{
-    sent(bytes, length, number, length);
-}
-
-static void command_with(uint8_t code, uint8_t byte, uint64_t number)
-{
-    const uint8_t bytes[] = {code, byte};
-
-    command(bytes, 2, number);
-}
-
-/* 81h shows this byte, from place 1 on. */
-static void shows(uint8_t expected)
-{
-    sent("\x81\x00\x00", 3, 0, 1);
-    output_is(0, 0xFF);
-    output_is(1, expected);
-    output_is(2, expected);
-}
-
-static void status_is(uint8_t expected)
-{
-    sent("\x05\x00", 2, 0, 1);
-    output_is(1, expected);
-}
-
-static void reset(void)
-{
-    command("\x66", 1, 0);
-    command("\x99", 1, 0);
+    powered_with(blocks, guard(blocks), 0x80, stored);
 }
 
 struct write {
@@ -426,7 +359,13 @@ struct write {
     uint8_t errors; /* that 28 sets */
 };
 
-/* What the code 5, which protects each block of every size, and the lock of row 3 bar. */
+/* A status whose code protects each block: code 5 on every old size, code 10 on 512 blocks. */
+static uint8_t all_barred(uint32_t blocks)
+{
+    return blocks == REF_LARGE ? 10 * 4 : 5 * 4;
+}
+
+/* What that status and the lock of row 3 bar. */
 static const struct write barred[] = {
     {4, {0xD7, 0x00, 0x00, 0x00}, E_ERR | PROT_E}, {4, {0x20, 0x0F, 0xFF, 0xFF}, E_ERR | PROT_E},
     {4, {0x52, 0x00, 0x80, 0x00}, E_ERR | PROT_E}, {4, {0xD8, 0xFF, 0xFF, 0xFF}, E_ERR | PROT_E},
@@ -435,36 +374,30 @@ static const struct write barred[] = {
     {5, {0x62, 0x00, 0x30, 0x00, 0x00}, P_ERR | PROT_E},
 };
 
-static void is_barred(const struct write *write, uint8_t shown)
+static void is_barred(uint32_t blocks, const struct write *write, uint8_t shown)
 {
     command(write->bytes, write->length, 28);
     shows(shown);
-    status_is(0x16); /* WEL is still 1 */
+    status_is(all_barred(blocks) | WEL); /* WEL is still 1 */
 }
 
 /* One after the other: the error bits add up until 82h, which leaves bits 7..5 and WEL. */
 static void barred_one_by_one(uint32_t blocks, const struct write *one, const struct write *other)
 {
-    struct call up = fitting(POWER_UP);
-
-    up.blocks = blocks;
-    up.status = 5 * 4;
-    up.function = 0x80;
-    up.extended = 0xA0;
-    result_is(&up, 0, 0); /* clears what the last ones set */
+    powered_with(blocks, all_barred(blocks), 0x80, 0xA0); /* clears what the last ones set */
     shows(0xB0);
     command("\x06", 1, 0);
-    is_barred(one, 0xB0 | one->errors);
-    is_barred(other, 0xB0 | one->errors | other->errors);
-    is_barred(one, 0xB0 | one->errors | other->errors);
+    is_barred(blocks, one, 0xB0 | one->errors);
+    is_barred(blocks, other, 0xB0 | one->errors | other->errors);
+    is_barred(blocks, one, 0xB0 | one->errors | other->errors);
     command("\x82", 1, 0);
     shows(0xB0);
-    status_is(0x16);
-    is_barred(other, 0xB0 | other->errors);
+    status_is(all_barred(blocks) | WEL);
+    is_barred(blocks, other, 0xB0 | other->errors);
     command_with(0x83, 0x5F, 0);
     shows(0x50 | other->errors);
     command("\x66", 1, 0);
-    is_barred(one, 0x50 | one->errors | other->errors);
+    is_barred(blocks, one, 0x50 | one->errors | other->errors);
     command("\x99", 1, 25); /* 28 disarms */
 }
 
@@ -577,7 +510,7 @@ static void reset_while_busy(uint32_t blocks)
         ticked(1, 0, 0);
         reset();
         shows(0x60 + 0x10);
-        status_is(0x3C);
+        status_is(guard(blocks));
     }
 }
 
@@ -589,7 +522,7 @@ static void shown_in_chip_erase(uint32_t blocks)
     command("\xC7", 1, 0);
     shows(0x10 + WIP);
     sets_and_clear_are(22);
-    ticked(4096, 0, 256 * blocks);
+    ticked(ticks_most(blocks), 0, 256 * blocks);
     shows(0x10);
 }
 
@@ -605,7 +538,7 @@ static void volatile_sets(uint32_t blocks)
         if (value == 100)
             command("\x06", 1, 0);
     }
-    status_is(0x3E);
+    status_is(guard(blocks) | WEL);
     command("\x83", 1, 24);
     command("\x83\x00\x00", 3, 24);
     shows(0xF0);
@@ -618,11 +551,8 @@ static void volatile_sets(uint32_t blocks)
 static void stored_sets(uint32_t blocks)
 {
     uint32_t value;
-    struct call up = fitting(POWER_UP);
 
-    up.blocks = blocks;
-    up.status = 0x80;
-    result_is(&up, 0, 0);
+    powered_with(blocks, 0x80, 0, 0);
     for (value = 0; value < 256; value++) {
         const uint8_t bytes[] = {0x85, (uint8_t)value};
 
@@ -652,7 +582,7 @@ static void clears(uint32_t blocks)
     shows(0xF0);
     command("\x82", 1, 0);
     shows(0xF0);
-    status_is(0x3C);
+    status_is(guard(blocks));
     fail_both();
     command("\x82\x00", 2, 24);
     command("\x04", 1, 0);
@@ -660,10 +590,10 @@ static void clears(uint32_t blocks)
     command("\x84", 1, 20);
     ticked(1, 0, 0);
     shows(0xF0 + 0x0E);
-    status_is(0x3E);
+    status_is(guard(blocks) | WEL);
     command("\x82", 1, 0);
     shows(0xF0);
-    status_is(0x3E);
+    status_is(guard(blocks) | WEL);
     sent("\x48\x00", 2, 0, 1);
     output_is(1, 0x80);
 }
@@ -738,62 +668,50 @@ static void why_nothing(uint32_t blocks)
 
 /* ---- Programs during erase suspend ---- */
 
-#define ESUS 0x08
-#define PSUS 0x04
-#define WEL 0x02
-
 /* The erases that can be suspended. A tick erases a page. */
 static const struct unit_erase {
     uint8_t code;
     uint16_t pages;
 } unit_erases[] = {{0xD7, 16}, {0x20, 16}, {0x52, 128}, {0xD8, 256}};
 
-/* What the array has to hold. */
-static uint8_t stored[16u * REF_BLOCK];
-
-static size_t stored_length(void)
+static bool is_large(void)
 {
-    return fitting(TICK).array;
+    return stored_length() == REF_LARGE * REF_BLOCK;
 }
 
-/* Bytes that are never FFh, so that each page that is erased shows, and each that is not. */
-static void fill_stored(void)
+/* On 512 blocks these programs and erases take four address bytes, for those beside a unit may lie in both banks: after
+ * a power-up or a reset, which clear it, EXTADD is set again. */
+static void select_addresses(void)
 {
-    size_t i;
-
-    for (i = 0; i < stored_length(); i++)
-        stored[i] = (uint8_t)((i + i / 256 * 3) % 255);
-    memcpy(model.array, stored, stored_length());
-    memcpy(reference.array, stored, stored_length());
-}
-
-static void array_is_as_stored(void)
-{
-    struct call call = fitting(TICK);
-    size_t i = 0;
-
-    if (memcmp(model.array, stored, stored_length()) == 0)
+    if (!is_large())
         return;
-    while (model.array[i] == stored[i])
-        i++;
-    fail(&call, "the first place of the array that is not as worked out", stored_length(), i);
+    sent("\xC8\x00", 2, 0, 1);
+    output_is(1, 0x00);
+    command("\xB7", 1, 0);
 }
 
-static void registers_are(uint8_t status, uint8_t function, uint8_t extended)
+/* Puts down a command with an address. Gives the place behind it. */
+static size_t put_address(uint8_t *bytes, uint8_t code, uint32_t address)
 {
-    status_is(status);
-    sent("\x48\x00", 2, 0, 1);
-    output_is(1, function);
-    shows(extended);
+    size_t at = 0;
+
+    bytes[at++] = code;
+    if (is_large())
+        bytes[at++] = (uint8_t)(address >> 24);
+    bytes[at++] = (uint8_t)(address >> 16);
+    bytes[at++] = (uint8_t)(address >> 8);
+    bytes[at++] = (uint8_t)address;
+    return at;
 }
 
 /* A command with an address, and with these bytes after it. */
 static void addressed(uint8_t code, uint32_t address, const void *data, size_t count, uint64_t number)
 {
-    uint8_t bytes[4 + REF_PAGE] = {code, (uint8_t)(address >> 16), (uint8_t)(address >> 8), (uint8_t)address};
+    uint8_t bytes[5 + 300];
+    size_t at = put_address(bytes, code, address);
 
-    memcpy(bytes + 4, data, count);
-    command(bytes, 4 + count, number);
+    memcpy(bytes + at, data, count);
+    command(bytes, at + count, number);
 }
 
 /* A program of one byte. */
@@ -817,7 +735,7 @@ static uint32_t unit_bytes(const struct unit_erase *erase)
 static void erase_ticks(struct progress *progress, uint32_t ticks, uint32_t worked)
 {
     ticked(ticks, 0, worked);
-    memset(stored + progress->base + progress->done * REF_PAGE, 0xFF, worked * REF_PAGE);
+    memset(change_stored(progress->base + progress->done * REF_PAGE, worked * REF_PAGE), 0xFF, worked * REF_PAGE);
     progress->done += worked;
     array_is_as_stored();
 }
@@ -829,6 +747,7 @@ static struct progress suspended_at(uint32_t blocks, const struct unit_erase *er
 
     fill_stored();
     powered(blocks);
+    select_addresses();
     command("\x06", 1, 0);
     addressed(erase->code, address, "", 0, 0);
     erase_ticks(&progress, ticks, ticks);
@@ -876,7 +795,7 @@ static void inner_tick(uint32_t page, uint32_t tick)
     uint32_t place = page + (254 + tick) % 256;
 
     ticked(1, 0, 1);
-    stored[place] &= inner_bytes[tick];
+    *change_stored(place, 1) &= inner_bytes[tick];
     array_is_as_stored();
 }
 
@@ -973,19 +892,26 @@ static void unit_is_barred(const struct progress *progress)
     array_is_as_stored();
 }
 
-/* The pages on both sides are not barred. */
+/* Addresses that are not barred: beside the unit on both sides, and on 512 blocks its own in the other bank. */
+static uint32_t free_address(const struct progress *progress, uint32_t which)
+{
+    if (which == 2)
+        return progress->base ^ 0x1000000;
+    return neighbour(progress, which == 1) + (which == 1 ? 0 : 255);
+}
+
 static void neighbours_are_free(const struct progress *progress)
 {
-    uint32_t side;
+    uint32_t which;
 
-    for (side = 0; side < 2; side++) {
-        uint32_t address = neighbour(progress, side == 1) + (side == 1 ? 0 : 255);
+    for (which = 0; which < (is_large() ? 3 : 2); which++) {
+        uint32_t address = free_address(progress, which);
 
         command("\x06", 1, 0);
         program_is(address, 0x11, 0);
         registers_are(WEL | WIP, ESUS, 0x10 | P_ERR | PROT_E | WIP);
         ticked(2, 0, 1);
-        stored[address] &= 0x11;
+        *change_stored(address, 1) &= 0x11;
         array_is_as_stored();
         registers_are(0x00, ESUS, 0x10 | P_ERR | PROT_E);
     }
@@ -1006,16 +932,17 @@ static void barred_in_the_unit(uint32_t blocks)
     }
 }
 
-/* A protected block beside the suspended unit is barred as well; code 14 protects block 0 alone. */
+/* A protected block beside the suspended unit is barred as well. Code 14 protects block 0 alone; on 512 blocks code 1
+ * does with TBS. */
 static void barred_by_both(uint32_t blocks)
 {
-    struct call up = fitting(POWER_UP);
+    uint8_t status = is_large() ? 1 * 4 : 14 * 4, function = is_large() ? TBS : 0;
 
     if (blocks == 1)
         return;
     fill_stored();
-    up.status = 14 * 4;
-    result_is(&up, 0, 0);
+    powered_with(blocks, status, function, 0);
+    select_addresses();
     command("\x06", 1, 0);
     addressed(0xD8, REF_BLOCK, "", 0, 0);
     command("\x75", 1, 0);
@@ -1023,30 +950,63 @@ static void barred_by_both(uint32_t blocks)
     program_is(REF_BLOCK - 1, 0x00, 28);
     program_is(REF_BLOCK, 0x00, 28);
     program_is(2 * REF_BLOCK - 1, 0x00, 28);
-    registers_are(14 * 4 + WEL, ESUS, 0x10 | P_ERR | PROT_E);
+    registers_are(status | WEL, ESUS | function, 0x10 | P_ERR | PROT_E);
     program_is(2 * REF_BLOCK, 0x00, 0);
     ticked(1, 0, 1);
-    registers_are(14 * 4, ESUS, 0x10 | P_ERR | PROT_E);
-    stored[2 * REF_BLOCK] = 0x00;
+    registers_are(status, ESUS | function, 0x10 | P_ERR | PROT_E);
+    *change_stored(2 * REF_BLOCK, 1) = 0x00;
     array_is_as_stored();
 }
 
 /* A command while an erase is suspended, with WEL 0 and with WEL 1, and while a program runs within it. */
-static const struct {
+struct nested_command {
     uint8_t length;
-    uint8_t bytes[6];
+    uint8_t bytes[7];
     uint8_t disabled, enabled, running; /* the numbers */
-} nested_commands[] = {
+};
+
+/* Those with an address of the array, on the old sizes, where it is three bytes. */
+static const struct nested_command old_commands[] = {
     {4, {0x03, 0x00, 0x00, 0x00}, 0, 0, 22},    {3, {0x03, 0x00, 0x00}, 24, 24, 22},
     {5, {0x0B, 0x00, 0x00, 0x00}, 0, 0, 22},    {4, {0x0B, 0x00, 0x00, 0x00}, 24, 24, 22},
+    {4, {0x02, 0x00, 0x00, 0x00}, 24, 24, 22},  {5, {0x02, 0x00, 0x0F, 0xFF, 0x00}, 26, 28, 22},
+    {4, {0xD7, 0x00, 0x00, 0x00}, 23, 23, 22},  {4, {0x20, 0x00, 0x80, 0x00}, 23, 23, 22},
+    {4, {0x52, 0x00, 0x80, 0x00}, 23, 23, 22},  {4, {0xD8, 0x0F, 0x00, 0x00}, 23, 23, 22},
+    {1, {0x16}, 20, 20, 20},                    {2, {0xC8, 0x00}, 20, 20, 20},
+    {2, {0x17, 0x80}, 20, 20, 20},              {2, {0xC5, 0x81}, 20, 20, 20},
+    {1, {0xB7}, 20, 20, 20},                    {1, {0x29}, 20, 20, 20},
+    {5, {0x13, 0, 0, 0, 0}, 20, 20, 20},        {6, {0x0C, 0, 0, 0, 0, 0}, 20, 20, 20},
+    {6, {0x12, 0, 0, 0x10, 0, 0}, 20, 20, 20},  {5, {0x21, 0, 0, 0x10, 0}, 20, 20, 20},
+    {5, {0x5C, 0, 0, 0x80, 0}, 20, 20, 20},     {5, {0xDC, 0, 1, 0, 0}, 20, 20, 20},
+};
+
+/* On 512 blocks, with EXTADD 1. */
+static const struct nested_command large_commands[] = {
+    {5, {0x03, 0, 0, 0, 0}, 0, 0, 22},          {4, {0x03, 0x00, 0x00, 0x00}, 24, 24, 22},
+    {6, {0x0B, 0, 0, 0, 0, 0}, 0, 0, 22},       {5, {0x0B, 0, 0, 0, 0}, 24, 24, 22},
+    {5, {0x13, 1, 0, 0, 0}, 0, 0, 22},          {4, {0x13, 0, 0, 0}, 24, 24, 22},
+    {6, {0x0C, 1, 0, 0, 0, 0}, 0, 0, 22},       {5, {0x0C, 0, 0, 0, 0}, 24, 24, 22},
+    {5, {0x02, 0, 0, 0, 0}, 24, 24, 22},        {6, {0x02, 0, 0, 0x0F, 0xFF, 0x00}, 26, 28, 22},
+    {6, {0x12, 0, 0, 0x0F, 0xFF, 0x00}, 23, 23, 22}, {6, {0x12, 1, 0, 0, 0, 0x00}, 23, 23, 22},
+    {5, {0x12, 1, 0, 0, 0}, 23, 23, 22},        {5, {0xD7, 1, 0, 0, 0}, 23, 23, 22},
+    {4, {0xD7, 0, 0, 0}, 23, 23, 22},           {5, {0x20, 1, 0, 0, 0}, 23, 23, 22},
+    {5, {0x52, 1, 0, 0, 0}, 23, 23, 22},        {5, {0xD8, 1, 0, 0, 0}, 23, 23, 22},
+    {5, {0x21, 1, 0, 0, 0}, 23, 23, 22},        {5, {0x5C, 1, 0, 0, 0}, 23, 23, 22},
+    {5, {0xDC, 1, 0, 0, 0}, 23, 23, 22},        {4, {0xDC, 1, 0, 0}, 23, 23, 22},
+    {1, {0x16}, 0, 0, 22},                      {1, {0xC8}, 0, 0, 22},
+    {2, {0x17, 0x00}, 23, 23, 22},              {2, {0xC5, 0x01}, 23, 23, 22},
+    {1, {0xC5}, 23, 23, 22},                    {1, {0xB7}, 23, 23, 22},
+    {1, {0x29}, 23, 23, 22},                    {2, {0x29, 0x00}, 23, 23, 22},
+    {2, {0x18, 0x01}, 20, 20, 20},
+};
+
+/* All others, on each size. */
+static const struct nested_command nested_commands[] = {
     {1, {0x05}, 0, 0, 0},                       {1, {0x48}, 0, 0, 0},
     {1, {0x81}, 0, 0, 0},                       {1, {0x9F}, 0, 0, 22},
     {4, {0x90, 0x00, 0x00, 0x00}, 0, 0, 22},    {1, {0xAB}, 0, 0, 22},
     {5, {0x68, 0x00, 0x30, 0x00}, 0, 0, 22},    {5, {0x68, 0x00, 0x40, 0x00}, 27, 27, 22},
     {2, {0x06, 0x00}, 24, 24, 22},              {2, {0x04, 0x00}, 24, 24, 22},
-    {4, {0x02, 0x00, 0x00, 0x00}, 24, 24, 22},  {5, {0x02, 0x00, 0x0F, 0xFF, 0x00}, 26, 28, 22},
-    {4, {0xD7, 0x00, 0x00, 0x00}, 23, 23, 22},  {4, {0x20, 0x00, 0x80, 0x00}, 23, 23, 22},
-    {4, {0x52, 0x00, 0x80, 0x00}, 23, 23, 22},  {4, {0xD8, 0x0F, 0x00, 0x00}, 23, 23, 22},
     {1, {0xC7}, 23, 23, 22},                    {1, {0x60}, 23, 23, 22},
     {4, {0x64, 0x00, 0x20, 0x00}, 23, 23, 22},  {5, {0x62, 0x00, 0x20, 0x00, 0x00}, 23, 23, 22},
     {2, {0x01, 0x3C}, 23, 23, 22},              {2, {0x42, 0xF0}, 23, 23, 22},
@@ -1061,30 +1021,35 @@ static const struct {
 };
 
 /* Each command on a fresh part in each of the three, and the registers after it. */
-static void each_command_nested(uint32_t blocks)
+static void commands_nested(uint32_t blocks, const struct nested_command *commands, size_t count)
 {
-    size_t i;
-
-    for (i = 0; i < COUNT(nested_commands); i++) {
-        const uint8_t *bytes = nested_commands[i].bytes;
-        size_t length = nested_commands[i].length;
-        uint8_t errors = nested_commands[i].enabled == 28 ? P_ERR | PROT_E : 0;
+    for (; count > 0; count--, commands++) {
+        uint8_t errors = commands->enabled == 28 ? P_ERR | PROT_E : 0;
         struct progress progress = suspended_at(blocks, &unit_erases[0], 0, 3);
 
-        command(bytes, length, nested_commands[i].disabled);
+        command(commands->bytes, commands->length, commands->disabled);
         registers_are(0x00, ESUS, 0x10);
         command("\x06", 1, 0);
-        command(bytes, length, nested_commands[i].enabled);
+        command(commands->bytes, commands->length, commands->enabled);
         registers_are(WEL, ESUS, 0x10 | errors);
         program_is(unit_bytes(progress.erase), 0x00, 0);
-        command(bytes, length, nested_commands[i].running);
+        command(commands->bytes, commands->length, commands->running);
         registers_are(WEL | WIP, ESUS, 0x10 | errors | WIP);
         ticked(1, 0, 1);
-        stored[unit_bytes(progress.erase)] = 0x00;
+        *change_stored(unit_bytes(progress.erase), 1) = 0x00;
         array_is_as_stored();
         registers_are(0x00, ESUS, 0x10 | errors);
         resumed_to_the_end(&progress, errors);
     }
+}
+
+static void each_command_nested(uint32_t blocks)
+{
+    commands_nested(blocks, nested_commands, COUNT(nested_commands));
+    if (is_large())
+        commands_nested(blocks, large_commands, COUNT(large_commands));
+    else
+        commands_nested(blocks, old_commands, COUNT(old_commands));
 }
 
 /* 06h and 04h set and clear WEL, as often as they are sent; no tick does work. */
@@ -1117,7 +1082,7 @@ static void disarmed_in_suspend(uint32_t blocks)
     program_is(0x1000, 0x00, 0);
     command("\x99", 1, 25);
     ticked(1, 0, 1);
-    stored[0x1000] = 0x00;
+    *change_stored(0x1000, 1) = 0x00;
     array_is_as_stored();
     command("\x66", 1, 0);
     command("\x04", 1, 0);
@@ -1155,6 +1120,7 @@ static void both_are_dropped(void)
     array_is_as_stored();
     command("\x7A", 1, 25);
     command("\x75", 1, 25);
+    select_addresses();
     program_is(0, 0x00, 26);
 }
 
@@ -1201,17 +1167,17 @@ static void dropped(uint32_t blocks)
 /* Of a program of 300 bytes within an erase the last 256 count, and take a tick each; ticks do not disarm. */
 static void long_inner_program(uint32_t blocks)
 {
-    uint8_t bytes[304] = {0x02, 0x00, 0x10, 0x80};
+    uint8_t bytes[300];
     struct progress progress = suspended_at(blocks, &unit_erases[0], 0, 0);
     uint32_t i;
 
     for (i = 0; i < 300; i++) {
-        bytes[4 + i] = (uint8_t)(i * 5);
+        bytes[i] = (uint8_t)(i * 5);
         if (i >= 300 - 256)
-            stored[0x1000 + (0x80 + i) % 256] &= (uint8_t)(i * 5);
+            *change_stored(0x1000 + (0x80 + i) % 256, 1) &= (uint8_t)(i * 5);
     }
     command("\x06", 1, 0);
-    command(bytes, sizeof bytes, 0);
+    addressed(0x02, 0x1080, bytes, sizeof bytes, 0);
     ticked(255, 0, 255);
     registers_are(WEL | WIP, ESUS, 0x10 | WIP);
     command("\x66", 1, 0);
@@ -1228,6 +1194,7 @@ static void suspended_program(uint32_t blocks)
 {
     fill_stored();
     powered(blocks);
+    select_addresses();
     command("\x06", 1, 0);
     program_is(0x1000, 0x00, 0);
     command("\x75", 1, 0);
@@ -1239,7 +1206,7 @@ static void suspended_program(uint32_t blocks)
     registers_are(0x00, PSUS, 0x10);
     command("\x7A", 1, 0);
     ticked(2, 0, 1);
-    stored[0x1000] = 0x00;
+    *change_stored(0x1000, 1) = 0x00;
     array_is_as_stored();
     registers_are(0x00, 0x00, 0x10);
 }
@@ -1256,6 +1223,7 @@ static void during_erase_suspend(uint32_t blocks)
     dropped(blocks);
     long_inner_program(blocks);
     suspended_program(blocks);
+    whole_array_is_as_stored();
 }
 
 static void on_size(uint32_t blocks)
@@ -1263,16 +1231,18 @@ static void on_size(uint32_t blocks)
     struct call no_record;
 
     begin_run("directed calls", blocks, blocks);
+    forget_stored();
     no_record = status_read(); /* junk is no record */
     number_is(&no_record, 5);
     no_record = fitting(TICK);
     number_is(&no_record, 5);
-    power_up_numbers();
+    power_up_numbers(blocks);
     powered(blocks);
     transact_numbers();
-    tick_numbers();
+    tick_numbers(blocks);
     identity();
-    protected_blocks(blocks);
+    if (blocks != REF_LARGE)
+        protected_blocks(blocks);
     why_nothing(blocks);
     during_erase_suspend(blocks);
     end_run();

@@ -20,16 +20,19 @@ extern int printf(const char *format, ...) __attribute__((format(printf, 1, 2)))
 
 /* ---- The rules. */
 
+#define LARGE UINT64_C(512)
+
 static int known_size(uint64_t blocks)
 {
-    return blocks == 1 || blocks == 4 || blocks == 8 || blocks == 16;
+    return blocks == 1 || blocks == 4 || blocks == 8 || blocks == 16 || blocks == LARGE;
 }
 
+/* On 512 blocks bit 4 of the code is TBS. */
 static uint64_t number_rule(uint64_t code, uint64_t blocks)
 {
     if (!known_size(blocks))
         return 1;
-    if (code > 15)
+    if (code > (blocks == LARGE ? 31 : 15))
         return 5;
     return 0;
 }
@@ -39,13 +42,24 @@ static uint64_t lesser(uint64_t a, uint64_t b)
     return a < b ? a : b;
 }
 
+/* 1, 2, 4 up to 256 blocks by the codes 1 to 9, at the top or with TBS at the bottom; all from code 10 on. */
+static uint64_t large_rule(uint64_t code, uint64_t block)
+{
+    uint64_t bp = code % 16;
+    if (bp == 0 || bp >= 10)
+        return bp != 0;
+    return code < 16 ? block >= LARGE - TWO_TO(bp - 1) : block < TWO_TO(bp - 1);
+}
+
 static uint64_t protected_rule(uint64_t code, uint64_t blocks, uint64_t address)
 {
-    if (!known_size(blocks) || code > 15)
-        return 0;
-    if (code == 0 || code == 15)
+    if (number_rule(code, blocks) != 0)
         return 0;
     uint64_t block = address % (blocks * BLOCK) / BLOCK;
+    if (blocks == LARGE)
+        return large_rule(code, block);
+    if (code == 0 || code == 15)
+        return 0;
     if (code <= 7)
         return block >= blocks - lesser(blocks, TWO_TO(code - 1));
     return block < lesser(blocks, TWO_TO(14 - code));
@@ -194,6 +208,44 @@ static const struct {
     /* 15 */ {{0, 0}, {0, 0}, {0, 0}, {0, 0}},
 };
 
+/* The block table of 512 blocks, with TBS 0 and then, 16 added to the code, with TBS 1. */
+static const struct {
+    uint64_t first, count;
+} large_table[32] = {
+    /*  0 */ {0, 0},
+    /*  1 */ {511, 1},
+    /*  2 */ {510, 2},
+    /*  3 */ {508, 4},
+    /*  4 */ {504, 8},
+    /*  5 */ {496, 16},
+    /*  6 */ {480, 32},
+    /*  7 */ {448, 64},
+    /*  8 */ {384, 128},
+    /*  9 */ {256, 256},
+    /* 10 */ {0, 512},
+    /* 11 */ {0, 512},
+    /* 12 */ {0, 512},
+    /* 13 */ {0, 512},
+    /* 14 */ {0, 512},
+    /* 15 */ {0, 512},
+    /* 16 */ {0, 0},
+    /* 17 */ {0, 1},
+    /* 18 */ {0, 2},
+    /* 19 */ {0, 4},
+    /* 20 */ {0, 8},
+    /* 21 */ {0, 16},
+    /* 22 */ {0, 32},
+    /* 23 */ {0, 64},
+    /* 24 */ {0, 128},
+    /* 25 */ {0, 256},
+    /* 26 */ {0, 512},
+    /* 27 */ {0, 512},
+    /* 28 */ {0, 512},
+    /* 29 */ {0, 512},
+    /* 30 */ {0, 512},
+    /* 31 */ {0, 512},
+};
+
 /* A bad size, a bad code, and both. Many of them would be good if they were cut to 4, 8 or 32 bits. */
 static const struct {
     uint64_t code, blocks, number;
@@ -201,6 +253,11 @@ static const struct {
     {1, 0, 1},   {1, 2, 1},    {14, 17, 1},           {1, 256 + 4, 1},  {14, TWO_TO(32) + 16, 1},
     {17, 16, 5}, {30, 1, 5},   {256 + 1, 4, 5},       {256 + 1, 1, 5},  {TWO_TO(32) + 8, 8, 5},
     {16, 2, 1},  {17, 260, 1}, {256 + 1, 256 + 1, 1}, {TOP, TOP, 1},
+    {1, 511, 1}, {1, 513, 1},  {26, 256, 1},          {26, 1024, 1},    {1, 512 + 65536, 1},
+    {9, 528, 1}, {31, 511, 1}, {26, TWO_TO(32) + 512, 1}, {32, 513, 1}, {26, TWO_TO(63) + 512, 1},
+    {16, 16, 5}, {31, 16, 5},  {17, 8, 5},            {26, 4, 5},       {26, 1, 5},
+    {32, 512, 5}, {33, 512, 5}, {63, 512, 5},         {256 + 1, 512, 5}, {TWO_TO(32) + 31, 512, 5},
+    {TOP, 512, 5},
 };
 
 static void fixed_cases(void)
@@ -215,6 +272,11 @@ static void fixed_cases(void)
             first_is(code, table_blocks[i], table[code][i].first);
             count_is(code, table_blocks[i], table[code][i].count);
         }
+    for (uint64_t code = 0; code < COUNT(large_table); code++) {
+        number_is(code, LARGE, 0, 0);
+        first_is(code, LARGE, large_table[code].first);
+        count_is(code, LARGE, large_table[code].count);
+    }
     for (uint64_t i = 0; i < COUNT(refused); i++) {
         number_is(refused[i].code, refused[i].blocks, 0, refused[i].number);
         protected_is(refused[i].code, refused[i].blocks, 0, 0);
@@ -309,7 +371,22 @@ static void law_of_block(uint64_t code, uint64_t blocks, uint64_t block, uint64_
     }
 }
 
-/* Of a size above 16, which is always refused, the first 16 blocks are tried. */
+/* The first and the last byte of each of 512 blocks, in the part and beyond it, by the block table. */
+static void large_blocks(void)
+{
+    static const uint64_t beyond[] = {0, 1, 127, TWO_TO(39) - 1};
+    for (uint64_t code = 0; code < COUNT(large_table); code++)
+        for (uint64_t block = 0; block < LARGE; block++)
+            for (uint64_t i = 0; i < COUNT(beyond); i++) {
+                uint64_t start = (beyond[i] * LARGE + block) * BLOCK;
+                uint64_t wanted = block >= large_table[code].first &&
+                                  block < large_table[code].first + large_table[code].count;
+                protected_is(code, LARGE, start, wanted);
+                protected_is(code, LARGE, start + BLOCK - 1, wanted);
+            }
+}
+
+/* Of other sizes above 16, which are always refused, the first 16 blocks are tried. */
 static void laws(uint64_t code, uint64_t blocks)
 {
     uint64_t number = call_three(code, blocks, 0, yawlspar_protection_number);
@@ -322,8 +399,20 @@ static void laws(uint64_t code, uint64_t blocks)
             first, count);
         law("first is 0 where count is", first == 0 || count != 0, code, blocks, first, count);
     }
-    for (uint64_t block = 0; block < lesser(blocks, 16); block++)
+    for (uint64_t block = 0; block < (blocks == LARGE ? LARGE : lesser(blocks, 16)); block++)
         law_of_block(code, blocks, block, first, count);
+}
+
+/* The codes that are 0 to 15 with a bit more, which is TBS on 512 blocks: on each size, and on those beside 512. */
+static void codes_with_another_bit(void)
+{
+    static const uint64_t sizes[] = {1, 4, 8, 16, 256, 511, LARGE, 513, 1024, TWO_TO(32) + LARGE};
+    for (uint64_t code = 0; code < 70; code++)
+        for (uint64_t i = 0; i < COUNT(sizes); i++)
+            for (uint64_t j = 0; j < COUNT(added); j++) {
+                first_and_count(code + added[j], sizes[i]);
+                laws(code + added[j], sizes[i]);
+            }
 }
 
 static void protected_blocks(void)
@@ -373,6 +462,8 @@ int main(void)
     fixed_cases();
     protection();
     protected_blocks();
+    large_blocks();
+    codes_with_another_bit();
     places();
     printf("numbers: %llu comparisons, %llu differences\n", (unsigned long long)comparisons,
            (unsigned long long)differences);

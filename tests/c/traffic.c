@@ -35,7 +35,7 @@ static size_t wrong_record_length(void)
 
 static size_t wrong_array_length(void)
 {
-    static const uint8_t sizes[] = {0, 1, 2, 4, 8, 16};
+    static const uint64_t sizes[] = {0, 1, 2, 4, 8, 16}, large_sizes[] = {0, 1, 16, 256, 511, REF_LARGE, 513};
     size_t right = fitting(TICK).array;
 
     switch (below(4)) {
@@ -44,7 +44,7 @@ static size_t wrong_array_length(void)
     case 1:
         return right + between(1, REF_BLOCK);
     default: /* that of another size, or now and then the right one */
-        return (size_t)pick_byte(sizes, COUNT(sizes)) * REF_BLOCK;
+        return (part.size == REF_LARGE ? pick(large_sizes, COUNT(large_sizes)) : pick(sizes, COUNT(sizes))) * REF_BLOCK;
     }
 }
 
@@ -78,10 +78,11 @@ static size_t wrong_output_length(size_t input)
 
 static uint64_t too_many_ticks(void)
 {
-    static const uint64_t ticks[] = {4097, 4098, 8192, 65536, UINT64_C(1) << 32, (UINT64_C(1) << 32) + 1,
+    static const uint64_t ticks[] = {1, 2, 4096, 61440, 131072};
+    static const uint64_t great[] = {UINT64_C(1) << 32, (UINT64_C(1) << 32) + 1, (UINT64_C(1) << 32) + 131072,
                                      UINT64_C(1) << 63, UINT64_MAX};
 
-    return pick(ticks, COUNT(ticks));
+    return one_in(2) ? traffic_ticks_most() + pick(ticks, COUNT(ticks)) : pick(great, COUNT(great));
 }
 
 /* One thing of the call is spoilt that its kind looks at. */
@@ -115,7 +116,7 @@ static void spoil(struct call *call)
 static void strange_transact(void)
 {
     static const uint8_t openings[] = {0x03, 0x05, 0x06, 0x66, 0x99, 0x9F, 0xC7, 0x04, 0xB9, 0xAB,
-                                       0x75, 0x7A, 0x81, 0x82, 0x83, 0x85};
+                                       0x75, 0x7A, 0x81, 0x82, 0x83, 0x85, 0xB7, 0x29, 0xC8, 0x13};
     struct call call = fitting(TRANSACT);
 
     message[0] = pick_byte(openings, COUNT(openings));
@@ -147,6 +148,8 @@ static struct call random_power_up(void)
     call.device = any_byte();
     call.status = one_in(2) ? 0 : any_byte() & 0xFC;
     call.function = one_in(2) ? 0 : any_byte() & locks & 0xF0;
+    if (call.blocks == REF_LARGE && one_in(2))
+        call.function |= 0x02; /* TBS */
     call.extended = one_in(4) ? 0 : any_byte() & 0xE0;
     return call;
 }
@@ -161,9 +164,10 @@ static void spoil_number(struct call *call)
 
 static void spoil_power_up(struct call *call)
 {
-    static const uint64_t no_sizes[] = {0,  2,  3,   5,   7,   9,         12,
-                                        15, 17, 32,  64,  257, 260,       65536,
-                                        UINT64_C(1) << 32, (UINT64_C(1) << 32) + 16, UINT64_MAX};
+    static const uint64_t no_sizes[] = {0, 2, 3, 5, 7, 9, 12, 15, 17, 32, 64, 256, 257, 260, 511, 513, 1024, 65536,
+                                        UINT64_C(1) << 32, (UINT64_C(1) << 32) + 16, (UINT64_C(1) << 32) + 512,
+                                        UINT64_MAX};
+    static const uint8_t zero_bits[] = {0x01, 0x04, 0x08, 0x03, 0x0D, 0x0F};
 
     switch (below(6)) {
     case 0:
@@ -175,8 +179,8 @@ static void spoil_power_up(struct call *call)
     case 2:
         call->status |= between(1, 3);
         break;
-    case 3:
-        call->function |= between(1, 15);
+    case 3: /* not TBS alone on 512 blocks, where it is good */
+        call->function |= call->blocks == REF_LARGE ? pick_byte(zero_bits, COUNT(zero_bits)) : between(1, 15);
         break;
     case 4:
         call->extended |= between(1, 31);
@@ -191,10 +195,10 @@ static void spoil_power_up(struct call *call)
 
 static void strange_power_up(void)
 {
-    static const uint8_t sizes[] = {1, 4, 8, 16};
+    static const uint64_t sizes[] = {1, 4, 8, 16, REF_LARGE};
     struct call call = random_power_up();
 
-    call.blocks = pick_byte(sizes, COUNT(sizes));
+    call.blocks = pick(sizes, COUNT(sizes));
     do
         spoil_power_up(&call);
     while (one_in(2));
@@ -263,7 +267,7 @@ static void make_ready(void)
         send_code(0x99);
     }
     if (part.phase == BUSY)
-        traffic_wait(REF_MOST);
+        traffic_wait(traffic_ticks_most());
     if ((part.status & 0x3C) != 0 && !one_in(4))
         unprotect();
 }
@@ -298,7 +302,7 @@ static void chapter(void)
 
 void random_calls(uint64_t seed, uint64_t least)
 {
-    static const uint8_t sizes[] = {1, 16, 4, 8, 1, 4};
+    static const uint32_t sizes[] = {1, 16, 4, 8, 1, REF_LARGE, 4};
     struct limits limits = {.message_most = REF_MOST, .long_one_in = 12, .blocks = sizes[seed % COUNT(sizes)]};
     uint64_t end = calls + least;
 

@@ -1,7 +1,8 @@
 /*
  * Holds the functions of yawlspar.h that are the whole model against the reference model, call by call.
  *
- *   whole               the directed calls, the damaged records, and random calls of the seeds 1 to 250
+ *   whole               the directed calls, those for 512 blocks, the damaged records, and random calls of the seeds
+ *                       1 to 250
  *   whole FIRST LAST    random calls of the seeds FIRST to LAST alone
  *
  * It prints one line with the number of calls compared and of differences. The first difference ends it: it
@@ -26,6 +27,7 @@ int main(int argc, char **argv)
 
     if (argc == 1) {
         directed_calls();
+        large_calls();
         damaged_records();
         seeds(1, LAST_SEED);
     } else if (argc == 3 && seed_of(argv[1], &first) && seed_of(argv[2], &last)) {

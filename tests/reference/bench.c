@@ -4,6 +4,8 @@
  *                      on the 1-block part, lines of up to 64 pairs
  *   reference sizes    the program `bench_sizes`: up to 262,144 bytes, lines of up to 4,096 pairs, the
  *                      whole script on a fresh part of 1, then 4, 8 and 16 blocks
+ *   reference 512      the same on a fresh part of 512 blocks with TBS 0 (top), then on one with TBS 1
+ *                      (bottom), identity 9D 60 19 18h; a K line has up to six digits
  *
  * The exit status is 0; 1 where reading or writing fails; 2 where the arguments are others. */
 #include "reference.h"
@@ -13,20 +15,39 @@ extern long write(int, const void *, unsigned long);
 extern int strcmp(const char *, const char *);
 
 #define INPUT_MOST 262144u
-#define BLOCKS_MOST 16u
 
-struct form {
-    size_t input_most; /* bytes that are read; those past them are not */
-    size_t pairs_most; /* pairs in a T or L line */
-    size_t sizes;      /* how many of part_sizes the script is run on */
+/* A part at the beginning of a script; its status and extended read register are 0. */
+struct fresh {
+    uint32_t size;
+    uint8_t m, t, c, d;
+    uint8_t function;
 };
 
-static const struct form one_size = {65536, 64, 1};
-static const struct form all_sizes = {INPUT_MOST, REF_MOST, 4};
-static const uint32_t part_sizes[] = {1, 4, 8, BLOCKS_MOST};
+static const struct fresh old_parts[] = {
+    {1, 0x11, 0x22, 0x33, 0x44, 0x00},
+    {4, 0x11, 0x22, 0x33, 0x44, 0x00},
+    {8, 0x11, 0x22, 0x33, 0x44, 0x00},
+    {16, 0x11, 0x22, 0x33, 0x44, 0x00},
+};
+static const struct fresh large_parts[] = {
+    {REF_LARGE, 0x9D, 0x60, 0x19, 0x18, 0x00},
+    {REF_LARGE, 0x9D, 0x60, 0x19, 0x18, 0x02}, /* TBS */
+};
+
+struct form {
+    size_t input_most;  /* bytes that are read; those past them are not */
+    size_t pairs_most;  /* pairs in a T or L line */
+    size_t digits_most; /* digits in a K line */
+    const struct fresh *parts; /* the script is run on each of these */
+    size_t count;
+};
+
+static const struct form one_size = {65536, 64, 5, old_parts, 1};
+static const struct form old_sizes = {INPUT_MOST, REF_MOST, 5, old_parts, 4};
+static const struct form large_size = {INPUT_MOST, REF_MOST, 6, large_parts, 2};
 
 static uint8_t input[INPUT_MOST];
-static uint8_t array[BLOCKS_MOST * REF_BLOCK];
+static uint8_t array[REF_LARGE * REF_BLOCK]; /* a smaller part has the first of it */
 static uint8_t rows[REF_ROWS];
 static uint8_t in[REF_MOST], out[REF_MOST];
 static struct part part;
@@ -159,14 +180,14 @@ static bool transaction_line(const uint8_t *line, size_t length, size_t pairs_mo
     return true;
 }
 
-/* `K`, a space, one to five digits. False where the line is not of this form. */
-static bool tick_line(const uint8_t *line, size_t length)
+/* `K`, a space, one to digits_most digits. False where the line is not of this form. */
+static bool tick_line(const uint8_t *line, size_t length, size_t digits_most)
 {
     uint32_t ticks = 0, worked;
     size_t i;
     int answer;
 
-    if (length < 3 || length > 7 || line[0] != 'K' || line[1] != ' ')
+    if (length < 3 || length > 2 + digits_most || line[0] != 'K' || line[1] != ' ')
         return false;
     for (i = 2; i < length; i++) {
         if (line[i] < '0' || line[i] > '9')
@@ -200,19 +221,19 @@ static long take_input(size_t most)
     return (long)length;
 }
 
-/* A fresh part: array and rows FFh, registers 0. */
-static bool fresh_part(uint32_t size)
+/* Makes a fresh part: array and rows FFh. */
+static bool make_part(const struct fresh *fresh)
 {
     size_t i;
 
-    for (i = 0; i < sizeof array; i++)
+    for (i = 0; i < (size_t)fresh->size * REF_BLOCK; i++)
         array[i] = 0xFF;
     for (i = 0; i < sizeof rows; i++)
         rows[i] = 0xFF;
-    return ref_power_up(&part, size, 0x11, 0x22, 0x33, 0x44, 0, 0, 0) == 0;
+    return ref_power_up(&part, fresh->size, fresh->m, fresh->t, fresh->c, fresh->d, 0, fresh->function, 0) == 0;
 }
 
-static void run_script(size_t length, size_t pairs_most)
+static void run_script(size_t length, const struct form *form)
 {
     size_t at = 0;
 
@@ -221,7 +242,8 @@ static void run_script(size_t length, size_t pairs_most)
 
         while (end < length && input[end] != '\n')
             end++;
-        if (!transaction_line(input + at, end - at, pairs_most) && !tick_line(input + at, end - at)) {
+        if (!transaction_line(input + at, end - at, form->pairs_most) &&
+            !tick_line(input + at, end - at, form->digits_most)) {
             put('?');
             put('\n');
         }
@@ -236,10 +258,10 @@ static int run_form(const struct form *form)
 
     if (length < 0)
         return complain("reference: standard input can't be read\n", 1);
-    for (i = 0; i < form->sizes; i++) {
-        if (!fresh_part(part_sizes[i]))
+    for (i = 0; i < form->count; i++) {
+        if (!make_part(&form->parts[i]))
             return complain("reference: power-up is refused\n", 1);
-        run_script((size_t)length, form->pairs_most);
+        run_script((size_t)length, form);
     }
     flush();
     return failed ? complain("reference: standard output can't be written\n", 1) : 0;
@@ -250,6 +272,8 @@ int main(int argc, char **argv)
     if (argc == 1)
         return run_form(&one_size);
     if (argc == 2 && strcmp(argv[1], "sizes") == 0)
-        return run_form(&all_sizes);
-    return complain("usage: reference [sizes], with the script on standard input\n", 2);
+        return run_form(&old_sizes);
+    if (argc == 2 && strcmp(argv[1], "512") == 0)
+        return run_form(&large_size);
+    return complain("usage: reference [sizes | 512], with the script on standard input\n", 2);
 }

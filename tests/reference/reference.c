@@ -3,9 +3,21 @@
 
 /* ---- The part on the bench ---- */
 
-static bool size_is_good(uint64_t size)
+bool ref_size_ok(uint64_t size)
 {
-    return size == 1 || size == 4 || size == 8 || size == 16;
+    return size == 1 || size == 4 || size == 8 || size == 16 || size == REF_LARGE;
+}
+
+/* What 004 adds, its registers' bits and its codes, is on this size alone. */
+static bool is_large(uint64_t size)
+{
+    return size == REF_LARGE;
+}
+
+/* Refusal 6: more than 4,096 ticks; on 512 blocks more than 131,072. */
+uint32_t ref_ticks_most(uint32_t size)
+{
+    return is_large(size) ? 131072 : 4096;
 }
 
 /* Bytes in the array; asked of good sizes only. */
@@ -19,35 +31,70 @@ static unsigned bp_code(uint8_t status)
     return (status >> 2) & 15u;
 }
 
-/* Protection: the first block that the code protects, and how many it protects from it on. */
-int ref_protection(uint64_t code, uint64_t size, uint64_t *first, uint64_t *count)
+/* TBS: top area or bottom area. */
+static bool bottom_is_selected(uint8_t function)
+{
+    return (function & 0x02) != 0;
+}
+
+/* 01: how many blocks a code protects on the old sizes, and whether they are the bottom ones. */
+static uint64_t protects_on_old(unsigned bp, uint64_t size, bool *bottom)
 {
     uint64_t many;
 
+    *bottom = bp >= 8;
+    if (bp == 0 || bp == 15)
+        return 0;
+    many = (uint64_t)1 << (bp <= 7 ? bp - 1 : 14 - bp);
+    return many > size ? size : many;
+}
+
+/* 004, table 6.4: 1 block by code 1 and twice as many by each next one; all 512 from code 10 on. */
+static uint64_t protects_on_large(unsigned bp)
+{
+    if (bp == 0)
+        return 0;
+    return bp >= 10 ? REF_LARGE : (uint64_t)1 << (bp - 1);
+}
+
+/* Protection: the first block that the code protects, and how many it protects from it on. */
+int ref_protection(uint64_t code, uint64_t size, uint64_t *first, uint64_t *count)
+{
+    unsigned bp = (unsigned)(code & 15);
+    bool bottom;
+
     *first = 0;
     *count = 0;
-    if (!size_is_good(size))
+    if (!ref_size_ok(size))
         return 1;
-    if (code > 15)
+    if (code > (is_large(size) ? 31 : 15))
         return 5;
-    if (code == 0 || code == 15)
-        return 0;
-    many = (uint64_t)1 << (code <= 7 ? code - 1 : 14 - code);
-    if (many > size)
-        many = size;
-    if (code <= 7)
-        *first = size - many; /* the top blocks; the bottom ones are from 0 on */
-    *count = many;
+    if (is_large(size)) {
+        bottom = code >= 16;
+        *count = protects_on_large(bp);
+    } else {
+        *count = protects_on_old(bp, size, &bottom);
+    }
+    if (*count != 0 && !bottom)
+        *first = size - *count; /* the top blocks; the bottom ones are from 0 on */
     return 0;
 }
 
+/* The code of the protection question under a part's registers. */
+static unsigned protection_code(const struct part *part)
+{
+    bool bottom = is_large(part->size) && bottom_is_selected(part->function);
+
+    return bp_code(part->status) + (bottom ? 16 : 0);
+}
+
 /* Is the block of the address, which is inside the part, protected? Asked of good sizes only. */
-static bool address_protected(uint32_t size, uint8_t status, uint32_t address)
+static bool address_protected(const struct part *part, uint32_t address)
 {
     uint32_t block = address / REF_BLOCK;
     uint64_t first, count;
 
-    ref_protection(bp_code(status), size, &first, &count);
+    ref_protection(protection_code(part), part->size, &first, &count);
     return block >= first && block < first + count;
 }
 
@@ -137,7 +184,7 @@ static bool operation_is_sound(const struct part *part, const struct operation *
     case PP:
         if (op->base % REF_PAGE != 0 || op->base >= array_bytes(part->size))
             return false;
-        if (address_protected(part->size, part->status, op->base))
+        if (address_protected(part, op->base))
             return false;
         if (op->count < 1 || op->count > 256 || op->start >= 256)
             return false;
@@ -149,7 +196,7 @@ static bool operation_is_sound(const struct part *part, const struct operation *
             return false;
         if (op->base >= array_bytes(part->size))
             return false;
-        if (address_protected(part->size, part->status, op->base))
+        if (address_protected(part, op->base))
             return false;
         break;
     case CER:
@@ -209,6 +256,12 @@ static bool phase_is_sound(const struct part *part)
     }
 }
 
+/* Function bit 0 is zero, and so is bit 1 but for the TBS of 512 blocks. */
+static bool tbs_and_bit_0_ok(uint32_t size, uint8_t function)
+{
+    return (function & (is_large(size) ? 0x01 : 0x03)) == 0;
+}
+
 /* The stored bits that other fields define agree with them; those that have to be zero are. */
 static bool registers_are_sound(const struct part *part)
 {
@@ -220,7 +273,9 @@ static bool registers_are_sound(const struct part *part)
         return false;
     if (((part->function & 0x04) != 0) != program_is_suspended(part))
         return false;
-    if ((part->function & 0x03) != 0)
+    if (!tbs_and_bit_0_ok(part->size, part->function))
+        return false;
+    if ((part->bank & (is_large(part->size) ? 0x7E : 0xFF)) != 0)
         return false;
     return (part->extended & 0x1F) == 0;
 }
@@ -242,7 +297,7 @@ static bool data_is_sound(const struct part *part)
 /* "A record is sound when ..." */
 bool ref_sound(const struct part *part)
 {
-    if (!size_is_good(part->size))
+    if (!ref_size_ok(part->size))
         return false;
     if (part->asleep && part->phase != IDLE)
         return false;
@@ -262,7 +317,7 @@ static void set_phase(struct part *part, uint8_t phase)
 {
     part->phase = phase;
     part->status = (uint8_t)((part->status & 0xFE) | (is_busy(part) ? 0x01 : 0));
-    part->function = (uint8_t)(part->function & 0xF0);
+    part->function = (uint8_t)(part->function & 0xF2); /* TBS stays */
     if (suspended_erase(part) != NULL)
         part->function = (uint8_t)(part->function | 0x08);
     if (program_is_suspended(part))
@@ -351,6 +406,12 @@ static void load_extended(struct part *part)
     clear_errors(part);
 }
 
+/* Power-up and reset give the bank address register its printed default: bank 0, three address bytes. */
+static void load_bank(struct part *part)
+{
+    part->bank = 0x00;
+}
+
 /* ---- Calls and their numbers ---- */
 
 int ref_power_up(struct part *part, uint32_t size, uint8_t m, uint8_t t, uint8_t c, uint8_t d,
@@ -358,9 +419,10 @@ int ref_power_up(struct part *part, uint32_t size, uint8_t m, uint8_t t, uint8_t
 {
     int answer = 0;
 
-    if (!size_is_good(size))
+    if (!ref_size_ok(size))
         answer = 1;
-    else if ((status & 0x03) != 0 || (function & 0x0F) != 0 || (extended & 0x1F) != 0)
+    else if ((status & 0x03) != 0 || (function & 0x0C) != 0 || !tbs_and_bit_0_ok(size, function) ||
+             (extended & 0x1F) != 0)
         answer = 5;
 
     part->size = answer == 0 ? size : 1;
@@ -372,6 +434,7 @@ int ref_power_up(struct part *part, uint32_t size, uint8_t m, uint8_t t, uint8_t
     part->function = answer == 0 ? function : 0;
     part->extended = answer == 0 ? extended : 0;
     load_extended(part);
+    load_bank(part);
     part->wel = false;
     part->armed = false;
     part->asleep = false;
@@ -383,7 +446,7 @@ int ref_power_up(struct part *part, uint32_t size, uint8_t m, uint8_t t, uint8_t
 /* Numbers 1 and 2: what is lent. */
 static int lent_wrong(const struct part *part, size_t array_length, size_t rows_length)
 {
-    if (!size_is_good(part->size) || array_length != array_bytes(part->size))
+    if (!ref_size_ok(part->size) || array_length != array_bytes(part->size))
         return 1;
     if (rows_length != REF_ROWS)
         return 2;
@@ -392,8 +455,27 @@ static int lent_wrong(const struct part *part, size_t array_length, size_t rows_
 
 /* ---- Command table ---- */
 
-static bool in_the_table(uint8_t code)
+/* The codes that 004 adds: the bank address register, and table 8.2 as far as 02 asks for it. */
+static bool in_the_large_table(uint8_t code)
 {
+    switch (code) {
+    case 0x16: case 0xC8: /* read the bank address register */
+    case 0x17: case 0xC5: /* write it */
+    case 0xB7: case 0x29: /* set and clear its EXTADD */
+    case 0x13: case 0x0C: /* reads */
+    case 0x12:            /* PP */
+    case 0x21:            /* SER */
+    case 0x5C: case 0xDC: /* BER32, BER64 */
+        return true;
+    default:
+        return false;
+    }
+}
+
+static bool in_the_table(uint32_t size, uint8_t code)
+{
+    if (is_large(size) && in_the_large_table(code))
+        return true;
     switch (code) {
     case 0x03: case 0x0B: case 0x05: case 0x48: case 0x9F: case 0x90: case 0xAB: case 0x68:
     case 0x06: case 0x04:
@@ -416,18 +498,19 @@ static bool in_the_table(uint8_t code)
 static bool is_a_read(uint8_t code)
 {
     return code == 0x03 || code == 0x0B || code == 0x05 || code == 0x48 || code == 0x9F ||
-           code == 0x90 || code == 0xAB || code == 0x68 || code == 0x81;
+           code == 0x90 || code == 0xAB || code == 0x68 || code == 0x81 || code == 0x13 ||
+           code == 0x0C || code == 0x16 || code == 0xC8;
 }
 
 static bool is_an_erase(uint8_t code)
 {
     return code == 0xD7 || code == 0x20 || code == 0x52 || code == 0xD8 || code == 0xC7 ||
-           code == 0x60 || code == 0x64;
+           code == 0x60 || code == 0x64 || code == 0x21 || code == 0x5C || code == 0xDC;
 }
 
 static bool is_a_program(uint8_t code)
 {
-    return code == 0x02 || code == 0x62;
+    return code == 0x02 || code == 0x62 || code == 0x12;
 }
 
 static bool taken_while_busy(uint8_t code)
@@ -441,25 +524,53 @@ static bool taken_while_suspended(uint8_t code)
     return is_a_read(code) || code == 0x7A || code == 0x30 || code == 0x66 || code == 0x99;
 }
 
-/* While an erase is suspended, the write enable, the write disable and the program are taken too. */
+/* While an erase is suspended, the write enable, the write disable and the program are taken too: these three codes,
+ * and not 12h. */
 static bool taken_in_erase_suspend(uint8_t code)
 {
     return taken_while_suspended(code) || code == 0x06 || code == 0x04 || code == 0x02;
 }
 
-static bool length_is_right(uint8_t code, size_t length)
+/* EXTADD, which is 0 on the old sizes. */
+static bool four_bytes_are_selected(const struct part *part)
+{
+    return (part->bank & 0x80) != 0;
+}
+
+/* How many address bytes a code that has an address takes: four by table 8.2 of 004, three or four by EXTADD for
+ * those that its table 8.3 lists, three for the others (90h and the rows). */
+static uint32_t address_bytes(const struct part *part, uint8_t code)
 {
     switch (code) {
-    case 0x05: case 0x48: case 0x81: case 0x9F: case 0xAB:
+    case 0x13: case 0x0C: case 0x12: case 0x21: case 0x5C: case 0xDC:
+        return 4;
+    case 0x03: case 0x0B: case 0x02: case 0xD7: case 0x20: case 0x52: case 0xD8:
+        return four_bytes_are_selected(part) ? 4 : 3;
+    default:
+        return 3;
+    }
+}
+
+/* The place behind the code and its address: there the data or the dummy byte is, or the first driven place. */
+static size_t behind_address(const struct part *part, uint8_t code)
+{
+    return 1 + address_bytes(part, code);
+}
+
+static bool length_is_right(const struct part *part, uint8_t code, size_t length)
+{
+    switch (code) {
+    case 0x05: case 0x48: case 0x81: case 0x9F: case 0xAB: case 0x16: case 0xC8:
         return length >= 1;
-    case 0x03: case 0x90:
-        return length >= 4;
-    case 0x0B: case 0x68: case 0x02: case 0x62:
-        return length >= 5;
-    case 0x01: case 0x42: case 0x83: case 0x85:
+    case 0x03: case 0x13: case 0x90:
+        return length >= behind_address(part, code);
+    case 0x0B: case 0x0C: case 0x68: /* one dummy byte */
+    case 0x02: case 0x12: case 0x62: /* one data byte or more */
+        return length >= behind_address(part, code) + 1;
+    case 0x01: case 0x42: case 0x83: case 0x85: case 0x17: case 0xC5:
         return length == 2;
-    case 0xD7: case 0x20: case 0x52: case 0xD8: case 0x64:
-        return length == 4;
+    case 0xD7: case 0x20: case 0x52: case 0xD8: case 0x64: case 0x21: case 0x5C: case 0xDC:
+        return length == behind_address(part, code);
     default:
         return length == 1;
     }
@@ -469,7 +580,7 @@ static bool needs_wel(uint8_t code)
 {
     switch (code) {
     case 0x01: case 0x42: case 0x85: case 0x02: case 0xD7: case 0x20: case 0x52: case 0xD8:
-    case 0xC7: case 0x60: case 0x64: case 0x62:
+    case 0xC7: case 0x60: case 0x64: case 0x62: case 0x12: case 0x21: case 0x5C: case 0xDC:
         return true;
     default:
         return false;
@@ -487,11 +598,16 @@ static bool row_address_is_valid(const uint8_t *in)
     return in[1] == 0x00 && (in[2] == 0x00 || in[2] == 0x10 || in[2] == 0x20 || in[2] == 0x30);
 }
 
-/* A: three address bytes, high byte first, modulo the array size. */
+/* A: three or four address bytes, high byte first, modulo the array size. The bank bit, which is 0 on the old sizes,
+ * is the bit above three bytes; with four it is not used. Asked of the codes of the array only. */
 static uint32_t address_of(const struct part *part, const uint8_t *in)
 {
-    uint32_t sent = ((uint32_t)in[1] << 16) | ((uint32_t)in[2] << 8) | (uint32_t)in[3];
+    uint32_t bytes = address_bytes(part, in[0]);
+    uint32_t sent = bytes == 3 ? part->bank & 1u : 0;
+    uint32_t i;
 
+    for (i = 1; i <= bytes; i++)
+        sent = sent << 8 | in[i];
     return sent % array_bytes(part->size);
 }
 
@@ -509,11 +625,11 @@ static bool barred(const struct part *part, bool wp_high, const uint8_t *in)
     switch (in[0]) {
     case 0x01: /* SRWD 1, QE 0, WP# low */
         return (part->status & 0x80) != 0 && (part->status & 0x40) == 0 && !wp_high;
-    case 0x02:
-        return address_protected(part->size, part->status, address_of(part, in)) ||
+    case 0x02: case 0x12:
+        return address_protected(part, address_of(part, in)) ||
                in_suspended_unit(part, address_of(part, in));
-    case 0xD7: case 0x20: case 0x52: case 0xD8:
-        return address_protected(part->size, part->status, address_of(part, in));
+    case 0xD7: case 0x20: case 0x52: case 0xD8: case 0x21: case 0x5C: case 0xDC:
+        return address_protected(part, address_of(part, in));
     case 0xC7: case 0x60:
         return bp_code(part->status) != 0;
     case 0x64: case 0x62:
@@ -528,7 +644,7 @@ static int ignored_with(const struct part *part, bool wp_high, const uint8_t *in
 {
     uint8_t code = in[0];
 
-    if (!in_the_table(code))
+    if (!in_the_table(part->size, code))
         return 20;
     if (part->asleep && code != 0xAB)
         return 21;
@@ -538,7 +654,7 @@ static int ignored_with(const struct part *part, bool wp_high, const uint8_t *in
         return 23;
     if (part->phase == SUSPENDED && !taken_in_erase_suspend(code))
         return 23;
-    if (!length_is_right(code, length))
+    if (!length_is_right(part, code, length))
         return 24;
     if ((code == 0x75 || code == 0xB0) && /* an inner program can't be suspended */
         !(part->phase == BUSY && can_be_suspended(part->op.kind)))
@@ -576,7 +692,7 @@ static uint8_t extended_as_read(const struct part *part)
                      (part->prot_e ? 0x02 : 0) | (is_busy(part) ? 0x01 : 0));
 }
 
-/* The register that 05h, 48h or 81h reads. */
+/* The register that 05h, 48h, 16h, C8h or 81h reads. */
 static uint8_t register_of(const struct part *part, uint8_t code)
 {
     switch (code) {
@@ -584,6 +700,9 @@ static uint8_t register_of(const struct part *part, uint8_t code)
         return part->status;
     case 0x48:
         return part->function;
+    case 0x16:
+    case 0xC8:
+        return part->bank;
     default: /* 81h */
         return extended_as_read(part);
     }
@@ -623,6 +742,7 @@ int ref_transact(struct part *part, const uint8_t *array, size_t array_length, c
     if (in[0] == 0x99) { /* reset; it is armed. It drops both operations */
         make_idle(part);
         load_extended(part);
+        load_bank(part);
         part->asleep = false;
         part->armed = false;
         return 0;
@@ -630,9 +750,12 @@ int ref_transact(struct part *part, const uint8_t *array, size_t array_length, c
     part->armed = in[0] == 0x66;
 
     switch (in[0]) {
-    case 0x03: /* read, from place 4 */
-    case 0x0B: { /* read with one dummy byte, from 5 */
-        size_t from = in[0] == 0x03 ? 4 : 5;
+    case 0x03: /* read, from behind the address */
+    case 0x13:
+    case 0x0B: /* read with one dummy byte before that */
+    case 0x0C: {
+        bool dummy = in[0] == 0x0B || in[0] == 0x0C;
+        size_t from = behind_address(part, in[0]) + (dummy ? 1 : 0);
 
         a = address_of(part, in);
         for (i = from; i < in_length; i++) {
@@ -648,6 +771,8 @@ int ref_transact(struct part *part, const uint8_t *array, size_t array_length, c
     case 0x05:
     case 0x48:
     case 0x81:
+    case 0x16:
+    case 0xC8:
         for (i = 1; i < in_length; i++)
             out[i] = register_of(part, in[0]);
         if (in_length > 1)
@@ -708,19 +833,26 @@ int ref_transact(struct part *part, const uint8_t *array, size_t array_length, c
         begin_write(part, WRITE_FUNCTION, in[1] & 0xF0);
         break;
     case 0x02: /* the page of A */
+    case 0x12: {
+        size_t from = behind_address(part, in[0]);
+
         a = address_of(part, in);
-        begin_program(part, PP, a - a % REF_PAGE, a % REF_PAGE, in + 4, in_length - 4);
+        begin_program(part, PP, a - a % REF_PAGE, a % REF_PAGE, in + from, in_length - from);
         break;
+    }
     case 0xD7: /* the unit that holds A */
     case 0x20:
+    case 0x21:
         a = address_of(part, in);
         begin(part, SER, a - a % unit_bytes(part->size, SER));
         break;
     case 0x52:
+    case 0x5C:
         a = address_of(part, in);
         begin(part, BER32, a - a % unit_bytes(part->size, BER32));
         break;
     case 0xD8:
+    case 0xDC:
         a = address_of(part, in);
         begin(part, BER64, a - a % unit_bytes(part->size, BER64));
         break;
@@ -758,6 +890,16 @@ int ref_transact(struct part *part, const uint8_t *array, size_t array_length, c
         break;
     case 0x82: /* at once too */
         clear_errors(part);
+        break;
+    case 0x17: /* at once, as are the next two; WEL stays */
+    case 0xC5:
+        part->bank = in[1] & 0x81;
+        break;
+    case 0xB7: /* EXTADD alone; the bank bit stays */
+        part->bank = part->bank | 0x80;
+        break;
+    case 0x29:
+        part->bank = part->bank & 0x7F;
         break;
     default: /* no other code gets here */
         break;
@@ -797,7 +939,7 @@ static void one_tick(struct part *part, uint8_t *array, uint8_t *rows)
     case WRITE_STATUS: /* bits 7..2; WEL and WIP follow below */
         part->status = (uint8_t)((part->status & 0x03) | op->held);
         break;
-    case WRITE_FUNCTION: /* sets IRL bits, never clears one */
+    case WRITE_FUNCTION: /* sets IRL bits, never clears one; TBS stays */
         part->function = part->function | op->held;
         break;
     case WRITE_EXTENDED: /* the stored byte; the volatile one stays */
@@ -827,7 +969,7 @@ int ref_tick(struct part *part, uint8_t *array, size_t array_length, uint8_t *ro
         return answer;
     if (!ref_sound(part))
         return 5;
-    if (ticks > REF_MOST)
+    if (ticks > ref_ticks_most(part->size))
         return 6;
     for (asked = 0; asked < ticks; asked++) {
         if (is_busy(part)) {

@@ -1,6 +1,6 @@
-/* Yawlspar's reference model of the part on the bench, written from the specification alone: 01-scope, and
- * the requests of 02-change-requests that have landed. It shares no table, helper or header with the main
- * model. */
+/* Yawlspar's reference model of the part on the bench, written from the specification alone: 01-scope, the
+ * requests of 02-change-requests that have landed, and for the part of 512 blocks source document 004. It shares
+ * no table, helper or header with the main model. */
 #ifndef REFERENCE_H
 #define REFERENCE_H
 
@@ -11,7 +11,8 @@
 #define REF_BLOCK 65536u /* bytes in a block */
 #define REF_ROWS 1024u   /* bytes in the four rows */
 #define REF_PAGE 256u    /* bytes in a page, and in a row */
-#define REF_MOST 4096u   /* most bytes in a transaction, most ticks in a call */
+#define REF_MOST 4096u   /* most bytes in a transaction */
+#define REF_LARGE 512u   /* blocks of the 32 Mbyte part, request 10 of 02; the other sizes are the old ones */
 
 /* 01: "a part is idle, busy with one operation, or suspended from one." Request 3 of 02 adds to it: a part that is
  * suspended from an erase may be busy with a program within, the inner program; the record then holds two. */
@@ -24,10 +25,10 @@ enum phase {
 
 enum kind {
     NONE = 0,       /* idle */
-    PP = 1,         /* 02h: base is the page's first address */
-    SER = 2,        /* D7h, 20h: base is the unit's first address, here and in the next three */
-    BER32 = 3,      /* 52h */
-    BER64 = 4,      /* D8h */
+    PP = 1,         /* 02h, 12h: base is the page's first address */
+    SER = 2,        /* D7h, 20h, 21h: base is the unit's first address, here and in the next three */
+    BER32 = 3,      /* 52h, 5Ch */
+    BER64 = 4,      /* D8h, DCh */
     CER = 5,        /* C7h, 60h: base is 0 */
     ROW_ERASE = 6,  /* 64h: base is the row's first place in the rows: 0, 256, 512 or 768 */
     ROW_PROGRAM = 7, /* 62h: base as for ROW_ERASE */
@@ -47,13 +48,14 @@ struct operation {
 };
 
 struct part {
-    uint32_t size; /* in blocks: 1, 4, 8 or 16 */
+    uint32_t size; /* in blocks: 1, 4, 8, 16 or 512 */
     uint8_t m, t, c, d; /* maker, type, capacity, device */
     uint8_t status;   /* 7 SRWD, 6 QE, 5..2 BP3..BP0, 1 WEL, 0 WIP */
-    uint8_t function; /* 7..4 IRL3..IRL0, 3 ESUS, 2 PSUS, 1..0 zero */
+    uint8_t function; /* 7..4 IRL3..IRL0, 3 ESUS, 2 PSUS, 1 TBS on 512 blocks and else zero, 0 zero */
     uint8_t extended; /* the extended read register's stored byte: 7..5 ODS2..ODS0, 4..0 zero */
     uint8_t live;     /* its volatile byte: 7..5 ODS2..ODS0; 4..0 are kept zero */
     bool e_err, p_err, prot_e; /* its error bits */
+    uint8_t bank; /* the bank address register: 7 EXTADD, 6..1 zero, 0 the bank bit; zero on the old sizes */
     bool wel;
     bool armed;
     bool asleep;
@@ -63,8 +65,15 @@ struct part {
     uint8_t data[REF_PAGE]; /* kept bytes of the program in op, in order of arrival, zeros after them */
 };
 
+/* Is it a size of the specification, in blocks? */
+bool ref_size_ok(uint64_t size);
+
+/* The most ticks in a call on a part of this size. */
+uint32_t ref_ticks_most(uint32_t size);
+
 /* Each call answers a number of the specification's table. */
 
+/* TBS, the top or bottom bit of a part of 512 blocks, is bit 1 of the function byte. */
 int ref_power_up(struct part *part, uint32_t size, uint8_t m, uint8_t t, uint8_t c, uint8_t d,
                  uint8_t status, uint8_t function, uint8_t extended);
 
@@ -79,8 +88,9 @@ int ref_transact(struct part *part, const uint8_t *array, size_t array_length, c
 int ref_tick(struct part *part, uint8_t *array, size_t array_length, uint8_t *rows,
              size_t rows_length, uint32_t ticks, uint32_t *worked);
 
-/* The protection question, of a code and a size in blocks. *first is the first protected block, and *count
- * is how many are protected from it on. Both are 0 for none, and when refused. */
+/* The protection question, of a code and a size in blocks. The code is BP3..BP0; on 512 blocks its bit 4 is TBS.
+ * *first is the first protected block, and *count is how many are protected from it on. Both are 0 for none, and
+ * when refused. */
 int ref_protection(uint64_t code, uint64_t size, uint64_t *first, uint64_t *count);
 
 #endif

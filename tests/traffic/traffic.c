@@ -3,6 +3,9 @@
 
 #define PAGE 256u
 #define BLOCK 65536u
+#define LARGE 512u /* blocks of the part that has the bank address register and the four-byte codes */
+#define BANK 0x1000000u
+#define EXTADD 0x80u
 #define HOT_PAGES 4u
 
 enum mood { DRIVING, GUARDING, ROWING, PAUSING, STUMBLING, MOODS };
@@ -15,6 +18,18 @@ static enum mood mood;
 static uint32_t hot[HOT_PAGES]; /* pages, as addresses */
 static uint32_t strange_one_in; /* how rare a strange thing between two steps is */
 static uint32_t low_one_in;     /* how rare a low pin is */
+
+static uint8_t believed; /* the bank address register, as the driver remembers it */
+
+static bool is_large(void)
+{
+    return limits.blocks == LARGE;
+}
+
+uint32_t traffic_ticks_most(void)
+{
+    return is_large() ? 131072 : 4096;
+}
 
 /* ---- Chance ---- */
 
@@ -86,10 +101,25 @@ static void add_address(uint32_t address)
     add((uint8_t)address);
 }
 
+/* What the driver remembers of the bank address register once the message is sent. */
+static void remember(void)
+{
+    if ((message[0] == 0x17 || message[0] == 0xC5) && length == 2)
+        believed = message[1] & (EXTADD | 1);
+    else if (message[0] == 0xB7 && length == 1)
+        believed |= EXTADD;
+    else if (message[0] == 0x29 && length == 1)
+        believed &= 1;
+    else if (message[0] == 0x99 && length == 1)
+        believed = 0;
+}
+
 static void send_at(bool wp_high)
 {
     between_steps();
     traffic_send(wp_high, message, length);
+    if (is_large())
+        remember();
 }
 
 static void send(void)
@@ -125,32 +155,64 @@ static void some_ticks(void)
     else if (kind < 19)
         ticks(between(21, 300));
     else
-        ticks(between(4000, TRAFFIC_MOST));
+        ticks(between(4000, 4096));
 }
 
 /* ---- Addresses and lengths ---- */
 
-static uint32_t any_address(void)
+/* Addresses as they are sent in three bytes, or in four to the large part. */
+static uint32_t address_mask(void)
 {
-    return below(1u << 24);
+    return is_large() ? 2 * BANK - 1 : BANK - 1;
 }
 
-/* The end of the array, or of that of a smaller part. */
+static uint32_t any_address(void)
+{
+    return below(address_mask() + 1);
+}
+
+/* The end of the array, or of that of a smaller part, or of the large part's first bank. */
 static uint32_t array_end(void)
 {
     static const uint8_t sizes[] = {1, 4, 8, 16};
     uint32_t size = one_in(2) ? limits.blocks : pick_byte(sizes, COUNT(sizes));
 
+    if (is_large())
+        return one_in(2) ? BANK : 2 * BANK;
     return lesser(size, limits.blocks) * BLOCK;
+}
+
+/* A block of the large part: often one beside the ends of a bank, or beside what a protection code protects. */
+static uint32_t large_block(void)
+{
+    static const uint16_t ends[] = {0, BANK / BLOCK - 1, BANK / BLOCK, LARGE - 1};
+    uint32_t many = 1u << below(9);
+
+    switch (below(4)) {
+    case 0:
+        return below(LARGE);
+    case 1: /* the last of the bottom ones, or the first that is none of them */
+        return many - below(2);
+    case 2: /* the same at the top */
+        return LARGE - many - below(2);
+    default:
+        return ends[below(COUNT(ends))];
+    }
+}
+
+static uint32_t any_block(void)
+{
+    if (is_large())
+        return large_block();
+    return one_in(3) ? limits.blocks - 1 : below(limits.blocks);
 }
 
 static uint32_t border_address(void)
 {
     static const uint16_t places[] = {0x0000, 0x0001, 0x00FF, 0x0100, 0x0FFF, 0x1000, 0x7FFF,
                                       0x8000, 0xEFFF, 0xF000, 0xFEFF, 0xFF00, 0xFFFE, 0xFFFF};
-    uint32_t block = one_in(3) ? limits.blocks - 1 : below(limits.blocks);
 
-    return block * BLOCK + places[below(COUNT(places))];
+    return any_block() * BLOCK + places[below(COUNT(places))];
 }
 
 static uint32_t hot_address(void)
@@ -168,7 +230,7 @@ static uint32_t address(void)
     if (kind < 12)
         return hot_address();
     if (kind < 14) /* the same place, past the array's end */
-        return (hot_address() + below(16) * limits.blocks * BLOCK) & 0xFFFFFFu;
+        return (hot_address() + below(16) * limits.blocks * BLOCK) & address_mask();
     if (kind < 18)
         return border_address();
     return any_address();
@@ -195,6 +257,59 @@ static uint32_t wrong_row_address(void)
     default:
         return any_address();
     }
+}
+
+/* The codes that take four address bytes always. Each does what the code below it does. */
+static const uint8_t four_byte_codes[] = {0x13, 0x0C, 0x12, 0x21, 0x21, 0x5C, 0xDC};
+static const uint8_t either_codes[] = {0x03, 0x0B, 0x02, 0xD7, 0x20, 0x52, 0xD8};
+
+static bool takes_four_always(uint8_t code)
+{
+    size_t i;
+
+    for (i = 0; i < COUNT(four_byte_codes); i++)
+        if (four_byte_codes[i] == code)
+            return true;
+    return false;
+}
+
+/* Such a code in the place of one that takes three or four: on the large part often, elsewhere rarely, where the
+ * part does not know it. */
+static uint8_t or_four_bytes(uint8_t code)
+{
+    size_t i = 0;
+
+    if (!one_in(is_large() ? 3 : 60))
+        return code;
+    while (either_codes[i] != code)
+        i++;
+    return four_byte_codes[i];
+}
+
+/* Selects the bank of the address, where the driver has to for a code that takes three bytes now. */
+static void select_bank(uint8_t code, uint32_t at)
+{
+    uint8_t bank = at < BANK ? 0 : 1;
+
+    if (!is_large() || takes_four_always(code) || (believed & EXTADD) != 0 || believed == bank || one_in(12))
+        return;
+    send_two(one_in(2) ? 0xC5 : 0x17, bank);
+}
+
+/* Starts a message that has an address of the array: in four bytes for the codes that take four always, and for the
+ * others if the driver remembers EXTADD set. Now and then it is mistaken, and is off by a byte. The bits above the
+ * large part's are sent as they come, at times. */
+static void start_at(uint8_t code, uint32_t at)
+{
+    bool four = takes_four_always(code) || (believed & EXTADD) != 0;
+
+    select_bank(code, at);
+    if (is_large() && one_in(40))
+        four = !four;
+    start(code);
+    if (four)
+        add((uint8_t)(at >> 24 | (one_in(6) ? any_byte() & 0xFEu : 0)));
+    add_address(at);
 }
 
 /* How many bytes to add to the message: mostly up to `usual`, now and then up to all that it may have. */
@@ -264,10 +379,10 @@ static void wait(uint32_t needed)
         }
         break;
     case 2: /* more than are needed */
-        ticks(lesser(needed + below(20), TRAFFIC_MOST));
+        ticks(lesser(needed + below(20), traffic_ticks_most()));
         break;
     case 3:
-        ticks(TRAFFIC_MOST);
+        ticks(traffic_ticks_most());
         break;
     case 4:
         some_ticks();
@@ -298,8 +413,7 @@ static void add_data(uint32_t count)
 
 static void start_read(uint32_t from)
 {
-    start(one_in(2) ? 0x03 : 0x0B);
-    add_address(from);
+    start_at(or_four_bytes(one_in(2) ? 0x03 : 0x0B), from);
 }
 
 static void read_at(uint32_t from)
@@ -324,8 +438,12 @@ static uint32_t send_program(uint8_t code, uint32_t at)
 {
     uint32_t count;
 
-    start(code);
-    add_address(at);
+    if (code == 0x02) {
+        start_at(or_four_bytes(code), at);
+    } else {
+        start(code);
+        add_address(at);
+    }
     count = data_length();
     add_data(count);
     send();
@@ -341,8 +459,7 @@ static uint32_t send_erase(uint32_t at)
     } erases[] = {{0xD7, 16}, {0x20, 16}, {0xD7, 16}, {0x20, 16}, {0x52, 128}, {0xD8, 256}};
     uint32_t which = below(COUNT(erases));
 
-    start(erases[which].code);
-    add_address(at);
+    start_at(or_four_bytes(erases[which].code), at);
     send();
     return erases[which].ticks;
 }
@@ -377,9 +494,39 @@ static void write_status(uint8_t value)
     ticks(1);
 }
 
+/* Code 15 protects no block, but all of the large part. */
 void unprotect(void)
 {
-    write_status(one_in(4) ? 0x3C : 0x00);
+    write_status(one_in(4) && !is_large() ? 0x3C : 0x00);
+}
+
+/* A byte for the bank address register. */
+static uint8_t bank_value(void)
+{
+    static const uint8_t values[] = {0x00, 0x01, 0x80, 0x81};
+
+    return one_in(6) ? any_byte() : pick_byte(values, COUNT(values));
+}
+
+static void read_bank(void)
+{
+    read_register(one_in(2) ? 0x16 : 0xC8);
+}
+
+/* Sets EXTADD or clears it, or writes the whole register. */
+static void send_mode(void)
+{
+    switch (below(4)) {
+    case 0:
+        send_code(0xB7);
+        break;
+    case 1:
+        send_code(0x29);
+        break;
+    default:
+        send_two(one_in(2) ? 0x17 : 0xC5, bank_value());
+        break;
+    }
 }
 
 /* ---- Scenes ---- */
@@ -415,6 +562,7 @@ static void erase_scene(void)
         read_at(border_address());
 }
 
+/* On the large part it is mostly cut short, for its 131,072 ticks take their time. */
 static void chip_erase_scene(void)
 {
     write_enable();
@@ -425,7 +573,13 @@ static void chip_erase_scene(void)
         ticks(below(40));
         send_code(pick_byte(suspends, COUNT(suspends)));
     }
-    wait(limits.blocks * 256);
+    if (is_large() && !one_in(4)) {
+        ticks(one_in(3) ? between(0, 70000) : below(300));
+        send_code(0x66);
+        send_code(0x99);
+    } else {
+        wait(limits.blocks * 256);
+    }
     read_at(hot_address());
 }
 
@@ -554,12 +708,12 @@ static void well_formed(uint8_t code)
     case 0x90:
         add_any(3 + below(6));
         break;
-    case 0x03:
-        add_address(address());
+    case 0x03: case 0x13:
+        start_at(code, address());
         add_any(below(10));
         break;
-    case 0x0B:
-        add_address(address());
+    case 0x0B: case 0x0C:
+        start_at(code, address());
         add_any(1 + below(10));
         break;
     case 0x68:
@@ -575,8 +729,8 @@ static void well_formed(uint8_t code)
     case 0x83: case 0x85:
         add(any_byte());
         break;
-    case 0x02:
-        add_address(address());
+    case 0x02: case 0x12:
+        start_at(code, address());
         add_data(data_length());
         break;
     case 0x62:
@@ -586,8 +740,14 @@ static void well_formed(uint8_t code)
     case 0x64:
         add_address(row_address());
         break;
-    case 0xD7: case 0x20: case 0x52: case 0xD8:
-        add_address(address());
+    case 0xD7: case 0x20: case 0x52: case 0xD8: case 0x21: case 0x5C: case 0xDC:
+        start_at(code, address());
+        break;
+    case 0x16: case 0xC8:
+        add_any(below(5));
+        break;
+    case 0x17: case 0xC5:
+        add(bank_value());
         break;
     default: /* the code alone */
         break;
@@ -599,8 +759,26 @@ static const uint8_t codes[] = {0x03, 0x0B, 0x05, 0x48, 0x9F, 0x90, 0xAB, 0x68, 
                                 0xB0, 0x7A, 0x30, 0xB9, 0x66, 0x99, 0x64, 0x62, 0x81, 0x82,
                                 0x83, 0x85};
 
+/* Those that only the large part has. */
+static const uint8_t large_codes[] = {0x16, 0xC8, 0x17, 0xC5, 0xB7, 0x29, 0x13, 0x0C, 0x12, 0x21, 0x5C, 0xDC};
+
 static const uint8_t write_codes[] = {0x01, 0x42, 0x02, 0xD7, 0x20, 0x52,
                                       0xD8, 0xC7, 0x60, 0x64, 0x62, 0x85};
+static const uint8_t large_write_codes[] = {0x12, 0x21, 0x5C, 0xDC};
+
+static uint8_t any_code(void)
+{
+    if (one_in(is_large() ? 3 : 20))
+        return pick_byte(large_codes, COUNT(large_codes));
+    return pick_byte(codes, COUNT(codes));
+}
+
+static uint8_t any_write_code(void)
+{
+    if (one_in(is_large() ? 4 : 40))
+        return pick_byte(large_write_codes, COUNT(large_write_codes));
+    return pick_byte(write_codes, COUNT(write_codes));
+}
 
 static void send_well_formed(uint8_t code)
 {
@@ -611,7 +789,7 @@ static void send_well_formed(uint8_t code)
 static void any_commands(uint32_t count)
 {
     for (; count > 0; count--)
-        send_well_formed(pick_byte(codes, COUNT(codes)));
+        send_well_formed(any_code());
 }
 
 static void suspend_scene(void)
@@ -685,7 +863,7 @@ static void identity_scene(void)
 /* A command of the table with some bytes too few or too many. */
 static void wrong_length(void)
 {
-    well_formed(pick_byte(codes, COUNT(codes)));
+    well_formed(any_code());
     if (one_in(2) && length > 1)
         length = length > 4 && one_in(2) ? 4 : 1 + below(lesser(length - 1, 4));
     else
@@ -709,14 +887,14 @@ static void wrong_row(void)
 static void not_enabled(void)
 {
     send_code(0x04);
-    send_well_formed(pick_byte(write_codes, COUNT(write_codes)));
+    send_well_formed(any_write_code());
 }
 
 /* While the part is busy with whatever a write command begins. */
 static void while_busy(void)
 {
     write_enable();
-    send_well_formed(pick_byte(write_codes, COUNT(write_codes)));
+    send_well_formed(any_write_code());
     any_commands(between(1, 6));
     wait(between(1, 300));
 }
@@ -766,6 +944,85 @@ static void strange_scene(void)
         traffic_strange();
 }
 
+/* ---- Both banks, and both address lengths ---- */
+
+/* The driver goes to the other bank or address length, and looks and works there. */
+static void mode_scene(void)
+{
+    uint32_t rounds = between(1, 3);
+
+    for (; rounds > 0; rounds--) {
+        send_mode();
+        if (one_in(2))
+            read_bank();
+        if (one_in(3))
+            read_at(hot_address());
+        if (one_in(4)) {
+            uint32_t at = hot_address();
+
+            write_enable();
+            wait(send_change(at));
+            read_at(at);
+        }
+    }
+}
+
+/* The same place by each address length, and in each bank. */
+static void both_banks_scene(void)
+{
+    uint32_t at = address(), rounds = between(1, 4);
+
+    for (; rounds > 0; rounds--) {
+        if (one_in(2))
+            send_mode();
+        read_at(one_in(2) ? at : (at ^ BANK) & address_mask());
+    }
+}
+
+/* What a driver does when it changes the mode at the wrong time: busy, suspended, asleep, between arming and reset. */
+static void untimely_mode_scene(void)
+{
+    uint32_t at = address();
+
+    switch (below(5)) {
+    case 0:
+        write_enable();
+        send_change(at);
+        send_mode();
+        read_bank();
+        wait(256);
+        break;
+    case 1:
+        write_enable();
+        send_change(at);
+        send_code(pick_byte(suspends, COUNT(suspends)));
+        send_mode();
+        read_bank();
+        send_code(pick_byte(resumes, COUNT(resumes)));
+        wait(256);
+        break;
+    case 2:
+        send_code(0xB9);
+        send_mode();
+        read_bank();
+        send_code(0xAB);
+        break;
+    case 3:
+        send_code(0x66);
+        send_mode();
+        send_code(0x99);
+        break;
+    default: /* a reset, after which the driver remembers no mode at times */
+        send_code(0x66);
+        send_code(0x99);
+        if (one_in(3))
+            believed = bank_value() & (EXTADD | 1);
+        break;
+    }
+    read_bank();
+    read_at(at);
+}
+
 /* ---- Programs during erase suspend ---- */
 
 /* An address in the unit of so many pages that holds `at`: often in its first or last page. */
@@ -790,9 +1047,9 @@ static uint32_t off_unit(uint32_t at, uint32_t pages)
 
     switch (below(4)) {
     case 0:
-        return (base - PAGE + place) & 0xFFFFFFu;
+        return (base - PAGE + place) & address_mask();
     case 1:
-        return (base + pages * PAGE + place) & 0xFFFFFFu;
+        return (base + pages * PAGE + place) & address_mask();
     default:
         return address();
     }
@@ -922,29 +1179,38 @@ static void nest_scene(void)
 struct scene {
     void (*play)(void);
     uint8_t weights[MOODS]; /* driving, guarding, rowing, pausing, stumbling */
+    bool large;             /* for the large part alone */
 };
 
 static const struct scene scenes[] = {
-    {wake_and_reset, {6, 8, 6, 10, 14}},
-    {program_scene, {24, 12, 6, 8, 8}},
-    {erase_scene, {16, 8, 4, 6, 6}},
-    {chip_erase_scene, {3, 4, 2, 3, 3}},
-    {read_over_end, {4, 2, 2, 2, 2}},
-    {status_scene, {2, 6, 2, 1, 2}},
-    {function_scene, {2, 2, 5, 2, 2}},
-    {extended_scene, {3, 6, 4, 3, 3}},
-    {guard_scene, {2, 16, 2, 1, 2}},
-    {pin_scene, {1, 10, 1, 1, 1}},
-    {row_scene, {6, 4, 30, 3, 5}},
-    {suspend_scene, {6, 3, 3, 20, 5}},
-    {nest_scene, {8, 6, 3, 24, 8}},
-    {sleep_scene, {3, 3, 3, 5, 5}},
-    {reset_scene, {4, 4, 4, 8, 5}},
-    {identity_scene, {4, 1, 2, 2, 2}},
-    {miss_scene, {4, 6, 8, 6, 30}},
-    {strange_scene, {2, 2, 2, 2, 12}},
-    {some_ticks, {1, 1, 1, 2, 3}},
+    {wake_and_reset, {6, 8, 6, 10, 14}, false},
+    {program_scene, {24, 12, 6, 8, 8}, false},
+    {erase_scene, {16, 8, 4, 6, 6}, false},
+    {chip_erase_scene, {3, 4, 2, 3, 3}, false},
+    {read_over_end, {4, 2, 2, 2, 2}, false},
+    {status_scene, {2, 6, 2, 1, 2}, false},
+    {function_scene, {2, 2, 5, 2, 2}, false},
+    {extended_scene, {3, 6, 4, 3, 3}, false},
+    {guard_scene, {2, 16, 2, 1, 2}, false},
+    {pin_scene, {1, 10, 1, 1, 1}, false},
+    {row_scene, {6, 4, 30, 3, 5}, false},
+    {suspend_scene, {6, 3, 3, 20, 5}, false},
+    {nest_scene, {8, 6, 3, 24, 8}, false},
+    {sleep_scene, {3, 3, 3, 5, 5}, false},
+    {reset_scene, {4, 4, 4, 8, 5}, false},
+    {identity_scene, {4, 1, 2, 2, 2}, false},
+    {miss_scene, {4, 6, 8, 6, 30}, false},
+    {strange_scene, {2, 2, 2, 2, 12}, false},
+    {some_ticks, {1, 1, 1, 2, 3}, false},
+    {mode_scene, {14, 14, 10, 10, 12}, true},
+    {both_banks_scene, {8, 2, 2, 4, 4}, true},
+    {untimely_mode_scene, {3, 3, 3, 8, 8}, true},
 };
+
+static uint32_t weight(const struct scene *scene)
+{
+    return scene->large && !is_large() ? 0 : scene->weights[mood];
+}
 
 void play_scene(void)
 {
@@ -952,20 +1218,34 @@ void play_scene(void)
     size_t i;
 
     for (i = 0; i < COUNT(scenes); i++)
-        all += scenes[i].weights[mood];
+        all += weight(&scenes[i]);
     drawn = below(all);
-    for (i = 0; drawn >= scenes[i].weights[mood]; i++)
-        drawn -= scenes[i].weights[mood];
+    for (i = 0; drawn >= weight(&scenes[i]); i++)
+        drawn -= weight(&scenes[i]);
     scenes[i].play();
+}
+
+/* A page of the large part: mostly beside an end of a bank. */
+static uint32_t large_hot_page(void)
+{
+    static const uint32_t ends[] = {0, BANK - PAGE, BANK, 2 * BANK - PAGE};
+
+    if (one_in(4))
+        return any_address() & ~(PAGE - 1);
+    return ends[below(COUNT(ends))] ^ (one_in(2) ? 0 : PAGE << below(8));
 }
 
 static void choose_hot_pages(void)
 {
     size_t i;
 
-    hot[0] = below(limits.blocks * BLOCK) & ~(PAGE - 1);
+    hot[0] = is_large() ? large_hot_page() : below(limits.blocks * BLOCK) & ~(PAGE - 1);
     for (i = 1; i < HOT_PAGES; i++)
         hot[i] = one_in(2) ? hot[0] ^ (PAGE << below(8)) : any_address() & ~(PAGE - 1);
+    if (is_large()) { /* the same place in the other bank, and another end */
+        hot[2] = hot[0] ^ BANK;
+        hot[3] = large_hot_page();
+    }
     if (one_in(3)) { /* reads run on from the last page to the first */
         hot[1] = 0;
         hot[2] = array_end() - PAGE;
@@ -990,4 +1270,5 @@ void begin_traffic(uint64_t seed, const struct limits *given)
     chance.state = seed;
     limits = *given;
     locks = 0;
+    believed = 0;
 }

@@ -43,8 +43,8 @@ module _ (p : Part) (f : Phase) (s : Bool) (xs rs : List ℕ) (wp : Bool) (i : L
   length-after : (o : List ℕ) → length o ≡ length i → length (outputAfter p f s xs rs wp i o) ≡ length i
   unfolding outputAfter
   length-after o e =
-      length-either (eqb (transactionRefusal (p .blocks) s (length xs) (length rs) (length i) (length o)) 0) (outputTo (decoded (getD i 0 0)) p f xs rs wp i) o (length i)
-      (length-output (decoded (getD i 0 0))) e
+      length-either (eqb (transactionRefusal (p .blocks) s (length xs) (length rs) (length i) (length o)) 0) (outputTo (decoded (p .blocks) (p .bank) (getD i 0 0)) p f xs rs wp i) o (length i)
+      (length-output (decoded (p .blocks) (p .bank) (getD i 0 0))) e
 
 length-driven : (b : Board) (wp : Bool) (i : List ℕ) → length (drivenBy b wp i) ≡ length i
 length-driven b wp i =

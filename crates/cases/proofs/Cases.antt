@@ -5,9 +5,9 @@ use mathlib.Core.Bool.{true, false}
 use mathlib.Core.List.{List, [], _∷_}
 use native.Mathlib.Omega.{arith}
 use lib.ListN.{length, replicate}
+use Rattle.types.specs.declared.Addressing.the-variants.{Three}
 use Rattle.types.specs.declared.Blocks.{Blocks}
 use Rattle.types.specs.declared.Identity.{Identity}
-use Rattle.types.specs.declared.Stored.{Stored}
 use Rattle.types.specs.declared.Phase.the-variants.{Idle}
 use Rattle.types.specs.declared.PoweredUp.{PoweredUp}
 use Rattle.types.specs.declared.Answer.{Answer}
@@ -15,12 +15,13 @@ use Rattle.types.specs.declared.Record.{Record}
 use Rattle.words.specs.Logic.{_and_, _or_, unless, _orElse_}
 use Rattle.words.proofs.Tests.{fails}
 use Rattle.paper.specs.Sizes.{sizeOk, blockBytes, arrayBytes}
-use Rattle.paper.specs.Soundness.{bitsOk}
+use Rattle.paper.specs.Registers.{tbs, bankLoaded}
+use Rattle.paper.specs.Soundness.{bitsOk, largeOk}
 use Rattle.paper.specs.Numbers.{powerUpNumber}
-use Rattle.paper.specs.Calls.{poweredUp}
+use Rattle.paper.specs.Calls.{noStored, poweredUp}
 use Rattle.paper.specs.Address.{addressIn}
 use Rattle.paper.specs.Records.{fresh}
-use Rattle.paper.specs.BlockTable.{blockRow, cellOf}
+use Rattle.paper.specs.BlockTable.{blockRow, cellOf, tableCell}
 use Rattle.paper.specs.Protection.{codeOf, blocksOf, question, protectedBlocks, protectedAt, locked}
 use Rattle.paper.proofs.Protected.{InBlocks, protected-exactly, none-protected, none-counted}
 use Rattle.paper.proofs.Kept.{fresh-sound}
@@ -28,24 +29,32 @@ use Rattle.cases.proofs.Paper.{send, Ready, coded, powered, enabledPart
 use Rattle.cases.proofs.Parts.{turned, enabled, enabled-ready, filled-length, filled-at}
 use Rattle.cases.proofs.Everywhere.{everywhere}
 
+-- registers with IRL bits have TBS 0
+no-tbs : (k : ℕ) → tbs (k * 16) ≡ 0
+no-tbs k = omega arith
+
 -- a power-up of 16 blocks with a BP code and IRL bits is not refused
 powered-up : (id : Identity) (c k : ℕ) → poweredUp 16 id (coded c k) ≡ record { next = fresh 16 id (coded c k); number = 0 }
-unfolding poweredUp powerUpNumber sizeOk bitsOk _and_ _or_ unless _orElse_
+unfolding poweredUp powerUpNumber sizeOk bitsOk largeOk _and_ _or_ unless _orElse_
 powered-up id c k =
     let s : c * 4 % 4 ≡ 0 = omega arith in
     let f : k * 16 % 16 ≡ 0 = omega arith in
-    rw (s, f)
+    rw (s, f, no-tbs k)
 
-fresh-ready : (id : Identity) (g : Stored) → Ready (fresh 16 id g)
+fresh-large : (k : ℕ) → largeOk 16 (k * 16) bankLoaded ≡ true
+unfolding largeOk _and_
+fresh-large k = rw (no-tbs k)
+
+fresh-ready : (id : Identity) (c k : ℕ) → Ready (fresh 16 id (coded c k))
 unfolding sizeOk _or_
-fresh-ready id g = record { is-sound = fresh-sound 16 id g refl; idle = refl; awake = refl }
+fresh-ready id c k = record { is-sound = fresh-sound 16 id (coded c k) refl (fresh-large k); listed = refl; idle = refl; awake = refl }
 
 module _ (id : Identity) (c k : ℕ) where
   abbrev first : Record
   first = fresh 16 id (coded c k)
 
   first-ready : Ready first
-  first-ready = fresh-ready id (coded c k)
+  first-ready = fresh-ready id c k
 
   powered-as : powered id c k ≡ first
   powered-as = ap (λ (u : PoweredUp). u .next) (powered-up id c k)
@@ -57,7 +66,8 @@ module _ (id : Identity) (c k : ℕ) where
   part-16 : c < 16 → Part16 id c k
   part-16 h =
       let s : codeOf (turned first Idle true false .part .stored .status) ≡ c = omega arith in
-      let f : turned first Idle true false .part .stored .function ≡ k * 16 = omega arith in
+      let u : first .part .stored .function ≡ k * 16 = omega arith in
+      let f : turned first Idle true false .part .stored .function ≡ k * 16 = omega (arith, u) in
       record {
         up = ap (λ (u : PoweredUp). u .number) (powered-up id c k);
         ready = subst⁻¹ Ready powered-as first-ready;
@@ -71,16 +81,16 @@ module _ (id : Identity) (c k : ℕ) where
 
 -- code 0 protects no address
 free-under : (c n a : ℕ) → c ≡ 0 → Free c n a
-free-under c n a e = ap (λ (x : ℕ). protectedAt x n a) e ∙ none-protected 0 n (a / blockBytes) (none-counted n .0)
+free-under c n a e = ap (λ (x : ℕ). protectedAt x n a) e ∙ none-protected 0 n (a / blockBytes) (none-counted n noStored refl)
 
 -- addresses on 16 blocks
-inside-16 : (i : List ℕ) → addressIn 16 i < arrayBytes 16
+inside-16 : (i : List ℕ) → addressIn (Three false) 16 i < arrayBytes 16
 unfolding addressIn
 inside-16 i = omega arith
 
 -- the blocks that the protection question answers in cases 1 to 3
 case-blocks : (protectedBlocks 4 16 ≡ blocksOf (8, 8)) × ((protectedBlocks 11 16 ≡ blocksOf (0, 8)) × (protectedBlocks 12 4 ≡ blocksOf (0, 4)))
-unfolding question blockRow cellOf sizeOk _or_ unless _orElse_
+unfolding question blockRow cellOf tableCell sizeOk _or_ unless _orElse_
 case-blocks = (refl, (refl, refl))
 
 -- an address whose block is one of these is protected, and any other is free
@@ -130,19 +140,19 @@ locked-1 f e = rw e refl
 case-6 : (id : Identity) (h m first second third rest b : ℕ) → Case6 (enabledPart id 0 0) h m (first ∷ second ∷ third ∷ replicate 255 rest) (filled (arrayBytes 16) b)
 case-6 id h m first second third rest b =
     let d : List ℕ = first ∷ second ∷ third ∷ replicate 255 rest in
-    everywhere .case-6 (enabledPart id 0 0) (facts id .enabled-ready) (facts id .wel) h m d refl (all-free id (addressIn (enabledPart id 0 0 .part .blocks) (0x02 ∷ h ∷ m ∷ 0x00 ∷ d))) (filled (arrayBytes 16) b) (fits id b)
+    everywhere .case-6 (enabledPart id 0 0) (facts id .enabled-ready) (facts id .wel) h m d refl (all-free id (addressIn (Three false) (enabledPart id 0 0 .part .blocks) (0x02 ∷ h ∷ m ∷ 0x00 ∷ d))) (filled (arrayBytes 16) b) (fits id b)
 
 case-7 : (id : Identity) (h m l : ℕ) → Case7 (enabledPart id 0 0) h m l (filled (arrayBytes 16) 0x5A)
 case-7 id h m l =
     let i : List ℕ = 0x02 ∷ h ∷ m ∷ l ∷ 0xA5 ∷ [] in
-    let a = addressIn (enabledPart id 0 0 .part .blocks) i in
+    let a = addressIn (Three false) (enabledPart id 0 0 .part .blocks) i in
     let b : a < arrayBytes 16 = rw (facts id .size) (inside-16 i) in
     everywhere .case-7 (enabledPart id 0 0) (facts id .enabled-ready) (facts id .wel) h m l (all-free id a) (filled (arrayBytes 16) 0x5A) (fits id 0x5A) (filled-at (arrayBytes 16) 0x5A a b)
 
 case-11 : (id : Identity) (b : ℕ) → Case11 (powered id 0 0) 0x00 0x00 (filled (arrayBytes 16) b)
 case-11 id b =
     subst⁻¹ (λ (p : Record). Case11 p 0x00 0x00 (filled (arrayBytes 16) b)) (powered-as id 0 0)
-    (everywhere .case-11 (fresh 16 id (coded 0 0)) (fresh-ready id (coded 0 0)) (omega arith) (free-under 0 16 0x030000 refl) 0x00 0x00 (omega arith) (omega arith) (filled (arrayBytes 16) b) (filled-length (arrayBytes 16) b))
+    (everywhere .case-11 (fresh 16 id (coded 0 0)) (fresh-ready id 0 0) (omega arith) (free-under 0 16 0x030000 refl) 0x00 0x00 (omega arith) (omega arith) (filled (arrayBytes 16) b) (filled-length (arrayBytes 16) b))
 
 pub cases : Cases
 cases =

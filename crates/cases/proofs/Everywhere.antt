@@ -10,6 +10,7 @@ use lib.Seq.{getD-set-other}
 use lib.Bits.{bitAnd}
 use borrow.Author.Tests.{le-leb}
 use Rattle.types.specs.declared.Memory.the-variants.{Array}
+use Rattle.types.specs.declared.Addressing.the-variants.{Three}
 use Rattle.types.specs.declared.Operation.the-variants.{Program}
 use Rattle.types.specs.declared.Command.the-variants.{ReadStatus, WriteEnable, ChipErase, ArmReset, Reset, RowProgram}
 use Rattle.types.specs.declared.Decoded.the-variants.{Known}
@@ -20,7 +21,7 @@ use Rattle.types.specs.declared.Ticked.{Ticked}
 use Rattle.words.specs.Logic.{_and_, _or_, unless, _orElse_}
 use Rattle.paper.specs.Soundness.{sound}
 use Rattle.paper.specs.Numbers.{commandNumber, ignoredNumber}
-use Rattle.paper.specs.Table.{decoded}
+use Rattle.paper.proofs.Table.{known}
 use Rattle.paper.specs.Address.{highFirst, addressIn, rowOk, rowPlace}
 use Rattle.paper.specs.Program.{pageBase, pagePlace, passedCount, pageData, programOf, narrowed}
 use Rattle.paper.specs.Erase.{eraseOf}
@@ -32,9 +33,9 @@ use Rattle.paper.proofs.Addresses.{in-page}
 use Rattle.paper.proofs.Soundness.{recordOf, sound-parts, marked-sound}
 use Rattle.cases.proofs.Paper.{send, Ready, Free, Case4Everywhere, Case5Everywhere, Case6Everywhere, Case7Everywhere, Case8Everywhere, Case9Everywhere, Case10Everywhere, Case11Everywhere, Everywhere}
 use Rattle.paper.proofs.Answers.{executes, ignores, arm-number, read-status-number, reset-number}
-use Rattle.paper.proofs.Protected.{none-protected, none-counted}
+use Rattle.paper.proofs.Protected.{none-protected, fifteen-counted}
 use Rattle.cases.proofs.EraseCut.{erase-begins, erase-runs, erase-runs-on, erase-suspends, cut-arms, cut-resets}
-use Rattle.cases.proofs.Parts.{did, enabled}
+use Rattle.cases.proofs.Parts.{did, known-here, enabled}
 use Rattle.cases.proofs.ProgramRun.{programming}
 use Rattle.cases.proofs.ProgramSent.{program-run, program-ticks, program-array, program-tick}
 
@@ -46,10 +47,9 @@ unfolding commandNumber _and_ _or_ unless _orElse_ eraseOf
 chip-barred p r c w = rw (r .awake, r .idle, w, c)
 
 case-4 : Case4Everywhere
-unfolding decoded
 case-4 p r c w d (n, most) h m l = (
-  ap number (program-run p r w h m l d n most (rw c (none-protected 15 (p .part .blocks) _ (none-counted (p .part .blocks) .1)))),
-  ap number (ignores p (r .is-sound) true ChipErase (0xC7 ∷ []) (omega arith) (omega arith) refl 27 (chip-barred p r c w)),
+  ap number (program-run p r w h m l d n most (rw c (none-protected 15 (p .part .blocks) _ (fifteen-counted (p .part .blocks) (r .listed))))),
+  ap number (ignores p (r .is-sound) true ChipErase (0xC7 ∷ []) (omega arith) (omega arith) (known-here p r 0xC7 ChipErase refl) 27 (chip-barred p r c w)),
 )
 
 -- a byte programmed over FFh
@@ -61,14 +61,14 @@ over-FF xs a d e = rw e
 abbrev three : List ℕ
 three = 0x01 ∷ 0x02 ∷ 0x03 ∷ []
 
-at-FE : (n : ℕ) → 1 ≤ n → addressIn n (0x02 ∷ 0x00 ∷ 0x00 ∷ 0xFE ∷ three) ≡ 0xFE
+at-FE : (n : ℕ) → 1 ≤ n → addressIn (Three false) n (0x02 ∷ 0x00 ∷ 0x00 ∷ 0xFE ∷ three) ≡ 0xFE
 unfolding addressIn highFirst
 at-FE n h = mod-eq-of-lt (omega arith)
 
 abbrev started : Part → Record
 started p = programming p (Program Array 0xFE 0x000000 3 0) three
 
-three-begun : (p : Part) → 1 ≤ p .blocks → programming p (programOf Array (p .blocks) (0x02 ∷ 0x00 ∷ 0x00 ∷ 0xFE ∷ three)) three ≡ started p
+three-begun : (p : Part) → 1 ≤ p .blocks → programming p (programOf Array (Three false) (p .blocks) (0x02 ∷ 0x00 ∷ 0x00 ∷ 0xFE ∷ three)) three ≡ started p
 unfolding programOf pagePlace
 three-begun p n = rw (at-FE (p .blocks) n)
 
@@ -89,7 +89,7 @@ case-5 : Case5Everywhere
 unfolding worked
 case-5 p r w f xs l a b c =
     let n : 1 ≤ p .part .blocks = size-range (p .part .blocks) (sound-parts p (r .is-sound) .size) .0 in
-    let g : Free (codeOf (p .part .stored .status)) (p .part .blocks) (addressIn (p .part .blocks) (0x02 ∷ 0x00 ∷ 0x00 ∷ 0xFE ∷ three)) = rw (at-FE (p .part .blocks) n) f in (
+    let g : Free (codeOf (p .part .stored .status)) (p .part .blocks) (addressIn (Three false) (p .part .blocks) (0x02 ∷ 0x00 ∷ 0x00 ∷ 0xFE ∷ three)) = rw (at-FE (p .part .blocks) n) f in (
       ap number (program-run p r w 0x00 0x00 0xFE three (omega arith) (omega arith) g),
       program-array p r w 0x00 0x00 0xFE three (omega arith) (omega arith) g xs l 3 (omega arith) ∙ ap (λ (q : Record). memoryAfter Array 3 q xs) (three-begun (p .part) n) ∙ three-run xs a b c (p .part),
       ap (λ (t : Ticked). t .next .phase) (program-ticks p r w 0x00 0x00 0xFE three (omega arith) (omega arith) g 3 (omega arith)) ∙ ap (λ (q : Record). recordAfter 3 q .phase) (three-begun (p .part) n),
@@ -97,10 +97,10 @@ case-5 p r w f xs l a b c =
     )
 
 offset-2 : (n h m : ℕ) (d : List ℕ)
-    → let a = addressIn n (0x02 ∷ h ∷ m ∷ 0x00 ∷ d) in
+    → let a = addressIn (Three false) n (0x02 ∷ h ∷ m ∷ 0x00 ∷ d) in
     pageBase a + pagePlace a 2 ≡ a + 2
 unfolding highFirst pagePlace
-offset-2 n h m d = omega (arith, in-page n (0x02 ∷ h ∷ m ∷ 0x00 ∷ d))
+offset-2 n h m d = omega (arith, in-page (Three false) n (0x02 ∷ h ∷ m ∷ 0x00 ∷ d))
 
 case-6 : Case6Everywhere
 unfolding narrowed
@@ -119,7 +119,7 @@ over-5A xs a b =
 case-7 : Case7Everywhere
 case-7 p r w h m l f xs e b = (
   ap number (program-run p r w h m l (0xA5 ∷ []) (omega arith) (omega arith) f),
-  program-tick p r w h m l (0xA5 ∷ []) (omega arith) (omega arith) f xs e ∙ over-5A xs (addressIn (p .part .blocks) (0x02 ∷ h ∷ m ∷ l ∷ 0xA5 ∷ [])) b,
+  program-tick p r w h m l (0xA5 ∷ []) (omega arith) (omega arith) f xs e ∙ over-5A xs (addressIn (Three false) (p .part .blocks) (0x02 ∷ h ∷ m ∷ l ∷ 0xA5 ∷ [])) b,
 )
 
 two-bytes : (p : Record) (b : ℕ) → Ready p → ignoredNumber (Known WriteEnable) (p .part) (p .phase) (0x06 ∷ b ∷ []) true ≡ 24
@@ -127,8 +127,7 @@ unfolding commandNumber _or_ unless _orElse_
 two-bytes p b r = rw (r .awake, r .idle)
 
 case-8 : Case8Everywhere
-unfolding decoded
-case-8 p r b = ap number (ignores p (r .is-sound) true WriteEnable (0x06 ∷ b ∷ []) (omega arith) (omega arith) refl 23 (two-bytes p b r))
+case-8 p r b = ap number (ignores p (r .is-sound) true WriteEnable (0x06 ∷ b ∷ []) (omega arith) (omega arith) (known-here p r 0x06 WriteEnable refl) 23 (two-bytes p b r))
 
 -- the record the same but for the armed mark
 abbrev armedAs : Record → Bool → Record
@@ -138,11 +137,11 @@ armed-sound : (p : Record) (armed : Bool) → sound p ≡ true → sound (armedA
 armed-sound p armed s = marked-sound (p .part) (p .phase) (p .page) armed s
 
 case-9 : Case9Everywhere
-unfolding decoded unless
+unfolding unless
 case-9 p s e =
-    let a : send p (0x66 ∷ []) ≡ did (armedAs p true) 1 = executes p s true ArmReset (0x66 ∷ []) (omega arith) (omega arith) refl (arm-number (p .part) (p .phase) e true) in
-    let b : send (armedAs p true) (0x05 ∷ []) ≡ did (armedAs p false) 1 = executes (armedAs p true) (armed-sound p true s) true ReadStatus (0x05 ∷ []) (omega arith) (omega arith) refl (read-status-number (marked (p .part) true) (p .phase) e true) in
-    let c : send (armedAs p false) (0x99 ∷ []) .number ≡ 25 = ap number (ignores (armedAs p false) (armed-sound p false s) true Reset (0x99 ∷ []) (omega arith) (omega arith) refl 24 (reset-number (marked (p .part) false) (p .phase) e true false refl)) in
+    let a : send p (0x66 ∷ []) ≡ did (armedAs p true) 1 = executes p s true ArmReset (0x66 ∷ []) (omega arith) (omega arith) (known 0x66 ArmReset refl refl (p .part .blocks) (p .part .bank)) (arm-number (p .part) (p .phase) e true) in
+    let b : send (armedAs p true) (0x05 ∷ []) ≡ did (armedAs p false) 1 = executes (armedAs p true) (armed-sound p true s) true ReadStatus (0x05 ∷ []) (omega arith) (omega arith) (known 0x05 ReadStatus refl refl (p .part .blocks) (p .part .bank)) (read-status-number (marked (p .part) true) (p .phase) e true) in
+    let c : send (armedAs p false) (0x99 ∷ []) .number ≡ 25 = ap number (ignores (armedAs p false) (armed-sound p false s) true Reset (0x99 ∷ []) (omega arith) (omega arith) (known 0x99 Reset refl refl (p .part .blocks) (p .part .bank)) 24 (reset-number (marked (p .part) false) (p .phase) e true false refl)) in
     rw (a, b, c) (refl, refl, refl)
 
 locked-row : (p : Record) → Ready p → p .part .wel ≡ true → locked (p .part .stored .function) 1 ≡ true → (d : List ℕ) → 1 ≤ length d
@@ -156,10 +155,9 @@ unfolding commandNumber _and_ _or_ unless _orElse_ rowOk highFirst
 no-row p r w d n = rw (r .awake, r .idle, le-leb 5 (length (0x62 ∷ 0x00 ∷ 0x01 ∷ 0x00 ∷ d)) (omega arith), w)
 
 case-10 : Case10Everywhere
-unfolding decoded
 case-10 p r w k d (n, most) = (
-  ap number (ignores p (r .is-sound) true RowProgram (0x62 ∷ 0x00 ∷ 0x10 ∷ 0x00 ∷ d) (omega arith) (omega arith) refl 27 (locked-row p r w k d n)),
-  ap number (ignores p (r .is-sound) true RowProgram (0x62 ∷ 0x00 ∷ 0x01 ∷ 0x00 ∷ d) (omega arith) (omega arith) refl 26 (no-row p r w d n)),
+  ap number (ignores p (r .is-sound) true RowProgram (0x62 ∷ 0x00 ∷ 0x10 ∷ 0x00 ∷ d) (omega arith) (omega arith) (known-here p r 0x62 RowProgram refl) 27 (locked-row p r w k d n)),
+  ap number (ignores p (r .is-sound) true RowProgram (0x62 ∷ 0x00 ∷ 0x01 ∷ 0x00 ∷ d) (omega arith) (omega arith) (known-here p r 0x62 RowProgram refl) 26 (no-row p r w d n)),
 )
 
 case-11 : Case11Everywhere

@@ -8,3 +8,6 @@ pub mod Cases
 pub mod States
 pub mod Worked
 pub mod WithinErase
+pub mod LargeStates
+pub mod LargeBlocks
+pub mod LargeRun

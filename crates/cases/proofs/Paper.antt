@@ -1,4 +1,4 @@
--- The cases worked on paper, 1 to 11, as one statement. From 4 on a case is a statement on a part, its input and its array: `Cases` has it for the part of 16 blocks that power-up and 06h give, `Everywhere` for every sound part and every array.
+-- The cases worked on paper, 1 to 11, as one statement. From 4 on a case is a statement on a part, its input and its array: `Cases` has it for the part of 16 blocks that power-up and 06h give, `Everywhere` for every sound part of a size that 01 lists, and every array.
 use Prim.Native.Nat.{ℕ, _+_, _*_, _<_, _≤_}
 use mathlib.Core.Path.{_≡_}
 use mathlib.Core.Bool.{true, false}
@@ -6,13 +6,14 @@ use mathlib.Core.List.{List, [], _∷_, _++_}
 use lib.ListN.{length, getD, take, drop, set, replicate}
 use lib.Bits.{bitAnd}
 use Rattle.types.specs.declared.Memory.the-variants.{Array}
+use Rattle.types.specs.declared.Addressing.the-variants.{Three}
 use Rattle.types.specs.declared.Phase.the-variants.{Idle}
 use Rattle.types.specs.declared.Identity.{Identity}
 use Rattle.types.specs.declared.Answer.{Answer}
 use Rattle.types.specs.declared.Ticked.{Ticked}
 use Rattle.types.specs.declared.Stored.{Stored}
 use Rattle.types.specs.declared.Record.{Record}
-use Rattle.paper.specs.Sizes.{arrayBytes, rowsBytes, pageBytes}
+use Rattle.paper.specs.Sizes.{isLarge, arrayBytes, rowsBytes, pageBytes}
 use Rattle.paper.specs.Address.{addressIn}
 use Rattle.paper.specs.Protection.{codeOf, protectedAt, locked}
 use Rattle.paper.specs.Records.{fresh}
@@ -32,9 +33,10 @@ tick p n = ticked p (arrayBytes (p .part .blocks)) rowsBytes n
 abbrev pub arrayTicked : Record → ℕ → List ℕ → List ℕ
 arrayTicked p n xs = tickedMemory Array p (length xs) rowsBytes n xs
 
--- a sound part, idle and awake
+-- a sound part of one of 01's sizes, which are all but the large one, idle and awake
 pub record Ready (p : Record) : Type 0 where
   pub is-sound : sound p ≡ true
+  pub listed : isLarge (p .part .blocks) ≡ false
   pub idle : p .phase ≡ Idle
   pub awake : p .part .asleep ≡ false
 
@@ -105,14 +107,14 @@ Case5 p xs =
 abbrev pub Case6 : Record → ℕ → ℕ → List ℕ → List ℕ → Type 0
 Case6 p h m d xs =
     let i : List ℕ = 0x02 ∷ h ∷ m ∷ 0x00 ∷ d in
-    let a = addressIn (p .part .blocks) i in
+    let a = addressIn (Three false) (p .part .blocks) i in
     (send p i .number ≡ 0) × (arrayTicked (send p i .next) 1 xs ≡ set xs (a + 2) (bitAnd (getD xs (a + 2) 0) (getD d 2 0)))
 
 -- A5h programmed over 5Ah gives 00h
 abbrev pub Case7 : Record → ℕ → ℕ → ℕ → List ℕ → Type 0
 Case7 p h m l xs =
     let i : List ℕ = 0x02 ∷ h ∷ m ∷ l ∷ 0xA5 ∷ [] in
-    (send p i .number ≡ 0) × (arrayTicked (send p i .next) 1 xs ≡ set xs (addressIn (p .part .blocks) i) 0x00)
+    (send p i .number ≡ 0) × (arrayTicked (send p i .next) 1 xs ≡ set xs (addressIn (Three false) (p .part .blocks) i) 0x00)
 
 -- 06h sent as two bytes: 24
 abbrev pub Case8 : Record → ℕ → Type 0
@@ -172,13 +174,13 @@ Case5Everywhere =
 abbrev pub Case6Everywhere : Type 0
 Case6Everywhere =
     (p : Record) → Ready p → p .part .wel ≡ true → (h m : ℕ) (d : List ℕ) → length d ≡ 258
-    → Free (codeOf (p .part .stored .status)) (p .part .blocks) (addressIn (p .part .blocks) (0x02 ∷ h ∷ m ∷ 0x00 ∷ d))
+    → Free (codeOf (p .part .stored .status)) (p .part .blocks) (addressIn (Three false) (p .part .blocks) (0x02 ∷ h ∷ m ∷ 0x00 ∷ d))
     → (xs : List ℕ) → length xs ≡ arrayBytes (p .part .blocks) → Case6 p h m d xs
 
 abbrev pub Case7Everywhere : Type 0
 Case7Everywhere =
     (p : Record) → Ready p → p .part .wel ≡ true → (h m l : ℕ)
-    → let a = addressIn (p .part .blocks) (0x02 ∷ h ∷ m ∷ l ∷ 0xA5 ∷ []) in
+    → let a = addressIn (Three false) (p .part .blocks) (0x02 ∷ h ∷ m ∷ l ∷ 0xA5 ∷ []) in
     Free (codeOf (p .part .stored .status)) (p .part .blocks) a
     → (xs : List ℕ) → length xs ≡ arrayBytes (p .part .blocks) → getD xs a 0 ≡ 0x5A → Case7 p h m l xs
 

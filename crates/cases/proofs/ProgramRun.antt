@@ -8,6 +8,7 @@ use native.Mathlib.Nat.{add-zero}
 use lib.ListN.{length, getD, length-drop}
 use borrow.Author.Tests.{le-leb}
 use Rattle.types.specs.declared.Memory.the-variants.{Array}
+use Rattle.types.specs.declared.Addressing.the-variants.{Three}
 use Rattle.types.specs.declared.Operation.{Operation}
 use Rattle.types.specs.declared.Phase.{Phase}
 use Rattle.types.specs.declared.Phase.the-variants.{Idle, Busy}
@@ -18,10 +19,10 @@ use Rattle.types.specs.declared.Record.{Record}
 use Rattle.words.specs.Logic.{_and_, _or_, unless, _orElse_}
 use Rattle.paper.specs.Sizes.{sizeOk, blockBytes}
 use Rattle.paper.specs.Address.{addressIn}
-use Rattle.paper.specs.Protection.{codeOf, protected, protectedAt}
+use Rattle.paper.specs.Protection.{wholeCode, protected, protectedAt}
 use Rattle.paper.specs.Program.{pageBase, pagePlace, dataSent, passedCount, pageData, programOf, narrowed}
 use Rattle.paper.specs.Records.{marked, settled}
-use Rattle.paper.specs.Soundness.{sound}
+use Rattle.paper.specs.Soundness.{sound, largeOk}
 use Rattle.paper.specs.Numbers.{commandNumber, ignoredNumber}
 use Rattle.paper.specs.Ticks.{memoryAfter}
 use Rattle.paper.proofs.KeptBytes.{kept-byte}
@@ -32,38 +33,39 @@ use Rattle.paper.proofs.Begun.{program-begun}
 abbrev pub programming : Part → Operation → List ℕ → Record
 programming p o d = recordOf (marked (settled p (Busy o) true) false) (Busy o) (pageData d)
 
--- the block of A is free, and data follows A
-module _ (p : Part) (i : List ℕ) (size : sizeOk (p .blocks) ≡ true) (least : 5 ≤ length i) (free : protectedAt (codeOf (p .stored .status)) (p .blocks) (addressIn (p .blocks) i) ≡ false) where
+-- the block of A is free, and data follows A, which has three bytes
+module _ (p : Part) (i : List ℕ) (size : sizeOk (p .blocks) ≡ true) (large : largeOk (p .blocks) (p .stored .function) (p .bank) ≡ true) (least : 5 ≤ length i)
+    (free : protectedAt (wholeCode (p .stored)) (p .blocks) (addressIn (Three false) (p .blocks) i) ≡ false) where
   abbrev address : ℕ
-  address = addressIn (p .blocks) i
+  address = addressIn (Three false) (p .blocks) i
 
   abbrev given : List ℕ
-  given = dataSent i
+  given = dataSent (Three false) i
 
   some : 1 ≤ length given
   some = simp length-drop (omega arith)
 
-  page-free : protectedAt (codeOf (p .stored .status)) (p .blocks) (pageBase address) ≡ false
+  page-free : protectedAt (wholeCode (p .stored)) (p .blocks) (pageBase address) ≡ false
   page-free =
       let e : pageBase address / blockBytes ≡ address / blockBytes = omega arith in
-      ap (protected (codeOf (p .stored .status)) (p .blocks)) e ∙ free
+      ap (protected (wholeCode (p .stored)) (p .blocks)) e ∙ free
 
-  pub program-number : (f : Phase) → p .asleep ≡ false → f ≡ Idle → p .wel ≡ true → (wp : Bool) → ignoredNumber (Known PageProgram) p f i wp ≡ 0
+  pub program-number : (f : Phase) → p .bank ≡ 0 → p .asleep ≡ false → f ≡ Idle → p .wel ≡ true → (wp : Bool) → ignoredNumber (Known PageProgram) p f i wp ≡ 0
   unfolding commandNumber _and_ _or_ unless _orElse_ programOf
-  program-number f a e w wp = rw (page-free, a, e, le-leb 5 (length i) least, w)
+  program-number f b a e w wp = rw (b, page-free, a, e, le-leb 5 (length i) least, w)
 
-  pub program-sound : p .asleep ≡ false → sound (programming p (programOf Array (p .blocks) i) given) ≡ true
+  pub program-sound : p .asleep ≡ false → sound (programming p (programOf Array (Three false) (p .blocks) i) given) ≡ true
   unfolding programOf
   program-sound a =
-      marked-sound (settled p (Busy (programOf Array (p .blocks) i)) true) (Busy (programOf Array (p .blocks) i)) (pageData given) false
-      (program-begun p size a Array i least tt (ap not page-free))
+      marked-sound (settled p (Busy (programOf Array (Three false) (p .blocks) i)) true) (Busy (programOf Array (Three false) (p .blocks) i)) (pageData given) false
+      (program-begun p size large a (Three false) i least Array tt (ap not page-free))
 
   first-kept : getD (pageData given) 0 0 ≡ getD given (passedCount given) 0
   first-kept = kept-byte given 0 (omega (arith, some)) ∙ ap (λ (k : ℕ). getD given k 0) (add-zero (passedCount given))
 
   -- the first tick
   pub program-first : (xs : List ℕ)
-      → memoryAfter Array 1 (programming p (programOf Array (p .blocks) i) given) xs
+      → memoryAfter Array 1 (programming p (programOf Array (Three false) (p .blocks) i) given) xs
       ≡ narrowed xs (pageBase address + pagePlace address (passedCount given)) (getD given (passedCount given) 0)
   unfolding programOf pagePlace
   program-first xs =

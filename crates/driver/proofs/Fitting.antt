@@ -34,12 +34,12 @@ use Rattle.paper.proofs.Soundness.{InOrder, sound-parts, running-in-order, halt
 use Rattle.cells.specs.Operations.{cellsOf, workCells}
 use Rattle.record_bytes.specs.Read.{Fitting, Fits}
 
-memory-few : (m : Memory) (n : ℕ) → n ≤ 16 → memoryBytes m n ≤ 2 ^ 20
+memory-few : (m : Memory) (n : ℕ) → n ≤ 512 → memoryBytes m n ≤ 2 ^ 25
 memory-few Array n h = omega arith
 memory-few Rows n h = omega arith
 
--- an operation that is in order on a part of at most 16 blocks
-operation-fits : (n : ℕ) (g : Stored) (o : Operation) → n ≤ 16 → InOrder o n g → Fitting (cellsOf o)
+-- an operation that is in order on a part of at most 512 blocks
+operation-fits : (n : ℕ) (g : Stored) (o : Operation) → n ≤ 512 → InOrder o n g → Fitting (cellsOf o)
 operation-fits n g (Program m s b k d) few i =
     let inside : b + pageBytes ≤ memoryBytes m n = leb-true _ _ (i .within) in
     let kept : k ≤ pageBytes = leb-true _ _ (and-l _ _ (and-r _ _ (i .content))) in
@@ -50,7 +50,7 @@ operation-fits n g (Erase u b d) few i =
 operation-fits n g (Write r v) few i = record { base = omega arith; count = omega arith; done = omega arith }
 
 -- what runs or is suspended, where it is in order if it is an operation
-work-fits : (n : ℕ) (g : Stored) (w : Work) → n ≤ 16 → ((o : Operation) → w ≡ At o → InOrder o n g) → Fitting (workCells w)
+work-fits : (n : ℕ) (g : Stored) (w : Work) → n ≤ 512 → ((o : Operation) → w ≡ At o → InOrder o n g) → Fitting (workCells w)
 work-fits n g NoWork few h = record { base = omega arith; count = omega arith; done = omega arith }
 work-fits n g (At o) few h = operation-fits n g o few (h o refl)
 
@@ -60,7 +60,7 @@ Page p = length (p .page) ≡ pageBytes
 
 pub sound-fits : (p : Record) → sound p ≡ true → Page p → Fits p
 sound-fits p s h =
-    let few : p .part .blocks ≤ 16 = size-range (p .part .blocks) (sound-parts p s .size) .1 in
+    let few : p .part .blocks ≤ 512 = size-range (p .part .blocks) (sound-parts p s .size) .1 in
     let n = p .part .blocks in
     let g = p .part .stored in
     record { blocks = omega arith; runs = work-fits n g (running (p .phase)) few (λ o e. running-in-order p o e s); suspended = work-fits n g (halted (p .phase)) few (λ o e. halted-in-order p o e s); page = h }
@@ -77,7 +77,7 @@ none-page = refl
 -- what a transaction changes keeps it a page
 after-page : (d : Data) (i g : List ℕ) → length g ≡ pageBytes → length (pageAfter d i g) ≡ pageBytes
 after-page Kept i g h = h
-after-page Sent i g h = data-page (dataSent i)
+after-page (Sent a) i g h = data-page (dataSent a i)
 after-page Zero i g h = none-page
 
 pub changed-page : (c : Change) (i : List ℕ) (p : Record) → Page p → Page (changed c i p)

@@ -1,7 +1,9 @@
 // What a command that is executed, or barred with 28, makes of the record, and the record after a change.
 ghost use mathlib.Core.Path.{_≡_};
-ghost use Rattle.paper.specs.Records.{marked, resting, withLive};
+ghost use Rattle.paper.specs.Records.{marked, resting, withLive, withBank};
+ghost use Rattle.paper.specs.Registers.{bankTurned};
 ghost use Rattle.paper.specs.Commands.{pageAfter, changed, unarmed, starts, changeBy, errorsOf, changeBarred};
+use types::Addressing;
 use types::Change;
 use types::Data;
 use types::Effect;
@@ -34,6 +36,21 @@ fn set_live(part: Part, live: u8) -> Part
     next
 }
 
+fn set_bank(part: Part, bank: u8) -> Part
+    ensures { λ r. ⌜ r ≡ withBank part bank ⌝ }
+{
+    let mut next = part;
+    next.bank = bank;
+    next
+}
+
+// A bank register with EXTADD set or cleared, and the bank bit of a byte.
+fn turn_bank(far: bool, bank: u8) -> u8
+    ensures { λ r. ⌜ r ≡ bankTurned far bank ⌝ }
+{
+    128 * words::bit_of(far) + bank % 2
+}
+
 fn rest(part: Part, asleep: bool) -> Part
     ensures { λ r. ⌜ r ≡ resting part asleep ⌝ }
 {
@@ -62,10 +79,17 @@ fn start(work: Work, part: Part, phase: Phase, page: Data) -> Change
     }
 }
 
-// What an executed command changes, of a part in a phase, where it begins the work. Only an arming one leaves the
-// armed mark set.
-pub fn change_by(effect: Effect, work: Work, part: Part, phase: Phase, input: &[u8]) -> Change
-    ensures { λ r. ⌜ r ≡ changeBy effect work part phase (now (input .entry)) ⌝ }
+// What an executed command changes, of a part in a phase, where it begins the work, with its address sent so. Only an
+// arming one leaves the armed mark set.
+pub fn change_by(
+    effect: Effect,
+    form: Addressing,
+    work: Work,
+    part: Part,
+    phase: Phase,
+    input: &[u8],
+) -> Change
+    ensures { λ r. ⌜ r ≡ changeBy effect form work part phase (now (input .entry)) ⌝ }
 {
     let identity = part.identity;
     let stored = part.stored;
@@ -73,7 +97,7 @@ pub fn change_by(effect: Effect, work: Work, part: Part, phase: Phase, input: &[
         Effect::Looks => Change::Marked(false),
         Effect::Enables => Change::Anew(unarm(record::settle(part, phase, true))),
         Effect::Disables => Change::Anew(unarm(record::settle(part, phase, false))),
-        Effect::Programs(_) => start(work, part, phase, Data::Sent),
+        Effect::Programs(_) => start(work, part, phase, Data::Sent(form)),
         Effect::Erases(_) => start(work, part, phase, Data::Kept),
         Effect::Writes(_) => start(work, part, phase, Data::Kept),
         Effect::Suspends => {
@@ -97,6 +121,12 @@ pub fn change_by(effect: Effect, work: Work, part: Part, phase: Phase, input: &[
             Change::Live(live)
         }
         Effect::ClearsErrors => Change::Live(operations::held_byte(Register::Extended, part.live)),
+        Effect::SetsBank => {
+            let byte = sent::byte_at(input, 1);
+            let bank = turn_bank(byte / 128 % 2 == 1, byte);
+            Change::Anew(unarm(set_bank(part, bank)))
+        }
+        Effect::SetsFar(far) => Change::Anew(unarm(set_bank(part, turn_bank(far, part.bank)))),
     }
 }
 
@@ -119,6 +149,8 @@ fn errors_of(effect: Effect) -> u8
         Effect::Resets => 0,
         Effect::SetsLive => 0,
         Effect::ClearsErrors => 0,
+        Effect::SetsBank => 0,
+        Effect::SetsFar(_) => 0,
     }
 }
 
@@ -135,7 +167,7 @@ fn page_after(becomes: Data, input: &[u8], page: [u8; 256]) -> [u8; 256]
 {
     match becomes {
         Data::Kept => page,
-        Data::Sent => sent::page_data(input),
+        Data::Sent(form) => sent::page_data(form, input),
         Data::Zero => record::no_data(),
     }
 }

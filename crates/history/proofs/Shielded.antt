@@ -21,7 +21,7 @@ use Rattle.types.specs.declared.Record.{Record}
 use Rattle.words.specs.Logic.{_and_}
 use Rattle.words.proofs.Tests.{and-l, and-r, fails}
 use Rattle.paper.specs.Sizes.{arrayBytes, rowsBytes, pageBytes, blockBytes, sameMemory}
-use Rattle.paper.specs.Protection.{codeOf, protected, locked}
+use Rattle.paper.specs.Protection.{codeOf, wholeCode, protected, locked}
 use Rattle.paper.specs.Program.{pageBase, pagePlace, narrowedByte}
 use Rattle.paper.specs.Erase.{memoryOf, unitBytes, unitBase, erasedByte}
 use Rattle.paper.specs.Phases.{running, workIs, anyOperation, isBusy}
@@ -48,7 +48,7 @@ shielded-exactly at p =
 -- places of one block, or of one row, are free together
 module _ (n : ℕ) (g : Stored) (at b : ℕ) where
   same-block : at / blockBytes ≡ b / blockBytes → free Array b n g ≡ true → free Array at n g ≡ true
-  same-block e h = ap (λ (k : ℕ). not (protected (codeOf (g .status)) n k)) e ∙ h
+  same-block e h = ap (λ (k : ℕ). not (protected (wholeCode g) n k)) e ∙ h
 
   same-row : at / pageBytes ≡ b / pageBytes → free Rows b n g ≡ true → free Rows at n g ≡ true
   same-row e h = ap (λ (k : ℕ). not (locked (g .function) k)) e ∙ h
@@ -65,7 +65,7 @@ module _ (n : ℕ) (g : Stored) (at b : ℕ) where
   unit-free Block64 e l h f = same-block (omega arith) f
   unit-free Chip e l h f =
       let z : codeOf (g .status) ≡ 0 = eqb-true _ _ f in
-      ap (λ (c : ℕ). not (protected c n (at / blockBytes))) z ∙ ap not (none-protected 0 n (at / blockBytes) (none-counted n .0))
+      ap not (none-protected (wholeCode g) n (at / blockBytes) (none-counted n g z))
   unit-free Row e l h f = same-row (omega arith) f
 
 -- a test that only a free place can pass is failed at a place that is not free

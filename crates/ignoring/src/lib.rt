@@ -7,6 +7,7 @@ ghost use Rattle.paper.specs.Table.{takenSuspended};
 ghost use Rattle.paper.specs.Operations.{outsideOf};
 ghost use Rattle.paper.specs.Suspend.{suspendable};
 ghost use Rattle.paper.specs.Numbers.{stateOk, addressOk, pinOk, writeOk, freeOk, commandNumber};
+use types::Addressing;
 use types::Columns;
 use types::Named;
 use types::Operation;
@@ -43,13 +44,14 @@ fn state_ok(wanted: Wanted, part: Part, phase: Phase) -> bool
 }
 
 // 27: a row address is valid.
-fn address_ok(named: Named, input: &[u8]) -> bool
-    ensures { λ r. ⌜ r ≡ addressOk named (now (input .entry)) ⌝ }
+fn address_ok(named: Named, form: Addressing, input: &[u8]) -> bool
+    ensures { λ r. ⌜ r ≡ addressOk named form (now (input .entry)) ⌝ }
 {
     match named {
         Named::Bare => true,
         Named::Place => true,
-        Named::InRow => sent::row_ok(input),
+        Named::Far => true,
+        Named::InRow => sent::row_ok(form, input),
     }
 }
 
@@ -140,7 +142,8 @@ pub fn command_number(
     let state = state_ok(wanted, part, phase);
     let whole = suspended_ok(taken, phase);
     let latch = words::either(!k.wel, part.wel);
-    let address = address_ok(named, input);
+    let form = table::addressing(named, part.bank);
+    let address = address_ok(named, form, input);
     let free = free_ok(work, part, phase, wp);
     let n27 = words::number_or(address, 27, words::number_or(free, 28, 0));
     let n25 = words::number_or(state, 25, words::number_or(latch, 26, n27));

@@ -5,7 +5,7 @@ ghost use lib.Dec.{leb};
 ghost use Rattle.types.specs.declared.Operation.the-variants.{Program, Erase};
 ghost use Rattle.words.specs.Logic.{_and_};
 ghost use Rattle.paper.specs.Sizes.{memoryBytes, sameMemory, fromOn};
-ghost use Rattle.paper.specs.Protection.{codeOf};
+ghost use Rattle.paper.specs.Protection.{codeOf, wholeCode};
 ghost use Rattle.paper.specs.Registers.{held};
 ghost use Rattle.paper.specs.Operations.{ticksInAll, ticksDone, free, unitFree, targetFree, memorySuspends, unitSuspends, canSuspend, inUnit, outside, outsideOf, keptBy};
 ghost use Rattle.paper.specs.Soundness.{operationOk};
@@ -118,14 +118,24 @@ fn code_of(status: u8) -> u8
     status / 4 % 16
 }
 
+// The code with TBS above it, of which the protection question is asked.
+fn whole_code(stored: Stored) -> u8
+    ensures { λ r. ⌜ r ≡ wholeCode stored ⌝ }
+{
+    code_of(stored.status) + 16 * (stored.function / 2 % 2)
+}
+
 // Whether a place of a memory is unprotected or unlocked: the block of an array's place is none of those that the
-// protection question answers.
+// protection question answers. BP bits of 0 protect none, and most parts have these.
 fn is_free(memory: Memory, base: usize, blocks: u16, stored: Stored) -> bool
     ensures { λ r. ⌜ r ≡ free memory base blocks stored ⌝ }
 {
     match memory {
         Memory::Array => {
-            let code = code_of(stored.status);
+            if code_of(stored.status) == 0 {
+                return true;
+            }
+            let code = whole_code(stored);
             let shut = protection::protected_blocks(code as u64, blocks as u64);
             !protection::is_among(shut, base / types::BLOCK_BYTES)
         }

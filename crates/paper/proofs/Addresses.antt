@@ -5,15 +5,17 @@ use mathlib.Core.Bool.{Bool, true, false}
 use mathlib.Core.List.{List, [], _∷_, _++_}
 use native.Mathlib.Omega.{arith}
 use native.Mathlib.Nat.{pos-of-ne-zero, mod-mod-of-dvd, dvd-mul-left, dvd-mul-left-of-dvd}
-use lib.ListN.{length, getD, take}
-use lib.Seq.{take-suc}
-use lib.Dec.{eqb, ltb}
-use borrow.Author.Tests.{ltb-true, eqb-true, eqb-false, eq-eqb, ne-eqb, lt-ltb, le-ltb}
+use lib.ListN.{length, getD, take, drop}
+use lib.Seq.{take-suc, take-all, take-length, getD-drop}
+use lib.Dec.{eqb, ltb, leb}
+use borrow.Author.Tests.{leb-true, leb-false, ltb-true, eqb-true, eqb-false, eq-eqb, ne-eqb, lt-ltb, le-ltb}
+use Rattle.types.specs.declared.Addressing.{Addressing}
+use Rattle.types.specs.declared.Addressing.the-variants.{Three, Four}
 use Rattle.words.specs.Logic.{_and_, _or_}
 use Rattle.words.proofs.Tests.{and-in}
 use lib.Pow.{pow-add, pow-mono}
 use Rattle.paper.specs.Sizes.{blockBytes, pageBytes}
-use Rattle.paper.specs.Address.{readOn, highFirst, addressSent, addressIn, rowOk}
+use Rattle.paper.specs.Address.{readOn, highFirst, addressBytes, addressSent, addressIn, rowOk}
 
 read-on-snoc : (a : ℕ) (bs : List ℕ) (b : ℕ) → readOn a (bs ++ (b ∷ [])) ≡ readOn a bs * 256 + b
 read-on-snoc a [] b = refl
@@ -47,10 +49,23 @@ module _ (bs : List ℕ) where
       let m : 2 ^ (8 * i) ≤ 2 ^ 56 = pow-mono {i = 8 * i} {j = 56} (omega arith) in
       omega (arith, high-first-fits byte i h)
 
+-- so many bytes of a list, or as many as it has
+below-as : (bs : List ℕ) → ((i : ℕ) → getD bs i 0 < 256) → (k : ℕ) (t : Bool) → leb k (length bs) ≡ t → highFirst (take k bs) < 2 ^ (8 * k)
+below-as bs byte k true e = high-first-fits bs byte k (leb-true _ _ e)
+below-as bs byte k false e =
+    let l : length bs < k = leb-false _ _ e in
+    let m : 2 ^ (8 * length bs) ≤ 2 ^ (8 * k) = pow-mono {i = 8 * length bs} {j = 8 * k} (omega arith) in
+    let s : highFirst (take k bs) ≡ highFirst (take (length bs) bs) = rw (take-all k bs (omega arith), take-length) in
+    omega (arith, m, s, high-first-fits bs byte (length bs) (omega arith))
+
+pub address-below : (i : List ℕ) → ((j : ℕ) → getD i j 0 < 256) → (k : ℕ) → highFirst (addressBytes k i) < 2 ^ (8 * k)
+address-below i byte k =
+    below-as (drop 1 i) (λ j. rw getD-drop (byte (1 + j))) k (leb k (length (drop 1 i))) refl
+
 -- A lies in its page where the address sent does
-pub in-page : (n : ℕ) (i : List ℕ) → addressIn n i % pageBytes ≡ addressSent i % pageBytes
+pub in-page : (g : Addressing) (n : ℕ) (i : List ℕ) → addressIn g n i % pageBytes ≡ addressSent g i % pageBytes
 unfolding addressIn
-in-page n i = mod-mod-of-dvd pageBytes (addressSent i) (dvd-mul-left-of-dvd pageBytes {b = blockBytes} (dvd-mul-left pageBytes pageBytes) n)
+in-page g n i = mod-mod-of-dvd pageBytes (addressSent g i) (dvd-mul-left-of-dvd pageBytes {b = blockBytes} (dvd-mul-left pageBytes pageBytes) n)
 
 -- row addresses, as sent, are 00h, then 00h, 10h, 20h or 30h, then a byte address
 module _ (c a b d : ℕ) (rest : List ℕ) (ha : a < 256) (hb : b < 256) (hd : d < 256) where
@@ -101,10 +116,21 @@ module _ (c a b d : ℕ) (rest : List ℕ) (ha : a < 256) (hb : b < 256) (hd : d
   row-ok-as true false false false false e0 e1 e2 e3 e4 =
       second-wrong (ltb ((a * 65536 + b * 256 + d) / 4096) 4) refl (eqb-false b 0 e1) (eqb-false b 0x10 e2) (eqb-false b 0x20 e3) (eqb-false b 0x30 e4)
 
-  sent-as : addressSent (c ∷ a ∷ b ∷ d ∷ rest) ≡ a * 65536 + b * 256 + d
+  sent-as : addressSent (Three false) (c ∷ a ∷ b ∷ d ∷ rest) ≡ a * 65536 + b * 256 + d
   unfolding highFirst
   sent-as = omega arith
 
-  pub row-ok-sent : rowOk (c ∷ a ∷ b ∷ d ∷ rest) ≡ (eqb a 0 and (eqb b 0 or eqb b 0x10 or eqb b 0x20 or eqb b 0x30))
+  pub row-ok-sent : rowOk (Three false) (c ∷ a ∷ b ∷ d ∷ rest) ≡ (eqb a 0 and (eqb b 0 or eqb b 0x10 or eqb b 0x20 or eqb b 0x30))
   unfolding rowOk
   row-ok-sent = rw sent-as (row-ok-as (eqb a 0) (eqb b 0) (eqb b 0x10) (eqb b 0x20) (eqb b 0x30) refl refl refl refl refl)
+
+  -- of a row address of four bytes the first would be 00h too
+  four-as : (z : ℕ) → addressSent Four (c ∷ z ∷ a ∷ b ∷ d ∷ rest) ≡ z * 16777216 + (a * 65536 + b * 256 + d)
+  unfolding highFirst
+  four-as z = omega arith
+
+  pub row-ok-four : (z : ℕ) → (z ≡ 0 → ⊥) → rowOk Four (c ∷ z ∷ a ∷ b ∷ d ∷ rest) ≡ false
+  unfolding rowOk _and_
+  row-ok-four z x =
+      let y : 1 ≤ z = pos-of-ne-zero x in
+      rw (four-as z, le-ltb ((z * 16777216 + (a * 65536 + b * 256 + d)) / 4096) 4 (omega arith))

@@ -32,7 +32,7 @@ module _ (p : Record) (s : sound p ≡ true) where
   unfolding transactionRefusal rowsNumber lengthNumber outputNumber soundNumber _and_ unless _orElse_
   not-refused n a b = rw (size-fits, le-leb 1 n a, le-leb n transactionLimit b, eq-eqb n n refl, s)
 
-  module _ (wp : Bool) (k : Command) (i : List ℕ) (a : 1 ≤ length i) (b : length i ≤ transactionLimit) (e : decoded (getD i 0 0) ≡ Known k) where
+  module _ (wp : Bool) (k : Command) (i : List ℕ) (a : 1 ≤ length i) (b : length i ≤ transactionLimit) (e : decoded (p .part .blocks) (p .part .bank) (getD i 0 0) ≡ Known k) where
     answered-to : transacted p (arrayBytes (p .part .blocks)) rowsBytes wp i (length i) ≡ answered (outcomeTo (Known k) (p .part) (p .phase) wp i) i p
     unfolding transacted outcomeOf
     answered-to = rw (not-refused (length i) a b, e)
@@ -47,16 +47,16 @@ module _ (p : Record) (s : sound p ≡ true) where
         → transacted p (arrayBytes (p .part .blocks)) rowsBytes wp i (length i) ≡ answered (ignored (Known k) (suc c) (p .part) (length i)) i p
     ignores c n = answered-to ∙ rw (n, eqb·suc-zero c)
 
-  ticks-not-refused : (n : ℕ) → n ≤ tickLimit → tickNumber (p .part .blocks) (sound p) (arrayBytes (p .part .blocks)) rowsBytes n ≡ 0
+  ticks-not-refused : (n : ℕ) → n ≤ tickLimit (p .part .blocks) → tickNumber (p .part .blocks) (sound p) (arrayBytes (p .part .blocks)) rowsBytes n ≡ 0
   unfolding tickNumber rowsNumber soundNumber ticksNumber unless _orElse_
-  ticks-not-refused n b = rw (size-fits, le-leb n tickLimit b, s)
+  ticks-not-refused n b = rw (size-fits, le-leb n (tickLimit (p .part .blocks)) b, s)
 
   -- ticks that are not refused run
-  pub ticks-run : (n : ℕ) → n ≤ tickLimit → ticked p (arrayBytes (p .part .blocks)) rowsBytes n ≡ record { next = recordAfter n p; number = 0; done = workingTicks n p }
+  pub ticks-run : (n : ℕ) → n ≤ tickLimit (p .part .blocks) → ticked p (arrayBytes (p .part .blocks)) rowsBytes n ≡ record { next = recordAfter n p; number = 0; done = workingTicks n p }
   unfolding ticked
   ticks-run n b = rw (ticks-not-refused n b)
 
-  pub ticks-memory : (m : Memory) (a n : ℕ) (xs : List ℕ) → a ≡ arrayBytes (p .part .blocks) → n ≤ tickLimit → tickedMemory m p a rowsBytes n xs ≡ memoryAfter m n p xs
+  pub ticks-memory : (m : Memory) (a n : ℕ) (xs : List ℕ) → a ≡ arrayBytes (p .part .blocks) → n ≤ tickLimit (p .part .blocks) → tickedMemory m p a rowsBytes n xs ≡ memoryAfter m n p xs
   unfolding tickedMemory
   ticks-memory m a n xs l b = rw (l, ticks-not-refused n b)
 

@@ -9,6 +9,7 @@ use lib.ListN.{length, length-drop, drop, getD}
 use borrow.Author.Tests.{ltb-true, lt-ltb, le-leb, eq-eqb}
 use Rattle.types.specs.declared.Memory.{Memory}
 use Rattle.types.specs.declared.Memory.the-variants.{Array, Rows}
+use Rattle.types.specs.declared.Addressing.{Addressing}
 use Rattle.types.specs.declared.EraseUnit.{EraseUnit}
 use Rattle.types.specs.declared.EraseUnit.the-variants.{Sector, Block32, Block64, Chip, Row}
 use Rattle.types.specs.declared.Register.{Register}
@@ -22,49 +23,49 @@ use Rattle.types.specs.declared.Record.{Record}
 use Rattle.words.specs.Lists.{allZero}
 use Rattle.words.proofs.Tests.{and-l, and-r, and-in}
 use Rattle.paper.specs.Sizes.{sizeOk, arrayBytes, memoryBytes, pageBytes, downTo}
-use Rattle.paper.specs.Address.{addressSent, addressIn, rowOk, rowPlace, placeIn}
+use Rattle.paper.specs.Address.{addressCount, addressSent, addressIn, rowOk, rowPlace, placeIn}
 use Rattle.paper.specs.Program.{pageBase, pagePlace, dataSent, keptCount, passedCount, pageData, programOf}
 use Rattle.paper.specs.Erase.{memoryOf, unitPages, unitBytes, unitBase, eraseOf}
 use Rattle.paper.specs.Registers.{held, writeOf}
 use Rattle.paper.specs.Phases.{isErase}
 use Rattle.paper.specs.Records.{settled}
 use Rattle.paper.specs.Operations.{targetFree, outside}
-use Rattle.paper.specs.Soundness.{latchOk, operationOk, phaseOk, keptIn, pageOk, sound}
+use Rattle.paper.specs.Soundness.{latchOk, largeOk, operationOk, phaseOk, keptIn, pageOk, sound}
 use Rattle.paper.proofs.Sizes.{size-range}
 use Rattle.paper.proofs.KeptBytes.{zeros-after}
 use Rattle.paper.proofs.MadeSound.{made-sound}
 use Rattle.paper.proofs.Soundness.{recordOf, sound-of, sound-in, awake-ok, in-order-whole, in-nest-whole}
 
 -- a row address is valid where the memory asks for one
-abbrev pub Valid : Memory → List ℕ → Type 0
-Valid Array i = Unit {0}
-Valid Rows i = rowOk i ≡ true
+abbrev pub Valid : Memory → Addressing → List ℕ → Type 0
+Valid Array g i = Unit {0}
+Valid Rows g i = rowOk g i ≡ true
 
 -- the place that a transaction names lies in its memory
-place-inside : (m : Memory) (n : ℕ) (i : List ℕ) → 1 ≤ n → Valid m i → placeIn m n i < memoryBytes m n
+place-inside : (m : Memory) (a : Addressing) (n : ℕ) (i : List ℕ) → 1 ≤ n → Valid m a i → placeIn m a n i < memoryBytes m n
 unfolding addressIn rowOk rowPlace
-place-inside Array n i h v = mod-lt (addressSent i) {m = arrayBytes n} (omega arith)
-place-inside Rows n i h v =
-    let l : addressSent i / 4096 < 4 = ltb-true _ _ (and-l _ _ v) in
+place-inside Array a n i h v = mod-lt (addressSent a i) {m = arrayBytes n} (omega arith)
+place-inside Rows a n i h v =
+    let l : addressSent a i / 4096 < 4 = ltb-true _ _ (and-l _ _ v) in
     omega arith
 
 page-inside : (m : Memory) (n a : ℕ) → a < memoryBytes m n → pageBase a + pageBytes ≤ memoryBytes m n
 page-inside Array n a h = omega arith
 page-inside Rows n a h = omega arith
 
-program-ok : (m : Memory) (n : ℕ) (g : Stored) (i : List ℕ) → 1 ≤ n → 5 ≤ length i → Valid m i
-    → targetFree (programOf m n i) n g ≡ true → operationOk (programOf m n i) n g ≡ true
+program-ok : (m : Memory) (w : Addressing) (n : ℕ) (g : Stored) (i : List ℕ) → 1 ≤ n → 2 + addressCount w ≤ length i → Valid m w i
+    → targetFree (programOf m w n i) n g ≡ true → operationOk (programOf m w n i) n g ≡ true
 unfolding programOf pagePlace
-program-ok m n g i h l v f =
-    let a = placeIn m n i in
-    let k : 1 ≤ keptCount (dataSent i) = simp length-drop (omega arith) in
-    in-order-whole (programOf m n i) n g
+program-ok m w n g i h l v f =
+    let a = placeIn m w n i in
+    let k : 1 ≤ keptCount (dataSent w i) = simp length-drop (omega arith) in
+    in-order-whole (programOf m w n i) n g
     (record {
       begins = eq-eqb (pageBase (pageBase a)) (pageBase a) (omega arith);
-      within = le-leb _ _ (page-inside m n a (place-inside m n i h v));
+      within = le-leb _ _ (page-inside m n a (place-inside m w n i h v));
       open-target = f;
       going = k;
-      content = and-in (le-leb 1 (keptCount (dataSent i)) k) (and-in (le-leb (keptCount (dataSent i)) pageBytes (omega arith)) (lt-ltb (pagePlace a (passedCount (dataSent i))) pageBytes (omega arith)));
+      content = and-in (le-leb 1 (keptCount (dataSent w i)) k) (and-in (le-leb (keptCount (dataSent w i)) pageBytes (omega arith)) (lt-ltb (pagePlace a (passedCount (dataSent w i))) pageBytes (omega arith)));
     })
 
 -- a memory of so many units
@@ -100,16 +101,16 @@ units-fill Block64 n = omega arith
 units-fill Chip n = omega arith
 units-fill Row n = omega arith
 
-erase-ok : (u : EraseUnit) (n : ℕ) (g : Stored) (i : List ℕ) → 1 ≤ n → Valid (memoryOf u) i
-    → targetFree (eraseOf u n i) n g ≡ true → operationOk (eraseOf u n i) n g ≡ true
+erase-ok : (u : EraseUnit) (w : Addressing) (n : ℕ) (g : Stored) (i : List ℕ) → 1 ≤ n → Valid (memoryOf u) w i
+    → targetFree (eraseOf u w n i) n g ≡ true → operationOk (eraseOf u w n i) n g ≡ true
 unfolding eraseOf
-erase-ok u n g i h v f =
-    let a = placeIn (memoryOf u) n i in
+erase-ok u w n g i h v f =
+    let a = placeIn (memoryOf u) w n i in
     let s : 0 < unitBytes u n = omega (arith, unit-some u n h) in
-    let q : a < unitCount u n * unitBytes u n = rw (← units-fill u n) (place-inside (memoryOf u) n i h v) in
-    let w : unitBase u n a + unitBytes u n ≤ memoryBytes (memoryOf u) n = rw (units-fill u n) (unit-inside (unitBytes u n) s a (unitCount u n) q) in
-    in-order-whole (eraseOf u n i) n g
-    (record { begins = eq-eqb _ _ (unit-aligned (unitBytes u n) s a); within = le-leb _ _ w; open-target = f; going = unit-some u n h; content = refl })
+    let q : a < unitCount u n * unitBytes u n = rw (← units-fill u n) (place-inside (memoryOf u) w n i h v) in
+    let e : unitBase u n a + unitBytes u n ≤ memoryBytes (memoryOf u) n = rw (units-fill u n) (unit-inside (unitBytes u n) s a (unitCount u n) q) in
+    in-order-whole (eraseOf u w n i) n g
+    (record { begins = eq-eqb _ _ (unit-aligned (unitBytes u n) s a); within = le-leb _ _ e; open-target = f; going = unit-some u n h; content = refl })
 
 -- to hold a byte again changes nothing
 held-again : (r : Register) (b : ℕ) → held r (held r b) ≡ held r b
@@ -124,29 +125,31 @@ write-ok r n g i =
     (record { begins = refl; within = refl; open-target = refl; going = omega arith; content = eq-eqb _ _ (held-again r (getD i 1 0)) })
 
 -- an awake part in another phase
-module _ (p : Part) (size : sizeOk (p .blocks) ≡ true) (awake : p .asleep ≡ false) where
+module _ (p : Part) (size : sizeOk (p .blocks) ≡ true) (large : largeOk (p .blocks) (p .stored .function) (p .bank) ≡ true) (awake : p .asleep ≡ false) where
   pub settled-sound : (f : Phase) (wel : Bool) (d : List ℕ) → latchOk f wel ≡ true → phaseOk f (p .blocks) (p .stored) ≡ true → pageOk f d ≡ true
       → sound (recordOf (settled p f wel) f d) ≡ true
   settled-sound f wel d l o g =
-      sound-of (settled p f wel) f d (made-sound p (p .stored) f wel size (rw awake (awake-ok f)) l o) g
+      sound-of (settled p f wel) f d (made-sound p (p .stored) f wel size (rw awake (awake-ok f)) l o large) g
 
-  pub program-begun : (m : Memory) (i : List ℕ) → 5 ≤ length i → Valid m i → targetFree (programOf m (p .blocks) i) (p .blocks) (p .stored) ≡ true
-      → sound (recordOf (settled p (Busy (programOf m (p .blocks) i)) true) (Busy (programOf m (p .blocks) i)) (pageData (dataSent i))) ≡ true
-  unfolding programOf pageOk
-  program-begun m i l v f =
-      settled-sound (Busy (programOf m (p .blocks) i)) true (pageData (dataSent i)) refl
-      (program-ok m (p .blocks) (p .stored) i (size-range (p .blocks) size .0) l v f) (zeros-after (dataSent i))
+  -- a program, whose address is sent in one way or the other
+  module _ (w : Addressing) (i : List ℕ) (long : 2 + addressCount w ≤ length i) where
+    pub program-begun : (m : Memory) → Valid m w i → targetFree (programOf m w (p .blocks) i) (p .blocks) (p .stored) ≡ true
+        → sound (recordOf (settled p (Busy (programOf m w (p .blocks) i)) true) (Busy (programOf m w (p .blocks) i)) (pageData (dataSent w i))) ≡ true
+    unfolding programOf pageOk
+    program-begun m v f =
+        settled-sound (Busy (programOf m w (p .blocks) i)) true (pageData (dataSent w i)) refl
+        (program-ok m w (p .blocks) (p .stored) i (size-range (p .blocks) size .0) long v f) (zeros-after (dataSent w i))
 
-  -- the same within a suspended erase, of a page of the array outside of its unit
-  pub program-nested : (e : Operation) (i : List ℕ) → 5 ≤ length i → isErase e ≡ true → phaseOk (Suspended e) (p .blocks) (p .stored) ≡ true
-      → targetFree (programOf Array (p .blocks) i) (p .blocks) (p .stored) ≡ true → outside e (p .blocks) (programOf Array (p .blocks) i) ≡ true
-      → sound (recordOf (settled p (Nested (programOf Array (p .blocks) i) e) true) (Nested (programOf Array (p .blocks) i) e) (pageData (dataSent i))) ≡ true
-  unfolding programOf pageOk
-  program-nested e i l h g f a =
-      let o = programOf Array (p .blocks) i in
-      let q = program-ok Array (p .blocks) (p .stored) i (size-range (p .blocks) size .0) l tt f in
-      let k = in-nest-whole e o (p .blocks) (record { erases = h; suspends = and-l _ _ g; programs = refl; array-page = refl; apart = a }) in
-      settled-sound (Nested o e) true (pageData (dataSent i)) refl (and-in k (and-in (and-r _ _ g) q)) (zeros-after (dataSent i))
+    -- the same within a suspended erase, of a page of the array outside of its unit
+    pub program-nested : (e : Operation) → isErase e ≡ true → phaseOk (Suspended e) (p .blocks) (p .stored) ≡ true
+        → targetFree (programOf Array w (p .blocks) i) (p .blocks) (p .stored) ≡ true → outside e (p .blocks) (programOf Array w (p .blocks) i) ≡ true
+        → sound (recordOf (settled p (Nested (programOf Array w (p .blocks) i) e) true) (Nested (programOf Array w (p .blocks) i) e) (pageData (dataSent w i))) ≡ true
+    unfolding programOf pageOk
+    program-nested e h g f a =
+        let o = programOf Array w (p .blocks) i in
+        let q = program-ok Array w (p .blocks) (p .stored) i (size-range (p .blocks) size .0) long tt f in
+        let k = in-nest-whole e o (p .blocks) (record { erases = h; suspends = and-l _ _ g; programs = refl; array-page = refl; apart = a }) in
+        settled-sound (Nested o e) true (pageData (dataSent w i)) refl (and-in k (and-in (and-r _ _ g) q)) (zeros-after (dataSent w i))
 
   -- a phase that keeps no page data, where there is none
   module _ (d : List ℕ) (none : allZero d ≡ true) where
@@ -155,11 +158,11 @@ module _ (p : Part) (size : sizeOk (p .blocks) ≡ true) (awake : p .asleep ≡ 
     unfolding pageOk
     settled-empty f wel l o k = settled-sound f wel d l o (ap (λ (n : ℕ). allZero (drop n d)) k ∙ none)
 
-    pub erase-begun : (u : EraseUnit) (i : List ℕ) → Valid (memoryOf u) i → targetFree (eraseOf u (p .blocks) i) (p .blocks) (p .stored) ≡ true
-        → sound (recordOf (settled p (Busy (eraseOf u (p .blocks) i)) true) (Busy (eraseOf u (p .blocks) i)) d) ≡ true
+    pub erase-begun : (u : EraseUnit) (w : Addressing) (i : List ℕ) → Valid (memoryOf u) w i → targetFree (eraseOf u w (p .blocks) i) (p .blocks) (p .stored) ≡ true
+        → sound (recordOf (settled p (Busy (eraseOf u w (p .blocks) i)) true) (Busy (eraseOf u w (p .blocks) i)) d) ≡ true
     unfolding eraseOf
-    erase-begun u i v f =
-        settled-empty (Busy (eraseOf u (p .blocks) i)) true refl (erase-ok u (p .blocks) (p .stored) i (size-range (p .blocks) size .0) v f) refl
+    erase-begun u w i v f =
+        settled-empty (Busy (eraseOf u w (p .blocks) i)) true refl (erase-ok u w (p .blocks) (p .stored) i (size-range (p .blocks) size .0) v f) refl
 
     pub write-begun : (r : Register) (i : List ℕ) → sound (recordOf (settled p (Busy (writeOf r i)) true) (Busy (writeOf r i)) d) ≡ true
     unfolding writeOf

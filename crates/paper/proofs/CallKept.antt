@@ -31,15 +31,15 @@ module _ (P : Record → Type 0) (p : Record) (n : ℕ) (same : P p) (ran : P (r
       let number = tickNumber (p .part .blocks) (sound p) a r n in
       ran-or-not number (eqb number 0)
 
--- the ticks that a tick call reports are at most those asked, and at most 4,096, whether it is refused or not
+-- the ticks that a tick call reports are at most those asked, and at most the most that may be, whether it is refused or not
 done-as : (p : Record) (a r n : ℕ) (t : Bool) → eqb (tickNumber (p .part .blocks) (sound p) a r n) 0 ≡ t
     → let d = cond {A = Ticked} t (record { next = recordAfter n p; number = 0; done = workingTicks n p }) (record { next = p; number = tickNumber (p .part .blocks) (sound p) a r n; done = 0 }) .done in
-    (d ≤ n) × (d ≤ tickLimit)
+    (d ≤ n) × (d ≤ tickLimit (p .part .blocks))
 done-as p a r n true e =
     (works-at-most n p, omega (arith, works-at-most n p, ticks-taken _ _ _ _ _ (eqb-true _ _ e) .few))
 done-as p a r n false e = (omega arith, omega arith)
 
-pub done-at-most : (p : Record) (a r n : ℕ) → (ticked p a r n .done ≤ n) × (ticked p a r n .done ≤ tickLimit)
+pub done-at-most : (p : Record) (a r n : ℕ) → (ticked p a r n .done ≤ n) × (ticked p a r n .done ≤ tickLimit (p .part .blocks))
 unfolding ticked
 done-at-most p a r n = done-as p a r n (eqb (tickNumber (p .part .blocks) (sound p) a r n) 0) refl
 

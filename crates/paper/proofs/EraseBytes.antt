@@ -25,7 +25,7 @@ use Rattle.paper.specs.Soundness.{sound}
 use Rattle.paper.specs.Ticks.{finished, recordAfter, touchOf}
 use Rattle.paper.specs.History.{ticks, recordAfterCall, tickTouches, reachedBy, callTouches, byteAfter, byteAfterAll}
 use Rattle.paper.specs.Halted.{inDone}
-use Rattle.paper.proofs.Sizes.{size-range}
+use Rattle.paper.proofs.Sizes.{limit-range, chip-few}
 use Rattle.paper.proofs.Soundness.{running-in-order}
 use Rattle.paper.proofs.Runs.{run-past, run-touch, past-touch}
 use Rattle.paper.proofs.Answers.{ticks-run}
@@ -70,15 +70,15 @@ module _ (p : Record) (u : EraseUnit) (b d : ℕ) (e : running (p .phase) ≡ At
       ∙ blank-sets m (memoryOf u) at c (byteAfterAll m at (tickTouches k p) x) (ltb at c) refl q (erase-reaches k m q (omega arith) l) (omega arith)
 
 -- a unit has at most as many pages as a tick call may ask ticks
-pub pages-few : (u : EraseUnit) (n : ℕ) → sizeOk n ≡ true → unitPages u n ≤ tickLimit
-pages-few Sector n h = omega arith
-pages-few Block32 n h = omega arith
-pages-few Block64 n h = omega arith
-pages-few Chip n h = omega (arith, size-range n h)
-pages-few Row n h = omega arith
+pub pages-few : (u : EraseUnit) (n : ℕ) → sizeOk n ≡ true → unitPages u n ≤ tickLimit n
+pages-few Sector n h = omega (arith, limit-range n .0)
+pages-few Block32 n h = omega (arith, limit-range n .0)
+pages-few Block64 n h = omega (arith, limit-range n .0)
+pages-few Chip n h = chip-few n h
+pages-few Row n h = omega (arith, limit-range n .0)
 
 -- a tick call that asks a busy erase's last tick, and perhaps more
-module _ (p : Record) (u : EraseUnit) (b d n : ℕ) (s : sound p ≡ true) (f : p .phase ≡ Busy (Erase u b d)) (l : unitPages u (p .part .blocks) ≤ d + n) (few : n ≤ tickLimit) where
+module _ (p : Record) (u : EraseUnit) (b d n : ℕ) (s : sound p ≡ true) (f : p .phase ≡ Busy (Erase u b d)) (l : unitPages u (p .part .blocks) ≤ d + n) (few : n ≤ tickLimit (p .part .blocks)) where
   runs : running (p .phase) ≡ At (Erase u b d)
   runs = ap running f
 

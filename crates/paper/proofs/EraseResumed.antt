@@ -25,13 +25,14 @@ use Rattle.paper.specs.Phases.{running, halted, isBusy, workingOn, suspe
 use Rattle.paper.specs.Records.{settled}
 use Rattle.paper.specs.Operations.{unitSuspends, canSuspend, inUnit}
 use Rattle.paper.specs.Soundness.{sound}
-use Rattle.paper.specs.Table.{decoded, columns}
+use Rattle.paper.specs.Table.{columns}
 use Rattle.paper.specs.Commands.{unarmed}
 use Rattle.paper.specs.Numbers.{commandNumber, ignoredNumber}
 use Rattle.paper.specs.History.{Call, ticks, recordAfterCall, recordAfterCalls, history, byteAfterAll}
 use Rattle.paper.specs.Halted.{noneReleases, oneByte, interrupted, inDone, DoneBlank}
 use Rattle.paper.proofs.Phases.{no-work-at, at-same}
 use Rattle.paper.proofs.Soundness.{recordOf, sound-parts, sound-in}
+use Rattle.paper.proofs.Table.{Always, known}
 use Rattle.paper.proofs.Runs.{run-record}
 use Rattle.paper.proofs.Answers.{executes, ticks-run}
 use Rattle.paper.proofs.CallKept.{call-sound, calls-sound, calls-size}
@@ -41,13 +42,11 @@ use Rattle.paper.proofs.EraseBytes.{pages-few, erase-ends}
 use Rattle.paper.proofs.ErasedPages.{begun-blank, erase-whole}
 
 -- 75h and B0h are suspends, 7Ah and 30h resumes
-pub suspend-codes : (decoded 0x75 ≡ Known Suspend) × (decoded 0xB0 ≡ Known Suspend)
-unfolding decoded
-suspend-codes = (refl, refl)
+pub suspend-codes : Always 0x75 Suspend × Always 0xB0 Suspend
+suspend-codes = (known 0x75 Suspend refl refl, known 0xB0 Suspend refl refl)
 
-pub resume-codes : (decoded 0x7A ≡ Known Resume) × (decoded 0x30 ≡ Known Resume)
-unfolding decoded
-resume-codes = (refl, refl)
+pub resume-codes : Always 0x7A Resume × Always 0x30 Resume
+resume-codes = (known 0x7A Resume refl refl, known 0x30 Resume refl refl)
 
 -- no number applies to a suspend where what runs alone can be suspended, nor to a resume where something is
 suspend-number : (p : Part) (o : Operation) (c : ℕ) (wp : Bool) → p .asleep ≡ false → canSuspend o ≡ true → commandNumber (columns Suspend) NoWork p (Busy o) (c ∷ []) wp ≡ 0
@@ -60,27 +59,27 @@ resume-number p o c wp a = rw a
 
 module _ (p : Record) (o : Operation) (s : sound p ≡ true) (wp : Bool) (c : ℕ) where
   -- a suspend of what runs alone and can be suspended is executed
-  pub suspends-now : p .phase ≡ Busy o → canSuspend o ≡ true → decoded c ≡ Known Suspend
+  pub suspends-now : p .phase ≡ Busy o → canSuspend o ≡ true → Always c Suspend
       → recordAfterCall (oneByte wp c) p ≡ recordOf (unarmed (settled (p .part) (Suspended o) false)) (Suspended o) (p .page)
   unfolding _or_
   suspends-now f h e =
       let a : p .part .asleep ≡ false = not-true _ (sound-in p (Busy o) f s .sleep) in
       let n : ignoredNumber (Known Suspend) (p .part) (p .phase) (c ∷ []) wp ≡ 0 = ap (λ (g : Phase). commandNumber (columns Suspend) NoWork (p .part) g (c ∷ []) wp) f ∙ suspend-number (p .part) o c wp a h in
-      ap (λ (t : Answer). t .next) (executes p s wp Suspend (c ∷ []) (omega arith) (omega arith) e n)
+      ap (λ (t : Answer). t .next) (executes p s wp Suspend (c ∷ []) (omega arith) (omega arith) (e (p .part .blocks) (p .part .bank)) n)
       ∙ ap (λ (g : Phase). recordOf (unarmed (settled (p .part) (suspendedIn g) false)) (suspendedIn g) (p .page)) f
 
   -- and so is a resume of what is suspended
-  pub resumes-now : p .phase ≡ Suspended o → decoded c ≡ Known Resume
+  pub resumes-now : p .phase ≡ Suspended o → Always c Resume
       → recordAfterCall (oneByte wp c) p ≡ recordOf (unarmed (settled (p .part) (Busy o) true)) (Busy o) (p .page)
   unfolding _or_
   resumes-now f e =
       let a : p .part .asleep ≡ false = not-true _ (sound-in p (Suspended o) f s .sleep) in
       let n : ignoredNumber (Known Resume) (p .part) (p .phase) (c ∷ []) wp ≡ 0 = ap (λ (g : Phase). commandNumber (columns Resume) NoWork (p .part) g (c ∷ []) wp) f ∙ resume-number (p .part) o c wp a in
-      ap (λ (t : Answer). t .next) (executes p s wp Resume (c ∷ []) (omega arith) (omega arith) e n)
+      ap (λ (t : Answer). t .next) (executes p s wp Resume (c ∷ []) (omega arith) (omega arith) (e (p .part .blocks) (p .part .bank)) n)
       ∙ ap (λ (g : Phase). recordOf (unarmed (settled (p .part) (resumedIn g) true)) (resumedIn g) (p .page)) f
 
 -- a part that is suspended from an erase with d ticks done, the pages done holding FFh: after a resume and the ticks that are left its whole unit does
-pub resume-whole : (p : Record) (u : EraseUnit) (b d : ℕ) (wp : Bool) (c : ℕ) (m : Memory) (at x : ℕ) → sound p ≡ true → p .phase ≡ Suspended (Erase u b d) → decoded c ≡ Known Resume
+pub resume-whole : (p : Record) (u : EraseUnit) (b d : ℕ) (wp : Bool) (c : ℕ) (m : Memory) (at x : ℕ) → sound p ≡ true → p .phase ≡ Suspended (Erase u b d) → Always c Resume
     → inUnit (Erase u b d) (p .part .blocks) m at ≡ true → (inDone (Erase u b d) m at ≡ true → x ≡ erasedByte)
     → byteAfterAll m at (history (oneByte wp c ∷ ticks (unitPages u (p .part .blocks) - d) ∷ []) p) x ≡ erasedByte
 resume-whole p u b d wp c m at x s f e i h =
@@ -96,11 +95,11 @@ at-rest (Nested o x) e h n = absurd (false≢true (sym n))
 
 -- a part runs an erase that can be suspended, from its first tick on
 module _ (p : Record) (u : EraseUnit) (b : ℕ) (s : sound p ≡ true) (f : p .phase ≡ Busy (Erase u b 0)) (g : unitSuspends u ≡ true) where
-  few : unitPages u (p .part .blocks) ≤ tickLimit
+  few : unitPages u (p .part .blocks) ≤ tickLimit (p .part .blocks)
   few = pages-few u (p .part .blocks) (sound-parts p s .size)
 
   -- d ticks that are not its last, and a suspend
-  module _ (d : ℕ) (l : d < unitPages u (p .part .blocks)) (w : Bool) (c : ℕ) (dc : decoded c ≡ Known Suspend) where
+  module _ (d : ℕ) (l : d < unitPages u (p .part .blocks)) (w : Bool) (c : ℕ) (dc : Always c Suspend) where
     ran-phase : recordAfterCall (ticks d) p .phase ≡ Busy (Erase u b d)
     ran-phase =
         let z : 0 + d ≡ d = omega arith in
@@ -117,7 +116,7 @@ module _ (p : Record) (u : EraseUnit) (b : ℕ) (s : sound p ≡ true) (f : p .p
     -- then calls none of which lets it go, after which nothing runs, and a resume
     module _ (cs : List Call) (none : noneReleases cs (recordAfterCalls (ticks d ∷ oneByte w c ∷ []) p) ≡ true)
         (still : isBusy (recordAfterCalls cs (recordAfterCalls (ticks d ∷ oneByte w c ∷ []) p) .phase) ≡ false)
-        (v : Bool) (r : ℕ) (dr : decoded r ≡ Known Resume) where
+        (v : Bool) (r : ℕ) (dr : Always r Resume) where
       -- it goes on where it was
       pub resumed-phase : recordAfterCalls (interrupted d (oneByte w c) cs (oneByte v r)) p .phase ≡ Busy (Erase u b d)
       resumed-phase =
@@ -135,7 +134,8 @@ module _ (p : Record) (u : EraseUnit) (b : ℕ) (s : sound p ≡ true) (f : p .p
           let all = interrupted d (oneByte w c) cs (oneByte v r) in
           let k = unitPages u (p .part .blocks) - d in
           let z = ap (unitPages u) (calls-size all p) in
-          let e = erase-ends (recordAfterCalls all p) u b d k (calls-sound all p s) resumed-phase (omega (arith, z)) (omega (arith, few)) in
+          let y = ap tickLimit (calls-size all p) in
+          let e = erase-ends (recordAfterCalls all p) u b d k (calls-sound all p s) resumed-phase (omega (arith, z)) (omega (arith, few, y)) in
           let q = calls-append all (ticks k ∷ []) p in
           (ap (λ (t : Record). t .phase) q ∙ e .0, ap (λ (t : Record). t .part .wel) q ∙ e .1)
 

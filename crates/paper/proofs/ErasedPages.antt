@@ -7,6 +7,7 @@ use native.Mathlib.Omega.{arith}
 use lib.Dec.{eqb, leb, ltb}
 use borrow.Author.Tests.{leb-true, ltb-true, lt-ltb}
 use Rattle.types.specs.declared.Memory.{Memory}
+use Rattle.types.specs.declared.Addressing.{Addressing}
 use Rattle.types.specs.declared.EraseUnit.{EraseUnit}
 use Rattle.types.specs.declared.Operation.{Operation}
 use Rattle.types.specs.declared.Operation.the-variants.{Program, Erase, Write}
@@ -15,7 +16,7 @@ use Rattle.types.specs.declared.Phase.the-variants.{Idle, Busy}
 use Rattle.types.specs.declared.Work.{Work}
 use Rattle.types.specs.declared.Work.the-variants.{NoWork, At}
 use Rattle.types.specs.declared.Effect.{Effect}
-use Rattle.types.specs.declared.Effect.the-variants.{Looks, Enables, Disables, Programs, Erases, Writes, Suspends, Resumes, Sleeps, Wakes, Arms, Resets, SetsLive, ClearsErrors}
+use Rattle.types.specs.declared.Effect.the-variants.{Looks, Enables, Disables, Programs, Erases, Writes, Suspends, Resumes, Sleeps, Wakes, Arms, Resets, SetsLive, ClearsErrors, SetsBank, SetsFar}
 use Rattle.types.specs.declared.Record.{Record}
 use Rattle.types.specs.declared.Ticked.{Ticked}
 use Rattle.words.proofs.Tests.{and-l, and-r, and-in}
@@ -26,7 +27,7 @@ use Rattle.paper.specs.Registers.{writeOf}
 use Rattle.paper.specs.Phases.{running, halted, phaseOf, workingOn}
 use Rattle.paper.specs.Operations.{ticksInAll, ticksDone, advancedBy, inUnit, nextTouch}
 use Rattle.paper.specs.Soundness.{sound}
-use Rattle.paper.specs.Table.{columns}
+use Rattle.paper.specs.Table.{columns, addressing}
 use Rattle.paper.specs.Commands.{changed, begins, changeBy}
 use Rattle.paper.specs.Numbers.{tickNumber}
 use Rattle.paper.specs.Calls.{ticked}
@@ -59,22 +60,24 @@ module _ (m : Memory) (at : ℕ) where
   started-blank : (x : ℕ) (f : Phase) (o : Operation) → (inDone o m at ≡ true → ⊥) → DoneBlank m at x f → DoneBlank m at x (workingOn f o)
   started-blank x f o n h = works-blank x (At o) (halted f) (λ t. absurd (n t)) (h .1)
 
-  effect-blank : (c : Effect) (p : Record) (i : List ℕ) (x : ℕ) → DoneBlank m at x (p .phase) → DoneBlank m at x (changed (changeBy c (begins c (p .part .blocks) i) (p .part) (p .phase) i) i p .phase)
+  effect-blank : (c : Effect) (a : Addressing) (p : Record) (i : List ℕ) (x : ℕ) → DoneBlank m at x (p .phase) → DoneBlank m at x (changed (changeBy c a (begins c a (p .part .blocks) i) (p .part) (p .phase) i) i p .phase)
   unfolding programOf eraseOf writeOf
-  effect-blank Looks p i x h = h
-  effect-blank Enables p i x h = h
-  effect-blank Disables p i x h = h
-  effect-blank (Programs w) p i x h = started-blank x (p .phase) (programOf w (p .part .blocks) i) false≢true h
-  effect-blank (Erases u) p i x h = started-blank x (p .phase) (eraseOf u (p .part .blocks) i) (nothing-done u _) h
-  effect-blank (Writes r) p i x h = started-blank x (p .phase) (writeOf r i) false≢true h
-  effect-blank Suspends p i x h = works-blank x NoWork (running (p .phase)) tt (h .0)
-  effect-blank Resumes p i x h = works-blank x (halted (p .phase)) NoWork (h .1) tt
-  effect-blank Sleeps p i x h = h
-  effect-blank Wakes p i x h = h
-  effect-blank Arms p i x h = h
-  effect-blank Resets p i x h = (tt, tt)
-  effect-blank SetsLive p i x h = h
-  effect-blank ClearsErrors p i x h = h
+  effect-blank Looks a p i x h = h
+  effect-blank Enables a p i x h = h
+  effect-blank Disables a p i x h = h
+  effect-blank (Programs w) a p i x h = started-blank x (p .phase) (programOf w a (p .part .blocks) i) false≢true h
+  effect-blank (Erases u) a p i x h = started-blank x (p .phase) (eraseOf u a (p .part .blocks) i) (nothing-done u _) h
+  effect-blank (Writes r) a p i x h = started-blank x (p .phase) (writeOf r i) false≢true h
+  effect-blank Suspends a p i x h = works-blank x NoWork (running (p .phase)) tt (h .0)
+  effect-blank Resumes a p i x h = works-blank x (halted (p .phase)) NoWork (h .1) tt
+  effect-blank Sleeps a p i x h = h
+  effect-blank Wakes a p i x h = h
+  effect-blank Arms a p i x h = h
+  effect-blank Resets a p i x h = (tt, tt)
+  effect-blank SetsLive a p i x h = h
+  effect-blank ClearsErrors a p i x h = h
+  effect-blank SetsBank a p i x h = h
+  effect-blank (SetsFar far) a p i x h = h
 
   -- a tick of an erase does one page more
   next-blank : (o : Operation) (g : List ℕ) (x : ℕ) → BlankIn m at x (At o) → BlankIn m at (byteAfter m at (nextTouch o g) x) (At (advancedBy 1 o))
@@ -133,7 +136,7 @@ module _ (m : Memory) (at : ℕ) where
   call-blank : (c : Call) (p : Record) (x : ℕ) → sound p ≡ true → DoneBlank m at x (p .phase) → DoneBlank m at (byteAfterAll m at (callTouches c p) x) (recordAfterCall c p .phase)
   unfolding ticked
   call-blank (transaction wp i o) p x s h =
-      after-transaction (λ (q : Record). DoneBlank m at x (q .phase)) p wp i h h (λ v. h) (λ k e. effect-blank (columns k .effect) p i x h) (arrayBytes (p .part .blocks)) rowsBytes o
+      after-transaction (λ (q : Record). DoneBlank m at x (q .phase)) p wp i h h (λ v. h) (λ k c e. effect-blank (columns k .effect) (addressing (columns k .named) (p .part .bank)) p i x h) (arrayBytes (p .part .blocks)) rowsBytes o
   call-blank (ticks n) p x s h =
       let k = tickNumber (p .part .blocks) (sound p) (arrayBytes (p .part .blocks)) rowsBytes n in
       called-blank n k p x (eqb k 0) refl s h
@@ -155,7 +158,7 @@ begun-blank m at x p u b f = subst⁻¹ (DoneBlank m at x) f (λ t. absurd (noth
 
 -- so an erase that ran and was suspended in any calls, from where no page was done or those done hold FFh, holds FFh in its whole unit when it ends
 pub erase-whole : (m : Memory) (at x : ℕ) (cs : List Call) (p : Record) (u : EraseUnit) (b d n : ℕ) → sound p ≡ true → DoneBlank m at x (p .phase)
-    → recordAfterCalls cs p .phase ≡ Busy (Erase u b d) → unitPages u (p .part .blocks) ≤ d + n → n ≤ tickLimit → inUnit (Erase u b d) (p .part .blocks) m at ≡ true
+    → recordAfterCalls cs p .phase ≡ Busy (Erase u b d) → unitPages u (p .part .blocks) ≤ d + n → n ≤ tickLimit (p .part .blocks) → inUnit (Erase u b d) (p .part .blocks) m at ≡ true
     → byteAfterAll m at (history (cs ++ (ticks n ∷ [])) p) x ≡ erasedByte
 erase-whole m at x cs p u b d n s h f l few i =
     let q = recordAfterCalls cs p in
@@ -164,4 +167,4 @@ erase-whole m at x cs p u b d n s h f l few i =
     let r : BlankIn m at y (At (Erase u b d)) = subst (BlankIn m at y) (ap running f) (calls-blank m at cs p x s h .0) in
     bytes-joined m at cs (ticks n ∷ []) p x
     ∙ bytes-append m at (callTouches (ticks n) q) [] y
-    ∙ erase-fills q u b d n (calls-sound cs p s) f (omega (arith, ap (unitPages u) z, l)) few m at y r (ap (λ (k : ℕ). inUnit (Erase u b d) k m at) z ∙ i)
+    ∙ erase-fills q u b d n (calls-sound cs p s) f (omega (arith, ap (unitPages u) z, l)) (omega (arith, ap tickLimit z, few)) m at y r (ap (λ (k : ℕ). inUnit (Erase u b d) k m at) z ∙ i)

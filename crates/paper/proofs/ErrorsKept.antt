@@ -14,9 +14,10 @@ use Rattle.types.specs.declared.Work.the-variants.{NoWork, At}
 use Rattle.types.specs.declared.Decoded.{Decoded}
 use Rattle.types.specs.declared.Decoded.the-variants.{Known, Unknown}
 use Rattle.types.specs.declared.Effect.{Effect}
-use Rattle.types.specs.declared.Effect.the-variants.{Looks, Enables, Disables, Programs, Erases, Writes, Suspends, Resumes, Sleeps, Wakes, Arms, Resets, SetsLive, ClearsErrors}
+use Rattle.types.specs.declared.Effect.the-variants.{Looks, Enables, Disables, Programs, Erases, Writes, Suspends, Resumes, Sleeps, Wakes, Arms, Resets, SetsLive, ClearsErrors, SetsBank, SetsFar}
 use Rattle.types.specs.declared.Data.{Data}
 use Rattle.types.specs.declared.Data.the-variants.{Kept, Sent}
+use Rattle.types.specs.declared.Addressing.{Addressing}
 use Rattle.types.specs.declared.Change.the-variants.{Marked}
 use Rattle.types.specs.declared.Outcome.{Outcome}
 use Rattle.types.specs.declared.Record.{Record}
@@ -24,8 +25,8 @@ use Rattle.paper.specs.Phases.{running}
 use Rattle.paper.specs.Registers.{liveSet, liveFailed}
 use Rattle.paper.specs.Operations.{ticksInAll, ticksDone, advancedBy}
 use Rattle.paper.specs.Soundness.{sound}
-use Rattle.paper.specs.Table.{columns}
-use Rattle.paper.specs.Commands.{changed, begins, starts, changeBy, errorsOf, changeBarred, changeIgnored}
+use Rattle.paper.specs.Table.{columns, addressing}
+use Rattle.paper.specs.Commands.{changed, begun, starts, changeBy, errorsOf, changeBarred, changeIgnored}
 use Rattle.paper.specs.Calls.{transacted, ticked}
 use Rattle.paper.specs.Ticks.{finished, advanced, worked, tickedAt, recordAfter}
 use Rattle.paper.proofs.Extended.{cleared-bits, loaded-bits, or-bit}
@@ -47,21 +48,23 @@ module _ (p : Record) (i : List ℕ) where
   starts-live NoWork d = as-it-was refl
   starts-live (At o) d = as-it-was refl
 
-  effect-live : (e : Effect) (w : Work) → LiveAfter (p .part .live) 0 (changed (changeBy e w (p .part) (p .phase) i) i p .part .live)
-  effect-live Looks w = as-it-was refl
-  effect-live Enables w = as-it-was refl
-  effect-live Disables w = as-it-was refl
-  effect-live (Programs m) w = starts-live w Sent
-  effect-live (Erases u) w = starts-live w Kept
-  effect-live (Writes r) w = starts-live w Kept
-  effect-live Suspends w = as-it-was refl
-  effect-live Resumes w = as-it-was refl
-  effect-live Sleeps w = as-it-was refl
-  effect-live Wakes w = as-it-was refl
-  effect-live Arms w = as-it-was refl
-  effect-live Resets w = cleared (loaded-bits (p .part .stored) .1)
-  effect-live SetsLive w = set-to (getD i 1 0) refl
-  effect-live ClearsErrors w = cleared (cleared-bits (p .part .live) .1)
+  effect-live : (e : Effect) (a : Addressing) (w : Work) → LiveAfter (p .part .live) 0 (changed (changeBy e a w (p .part) (p .phase) i) i p .part .live)
+  effect-live Looks a w = as-it-was refl
+  effect-live Enables a w = as-it-was refl
+  effect-live Disables a w = as-it-was refl
+  effect-live (Programs m) a w = starts-live w (Sent a)
+  effect-live (Erases u) a w = starts-live w Kept
+  effect-live (Writes r) a w = starts-live w Kept
+  effect-live Suspends a w = as-it-was refl
+  effect-live Resumes a w = as-it-was refl
+  effect-live Sleeps a w = as-it-was refl
+  effect-live Wakes a w = as-it-was refl
+  effect-live Arms a w = as-it-was refl
+  effect-live Resets a w = cleared (loaded-bits (p .part .stored) .1)
+  effect-live SetsLive a w = set-to (getD i 1 0) refl
+  effect-live ClearsErrors a w = cleared (cleared-bits (p .part .live) .1)
+  effect-live SetsBank a w = as-it-was refl
+  effect-live (SetsFar far) a w = as-it-was refl
 
   barred-live : (e : Effect) (n : ℕ) (t : Bool) → eqb n 28 ≡ t → LiveAfter (p .part .live) n (changed (cond t (changeBarred e (p .part)) (Marked false)) i p .part .live)
   barred-live e n true h = failed e (eqb-true _ _ h) refl
@@ -76,7 +79,7 @@ module _ (p : Record) (i : List ℕ) where
   unfolding transacted
   transaction-live a r wp o =
       any-outcome liveBy (p .part) (p .phase) wp i (λ n. as-it-was refl) ignored-live
-      (λ k e. effect-live (columns k .effect) (begins (columns k .effect) (p .part .blocks) i)) (sound p) a r o
+      (λ k c e. effect-live (columns k .effect) (addressing (columns k .named) (p .part .bank)) (begun (columns k) (p .part) i)) (sound p) a r o
 
 -- ticks leave it, an 85h's too
 worked-live : (p : Record) (o : Operation) (t : Bool) → cond t (advanced p (advancedBy 1 o)) (finished p o) .part .live ≡ p .part .live

@@ -2,7 +2,7 @@
 use Prim.Native.Nat.{ℕ, zero, suc, _+_}
 use mathlib.Core.Path.{_≡_, refl, sym, ap, _∙_}
 use mathlib.Core.Bool.{Bool, true, false, not, cond, false≢true}
-use mathlib.Core.List.{List, [], _∷_}
+use mathlib.Core.List.{List, [], _∷_, _++_}
 use lib.ListN.{length, getD}
 use lib.Dec.{eqb, ltb}
 use borrow.Author.Tests.{eqb-true, not-true}
@@ -11,14 +11,16 @@ use Rattle.types.specs.declared.Phase.{Phase}
 use Rattle.types.specs.declared.Work.{Work}
 use Rattle.types.specs.declared.Work.the-variants.{NoWork, At}
 use Rattle.types.specs.declared.Command.{Command}
-use Rattle.types.specs.declared.Command.the-variants.{Read, FastRead, ReadStatus, ReadFunction, ReadIdentity, ReadMakerDevice, Wake, ReadRow, WriteEnable, WriteDisable, WriteStatus, WriteFunction, PageProgram, SectorErase, BlockErase32, BlockErase64, ChipErase, Suspend, Resume, Sleep, ArmReset, Reset, RowErase, RowProgram, ReadExtended, SetStored, SetLive, ClearErrors}
+use Rattle.types.specs.declared.Command.the-variants.{Read, FastRead, ReadStatus, ReadFunction, ReadIdentity, ReadMakerDevice, Wake, ReadRow, WriteEnable, WriteDisable, WriteStatus, WriteFunction, PageProgram, SectorErase, BlockErase32, BlockErase64, ChipErase, Suspend, Resume, Sleep, ArmReset, Reset, RowErase, RowProgram, ReadExtended, SetStored, SetLive, ClearErrors, FarRead, FarFastRead, FarPageProgram, FarPageProgramAtRest, FarSectorErase, FarBlockErase32, FarBlockErase64, ReadBank, WriteBank, EnterFar, LeaveFar}
 use Rattle.types.specs.declared.Decoded.{Decoded}
 use Rattle.types.specs.declared.Decoded.the-variants.{Known, Unknown}
 use Rattle.types.specs.declared.Effect.{Effect}
-use Rattle.types.specs.declared.Effect.the-variants.{Looks, Enables, Disables, Programs, Erases, Writes, Suspends, Resumes, Sleeps, Wakes, Arms, Resets, SetsLive, ClearsErrors}
+use Rattle.types.specs.declared.Effect.the-variants.{Looks, Enables, Disables, Programs, Erases, Writes, Suspends, Resumes, Sleeps, Wakes, Arms, Resets, SetsLive, ClearsErrors, SetsBank, SetsFar}
 use Rattle.types.specs.declared.Columns.{Columns}
 use Rattle.types.specs.declared.Record.{Record}
 use Rattle.types.specs.declared.Answer.{Answer}
+use Rattle.types.specs.declared.Addressing.{Addressing}
+use Rattle.types.specs.declared.Addressing.the-variants.{Three, Four}
 use Rattle.types.specs.declared.Data.{Data}
 use Rattle.types.specs.declared.Data.the-variants.{Kept, Sent}
 use Rattle.types.specs.declared.Change.the-variants.{Marked}
@@ -29,8 +31,9 @@ use Rattle.paper.specs.Phases.{running, halted, workIs, anyOperation}
 use Rattle.paper.specs.Operations.{ticksInAll, ticksDone, advancedBy}
 use Rattle.paper.specs.Suspend.{suspendable}
 use Rattle.paper.specs.Soundness.{sound}
-use Rattle.paper.specs.Table.{codes, decoded, columns}
-use Rattle.paper.specs.Commands.{changed, begins, starts, changeBy, changeBarred}
+use Rattle.paper.specs.Registers.{upperBank}
+use Rattle.paper.specs.Table.{codes, largeCodes, farCodes, decoded, columns, addressing}
+use Rattle.paper.specs.Commands.{changed, begun, starts, changeBy, changeBarred}
 use Rattle.paper.specs.Numbers.{stateOk, transactionRefusal, ignoredNumber}
 use Rattle.paper.specs.Calls.{refused, ignored, executed, outcomeTo, outcomeOf, transacted}
 use Rattle.paper.specs.Ticks.{finished, advanced, worked, tickedAt, recordAfter}
@@ -57,8 +60,8 @@ pub run-halted : (n : ℕ) (p : Record) → halted (recordAfter n p .phase) ≡ 
 run-halted zero p = refl
 run-halted (suc n) p = ticked-halted (recordAfter n p) (running (recordAfter n p .phase)) ∙ run-halted n p
 
--- the codes that let what is suspended go are 7Ah, 30h and 99h
-pub letting-go : codesOf (λ (k : Columns). letsGo (k .effect)) codes ≡ 0x7A ∷ 0x30 ∷ 0x99 ∷ []
+-- the codes that let what is suspended go are 7Ah, 30h and 99h, on the large part too
+pub letting-go : codesOf (λ (k : Columns). letsGo (k .effect)) (farCodes ++ (codes ++ largeCodes)) ≡ 0x7A ∷ 0x30 ∷ 0x99 ∷ []
 letting-go = refl
 
 -- where something is suspended, no suspend is executed
@@ -71,8 +74,8 @@ module _ (p : Record) (e : Operation) (h : halted (p .phase) ≡ At e) where
   starts-halted NoWork d i = h
   starts-halted (At o) d i = other-halts (p .phase) (At o) ∙ h
 
-  begun-halted : (k : Command) (d : Data) (i : List ℕ) → halted (changed (starts (begins (columns k .effect) (p .part .blocks) i) (p .part) (p .phase) d) i p .phase) ≡ At e
-  begun-halted k d i = starts-halted (begins (columns k .effect) (p .part .blocks) i) d i
+  begun-halted : (k : Command) (d : Data) (i : List ℕ) → halted (changed (starts (begun (columns k) (p .part) i) (p .part) (p .phase) d) i p .phase) ≡ At e
+  begun-halted k d i = starts-halted (begun (columns k) (p .part) i) d i
 
   executed-halted : (k : Command) (i : List ℕ) → letsGo (columns k .effect) ≡ false → stateOk (columns k .wanted) (p .part) (p .phase) ≡ true
       → halted (changed (executed (columns k) (p .part) (p .phase) i .change) i p .phase) ≡ At e
@@ -88,7 +91,7 @@ module _ (p : Record) (e : Operation) (h : halted (p .phase) ≡ At e) where
   executed-halted WriteDisable i n t = h
   executed-halted WriteStatus i n t = begun-halted WriteStatus Kept i
   executed-halted WriteFunction i n t = begun-halted WriteFunction Kept i
-  executed-halted PageProgram i n t = begun-halted PageProgram Sent i
+  executed-halted PageProgram i n t = begun-halted PageProgram (Sent (Three (upperBank (p .part .bank)))) i
   executed-halted SectorErase i n t = begun-halted SectorErase Kept i
   executed-halted BlockErase32 i n t = begun-halted BlockErase32 Kept i
   executed-halted BlockErase64 i n t = begun-halted BlockErase64 Kept i
@@ -99,11 +102,22 @@ module _ (p : Record) (e : Operation) (h : halted (p .phase) ≡ At e) where
   executed-halted ArmReset i n t = h
   executed-halted Reset i n t = absurd (false≢true (sym n))
   executed-halted RowErase i n t = begun-halted RowErase Kept i
-  executed-halted RowProgram i n t = begun-halted RowProgram Sent i
+  executed-halted RowProgram i n t = begun-halted RowProgram (Sent (Three false)) i
   executed-halted ReadExtended i n t = h
   executed-halted SetStored i n t = begun-halted SetStored Kept i
   executed-halted SetLive i n t = h
   executed-halted ClearErrors i n t = h
+  executed-halted FarRead i n t = h
+  executed-halted FarFastRead i n t = h
+  executed-halted FarPageProgram i n t = begun-halted FarPageProgram (Sent Four) i
+  executed-halted FarPageProgramAtRest i n t = begun-halted FarPageProgramAtRest (Sent Four) i
+  executed-halted FarSectorErase i n t = begun-halted FarSectorErase Kept i
+  executed-halted FarBlockErase32 i n t = begun-halted FarBlockErase32 Kept i
+  executed-halted FarBlockErase64 i n t = begun-halted FarBlockErase64 Kept i
+  executed-halted ReadBank i n t = h
+  executed-halted WriteBank i n t = h
+  executed-halted EnterFar i n t = h
+  executed-halted LeaveFar i n t = h
 
   module _ (wp : Bool) (i : List ℕ) where
     barred-halted : (c : Effect) (t : Bool) → halted (changed (cond t (changeBarred c (p .part)) (Marked false)) i p .phase) ≡ At e
@@ -121,12 +135,12 @@ module _ (p : Record) (e : Operation) (h : halted (p .phase) ≡ At e) where
         (eqb (u .number) 0 and letsGoBy d) ≡ false → halted (changed (u .change) i p .phase) ≡ At e
     decoded-halted (Known k) g =
         let n = ignoredNumber (Known k) (p .part) (p .phase) i wp in
-        taken-halted k (eqb n 0) n (λ t. command-taken (columns k) (begins (columns k .effect) (p .part .blocks) i) (p .part) (p .phase) i wp (eqb-true n 0 t) .state-ok) g
+        taken-halted k (eqb n 0) n (λ t. command-taken (columns k) (begun (columns k) (p .part) i) (p .part) (p .phase) i wp (eqb-true n 0 t) .state-ok) g
     decoded-halted Unknown g = h
 
-    refused-halted : (t : Bool) (n : ℕ) → let u = cond t (outcomeTo (decoded (getD i 0 0)) (p .part) (p .phase) wp i) (refused n) in
-        (eqb (u .number) 0 and letsGoBy (decoded (getD i 0 0))) ≡ false → halted (changed (u .change) i p .phase) ≡ At e
-    refused-halted true n g = decoded-halted (decoded (getD i 0 0)) g
+    refused-halted : (t : Bool) (n : ℕ) → let u = cond t (outcomeTo (decoded (p .part .blocks) (p .part .bank) (getD i 0 0)) (p .part) (p .phase) wp i) (refused n) in
+        (eqb (u .number) 0 and letsGoBy (decoded (p .part .blocks) (p .part .bank) (getD i 0 0))) ≡ false → halted (changed (u .change) i p .phase) ≡ At e
+    refused-halted true n g = decoded-halted (decoded (p .part .blocks) (p .part .bank) (getD i 0 0)) g
     refused-halted false n g = h
 
 -- an operation that is suspended stays so, with the same target and as many ticks done, over every call that does not let it go
@@ -146,29 +160,31 @@ calls-halted (c ∷ cs) p e h g =
 
 -- a command that is executed and lets it go leaves nothing suspended
 module _ (p : Record) (i : List ℕ) where
-  effect-releases : (c : Effect) (w : Work) → letsGo c ≡ true → halted (changed (changeBy c w (p .part) (p .phase) i) i p .phase) ≡ NoWork
-  effect-releases Looks w h = absurd (false≢true h)
-  effect-releases Enables w h = absurd (false≢true h)
-  effect-releases Disables w h = absurd (false≢true h)
-  effect-releases (Programs m) w h = absurd (false≢true h)
-  effect-releases (Erases u) w h = absurd (false≢true h)
-  effect-releases (Writes r) w h = absurd (false≢true h)
-  effect-releases Suspends w h = absurd (false≢true h)
-  effect-releases Resumes w h = phase-halts (halted (p .phase)) NoWork
-  effect-releases Sleeps w h = absurd (false≢true h)
-  effect-releases Wakes w h = absurd (false≢true h)
-  effect-releases Arms w h = absurd (false≢true h)
-  effect-releases Resets w h = refl
-  effect-releases SetsLive w h = absurd (false≢true h)
-  effect-releases ClearsErrors w h = absurd (false≢true h)
+  effect-releases : (c : Effect) (a : Addressing) (w : Work) → letsGo c ≡ true → halted (changed (changeBy c a w (p .part) (p .phase) i) i p .phase) ≡ NoWork
+  effect-releases Looks a w h = absurd (false≢true h)
+  effect-releases Enables a w h = absurd (false≢true h)
+  effect-releases Disables a w h = absurd (false≢true h)
+  effect-releases (Programs m) a w h = absurd (false≢true h)
+  effect-releases (Erases u) a w h = absurd (false≢true h)
+  effect-releases (Writes r) a w h = absurd (false≢true h)
+  effect-releases Suspends a w h = absurd (false≢true h)
+  effect-releases Resumes a w h = phase-halts (halted (p .phase)) NoWork
+  effect-releases Sleeps a w h = absurd (false≢true h)
+  effect-releases Wakes a w h = absurd (false≢true h)
+  effect-releases Arms a w h = absurd (false≢true h)
+  effect-releases Resets a w h = refl
+  effect-releases SetsLive a w h = absurd (false≢true h)
+  effect-releases ClearsErrors a w h = absurd (false≢true h)
+  effect-releases SetsBank a w h = absurd (false≢true h)
+  effect-releases (SetsFar far) a w h = absurd (false≢true h)
 
-  decoded-releases : (wp : Bool) (o : ℕ) (d : Decoded) → decoded (getD i 0 0) ≡ d → letsGoBy d ≡ true → transacted p (arrayBytes (p .part .blocks)) rowsBytes wp i o .number ≡ 0
+  decoded-releases : (wp : Bool) (o : ℕ) (d : Decoded) → decoded (p .part .blocks) (p .part .bank) (getD i 0 0) ≡ d → letsGoBy d ≡ true → transacted p (arrayBytes (p .part .blocks)) rowsBytes wp i o .number ≡ 0
       → halted (recordAfterCall (transaction wp i o) p .phase) ≡ NoWork
   decoded-releases wp o (Known k) e h z =
-      ap (λ (w : Answer). halted (w .next .phase)) (executed-so p (arrayBytes (p .part .blocks)) rowsBytes wp i o k e z) ∙ effect-releases (columns k .effect) _ h
+      ap (λ (w : Answer). halted (w .next .phase)) (executed-so p (arrayBytes (p .part .blocks)) rowsBytes wp i o k e z) ∙ effect-releases (columns k .effect) (addressing (columns k .named) (p .part .bank)) (begun (columns k) (p .part) i) h
   decoded-releases wp o Unknown e h z = absurd (false≢true h)
 
 -- and so does every call that lets it go
 pub call-releases : (c : Call) (p : Record) → releases c p ≡ true → halted (recordAfterCall c p .phase) ≡ NoWork
-call-releases (transaction wp i o) p h = decoded-releases p i wp o (decoded (getD i 0 0)) refl (and-r _ _ h) (eqb-true _ _ (and-l _ _ h))
+call-releases (transaction wp i o) p h = decoded-releases p i wp o (decoded (p .part .blocks) (p .part .bank) (getD i 0 0)) refl (and-r _ _ h) (eqb-true _ _ (and-l _ _ h))
 call-releases (ticks n) p h = absurd (false≢true h)

@@ -1,14 +1,16 @@
 -- What power-up and ticks keep: the record that power-up gives is sound and, not refused, as asked; ticks keep a record sound and its size; at most as many ticks do work as are asked.
-use Prim.Native.Nat.{ℕ, zero, suc, _+_, _≤_, _<_}
+use Prim.Native.Nat.{ℕ, zero, suc, _+_, _*_, _/_, _≤_, _<_}
 use mathlib.Core.Path.{_≡_, refl, ap, _∙_, subst}
 use mathlib.Core.Bool.{Bool, true, false, cond, false≢true}
 use mathlib.Core.List.{List}
 use native.Mathlib.Omega.{arith}
 use lib.ListN.{drop}
+use lib.Bits.{bitOr}
 use lib.Dec.{eqb, ltb}
 use borrow.Author.Tests.{eqb-true, eqb-false, ltb-true}
 use Rattle.types.specs.declared.Operation.{Operation}
 use Rattle.types.specs.declared.Operation.the-variants.{Program, Erase, Write}
+use Rattle.types.specs.declared.Register.the-variants.{Status, Function, Extended}
 use Rattle.types.specs.declared.Phase.{Phase}
 use Rattle.types.specs.declared.Phase.the-variants.{Idle, Busy, Suspended, Nested}
 use Rattle.types.specs.declared.Work.{Work}
@@ -21,13 +23,13 @@ use Rattle.types.specs.declared.Record.{Record}
 use Rattle.words.specs.Logic.{_and_, _or_}
 use Rattle.words.specs.Lists.{allZero}
 use Rattle.words.proofs.Tests.{and-l, and-r, and-in, or-true, unless-zero, orElse-zero, bit-le}
-use Rattle.paper.specs.Sizes.{sizeOk}
+use Rattle.paper.specs.Sizes.{isLarge, sizeOk}
 use Rattle.paper.specs.Program.{noData}
 use Rattle.paper.specs.Phases.{running, isProgram, isErase, isBusy, workingOn}
 use Rattle.paper.specs.Records.{made, freshPart, fresh}
 use Rattle.paper.specs.Operations.{ticksInAll, ticksDone, advancedBy, keptBy}
-use Rattle.paper.specs.Registers.{storedAfter}
-use Rattle.paper.specs.Soundness.{latchOk, nestOk, bitsOk, pageOk, sound}
+use Rattle.paper.specs.Registers.{tbs, storedAfter, bankLoaded}
+use Rattle.paper.specs.Soundness.{latchOk, nestOk, bitsOk, largeOk, pageOk, sound}
 use Rattle.paper.specs.Numbers.{powerUpNumber}
 use Rattle.paper.specs.Calls.{noIdentity, noStored, zeroRecord, poweredUp}
 use Rattle.paper.specs.Ticks.{finished, advanced, worked, tickedAt, tickOnce, recordAfter, workingTicks}
@@ -39,24 +41,38 @@ no-data-zero : allZero noData ≡ true
 unfolding noData _and_
 no-data-zero = refl
 
--- an idle part with WEL 0 and page data zero, asleep or awake
-pub idle-sound : (p : Part) (g : Stored) → sizeOk (p .blocks) ≡ true → sound (recordOf (made p g Idle false) Idle noData) ≡ true
-unfolding _or_ pageOk
-idle-sound p g s = sound-of (made p g Idle false) Idle noData (made-sound p g Idle false s refl refl refl) no-data-zero
+unbanked-as : (t x y z : Bool) → cond t x (y and z) ≡ true → cond t true (y and true) ≡ true
+unbanked-as true x y z h = refl
+unbanked-as false x y z h = and-in (and-l _ _ h) refl
 
-pub fresh-sound : (n : ℕ) (id : Identity) (g : Stored) → sizeOk n ≡ true → sound (fresh n id g) ≡ true
-fresh-sound n id g s = idle-sound (freshPart n id g) g s
+-- an idle part with WEL 0 and page data zero, asleep or awake
+pub idle-sound : (p : Part) (g : Stored) → sizeOk (p .blocks) ≡ true → largeOk (p .blocks) (g .function) (p .bank) ≡ true → sound (recordOf (made p g Idle false) Idle noData) ≡ true
+unfolding _or_ pageOk
+idle-sound p g s b =
+    sound-of (made p g Idle false) Idle noData (made-sound p g Idle false s refl refl refl b) no-data-zero
+
+pub fresh-sound : (n : ℕ) (id : Identity) (g : Stored) → sizeOk n ≡ true → largeOk n (g .function) bankLoaded ≡ true → sound (fresh n id g) ≡ true
+fresh-sound n id g s b = idle-sound (freshPart n id g) g s b
+
+-- a bank register of 0 goes with TBS as any does
+pub unbanked : (n function bank : ℕ) → largeOk n function bank ≡ true → largeOk n function bankLoaded ≡ true
+unfolding largeOk
+unbanked n function bank h = unbanked-as (isLarge n) _ (eqb (tbs function) 0) _ h
 
 module _ (n : ℕ) (id : Identity) (g : Stored) where
-  number-zero : powerUpNumber n g ≡ 0 → sizeOk n ≡ true
+  number-zero : powerUpNumber n g ≡ 0 → (sizeOk n ≡ true) × (largeOk n (g .function) bankLoaded ≡ true)
   unfolding powerUpNumber
-  number-zero e = unless-zero _ 0 (orElse-zero _ _ e .0)
+  number-zero e =
+      let z = orElse-zero _ _ e in
+      (unless-zero _ 0 (z .0), and-r _ _ (unless-zero _ 4 (z .1)))
 
   power-up-as : (t : Bool) → eqb (powerUpNumber n g) 0 ≡ t
       → sound (cond {A = PoweredUp} t (record { next = fresh n id g; number = 0 }) (record { next = zeroRecord; number = powerUpNumber n g }) .next) ≡ true
-  unfolding sizeOk _or_
-  power-up-as true e = fresh-sound n id g (number-zero (eqb-true _ _ e))
-  power-up-as false e = fresh-sound 1 noIdentity noStored refl
+  unfolding sizeOk largeOk _and_ _or_
+  power-up-as true e =
+      let z = number-zero (eqb-true _ _ e) in
+      fresh-sound n id g (z .0) (z .1)
+  power-up-as false e = fresh-sound 1 noIdentity noStored refl refl
 
   -- refused or not
   pub power-up-sound : sound (poweredUp n id g .next) ≡ true
@@ -98,6 +114,17 @@ program-stores (Program m s b k d) g e = refl
 program-stores (Erase u b d) g e = refl
 program-stores (Write r v) g e = absurd (false≢true e)
 
+-- no register write changes TBS
+after-large : (o : Operation) (n : ℕ) (g : Stored) (bank : ℕ) → largeOk n (storedAfter o g .function) bank ≡ largeOk n (g .function) bank
+unfolding largeOk
+after-large (Program m s b k d) n g bank = refl
+after-large (Erase u b d) n g bank = refl
+after-large (Write Status v) n g bank = refl
+after-large (Write Function v) n g bank =
+    let z : tbs (bitOr (g .function / 16) (v / 16) * 16 + 2 * tbs (g .function)) ≡ tbs (g .function) = omega arith in
+    rw z
+after-large (Write Extended v) n g bank = refl
+
 erase-keeps : (o : Operation) → isErase o ≡ true → keptBy o ≡ 0
 erase-keeps (Program m s b k d) e = absurd (false≢true e)
 erase-keeps (Erase u b d) e = refl
@@ -110,7 +137,7 @@ module _ (p : Part) (g : List ℕ) where
   busy-sound o s h =
       let i = advanced-in-order 1 (p .blocks) (p .stored) o (in-order o (p .blocks) (p .stored) (s .phase-ok)) h in
       sound-whole p (Busy (advancedBy 1 o)) g
-      (record { size = s .size; sleep = s .sleep; latch = s .latch; phase-ok = in-order-whole (advancedBy 1 o) (p .blocks) (p .stored) i; bits = s .bits; page-ok = ap (λ (k : ℕ). allZero (drop k g)) (advanced-keeps 1 o) ∙ s .page-ok })
+      (record { size = s .size; sleep = s .sleep; latch = s .latch; phase-ok = in-order-whole (advancedBy 1 o) (p .blocks) (p .stored) i; bits = s .bits; large = s .large; page-ok = ap (λ (k : ℕ). allZero (drop k g)) (advanced-keeps 1 o) ∙ s .page-ok })
 
   nested-sound : (e o : Operation) → Sound p (Nested o e) g → ticksDone o + 1 < ticksInAll o (p .blocks) → sound (recordOf p (Nested (advancedBy 1 o) e) g) ≡ true
   unfolding bitsOk pageOk
@@ -124,6 +151,7 @@ module _ (p : Part) (g : List ℕ) where
         latch = s .latch;
         phase-ok = and-in (advanced-nests 1 e o (p .blocks) ∙ and-l _ _ (s .phase-ok)) (and-in (and-l _ _ both-ok) (in-order-whole (advancedBy 1 o) (p .blocks) (p .stored) i));
         bits = s .bits;
+        large = s .large;
         page-ok = ap (λ (k : ℕ). allZero (drop k g)) (advanced-keeps 1 o) ∙ s .page-ok;
       })
 
@@ -142,11 +170,11 @@ module _ (p : Part) (g : List ℕ) where
       let k : pageOk (Suspended e) noData ≡ true = ap (λ (j : ℕ). allZero (drop j noData)) (erase-keeps e (i .erases)) ∙ no-data-zero in
       rw (program-stores o (p .stored) (i .programs))
       (sound-of (made p (p .stored) (Suspended e) false) (Suspended e) noData
-      (made-sound p (p .stored) (Suspended e) false (s .size) (s .sleep) l (and-in (i .suspends) (and-l _ _ (and-r _ _ (s .phase-ok))))) k)
+      (made-sound p (p .stored) (Suspended e) false (s .size) (s .sleep) l (and-in (i .suspends) (and-l _ _ (and-r _ _ (s .phase-ok)))) (s .large)) k)
 
   finished-sound : (f : Phase) (o : Operation) → running f ≡ At o → Sound p f g → sound (finished (recordOf p f g) o) ≡ true
   finished-sound Idle o e s = absurd (no-work-at e)
-  finished-sound (Busy x) o e s = idle-sound p (storedAfter o (p .stored)) (s .size)
+  finished-sound (Busy x) o e s = idle-sound p (storedAfter o (p .stored)) (s .size) (after-large o (p .blocks) (p .stored) (p .bank) ∙ s .large)
   finished-sound (Suspended x) o e s = absurd (no-work-at e)
   finished-sound (Nested x y) o e s = outer-sound y o (subst (λ (z : Operation). Sound p (Nested z y) g) (at-same e) s)
 

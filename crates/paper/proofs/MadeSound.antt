@@ -1,5 +1,5 @@
 -- A part that `made` makes has registers that agree with its other fields, and protects and locks what its stored bits say: it is sound where its phase is.
-use Prim.Native.Nat.{ℕ, _+_, _/_, _%_, _^_, _<_, _≤_}
+use Prim.Native.Nat.{ℕ, _+_, _*_, _/_, _%_, _^_, _<_, _≤_}
 use mathlib.Core.Path.{_≡_, refl, sym, ap, _∙_}
 use mathlib.Core.Bool.{Bool, true, not}
 use native.Mathlib.Omega.{arith}
@@ -19,11 +19,11 @@ use Rattle.types.specs.declared.Stored.{Stored}
 use Rattle.types.specs.declared.Part.{Part}
 use Rattle.words.specs.Logic.{_and_}
 use Rattle.paper.specs.Sizes.{sizeOk, pageBytes}
-use Rattle.paper.specs.Protection.{codeOf, protectedAt, locked}
+use Rattle.paper.specs.Protection.{codeOf, wholeCode, protectedAt, locked}
 use Rattle.paper.specs.Operations.{free, targetFree, unitFree}
-use Rattle.paper.specs.Registers.{held, liveLoaded}
+use Rattle.paper.specs.Registers.{held, tbs, storedBits, liveLoaded}
 use Rattle.paper.specs.Records.{statusLow, functionLow, registersIn, made}
-use Rattle.paper.specs.Soundness.{sleepOk, latchOk, phaseOk, operationOk, bitsOk, partSound}
+use Rattle.paper.specs.Soundness.{sleepOk, latchOk, phaseOk, operationOk, bitsOk, largeOk, partSound}
 use Rattle.paper.proofs.Records.{status-low-le, function-low-le}
 
 -- the code and the locks go by the stored bits
@@ -33,23 +33,34 @@ code-stored st low h = omega arith
 pub high-half : (x k : ℕ) → x / 2 ^ (4 + k) ≡ x / 16 / 2 ^ k
 high-half x k = sym (shr-shr x 4 k)
 
-pub lock-stored : (fn low k : ℕ) → low < 16 → locked (held Function fn + low) k ≡ locked fn k
+pub lock-high : (x y k : ℕ) → x / 16 ≡ y / 16 → locked x k ≡ locked y k
 unfolding locked
-lock-stored fn low k h =
-    let s : (held Function fn + low) / 16 ≡ fn / 16 = omega arith in
-    ap (λ (t : ℕ). eqb (t % 2) 1) (high-half (held Function fn + low) k ∙ ap (λ (t : ℕ). t / 2 ^ k) s ∙ sym (high-half fn k))
+lock-high x y k s =
+    ap (λ (t : ℕ). eqb (t % 2) 1) (high-half x k ∙ ap (λ (t : ℕ). t / 2 ^ k) s ∙ sym (high-half y k))
 
 -- what goes by registers goes by their stored bits
 module _ (f : Phase) (wel : Bool) (g : Stored) where
+  pub locks-made : (k : ℕ) → locked (registersIn f wel g .function) k ≡ locked (g .function) k
+  locks-made k = lock-high (registersIn f wel g .function) (g .function) k (omega (arith, function-low-le f))
+
+  tbs-made : tbs (registersIn f wel g .function) ≡ tbs (g .function)
+  tbs-made = omega (arith, function-low-le f)
+
+  code-made : codeOf (registersIn f wel g .status) ≡ codeOf (g .status)
+  code-made = code-stored (g .status) (statusLow f wel) (omega (arith, status-low-le f wel))
+
+  whole-code-made : wholeCode (registersIn f wel g) ≡ wholeCode g
+  whole-code-made = rw (code-made, tbs-made)
+
   free-stored : (m : Memory) (b n : ℕ) → free m b n (registersIn f wel g) ≡ free m b n g
-  free-stored Array b n = ap (λ (c : ℕ). not (protectedAt c n b)) (code-stored (g .status) (statusLow f wel) (omega (arith, status-low-le f wel)))
-  free-stored Rows b n = ap not (lock-stored (g .function) (functionLow f) (b / pageBytes) (omega (arith, function-low-le f)))
+  free-stored Array b n = ap (λ (c : ℕ). not (protectedAt c n b)) whole-code-made
+  free-stored Rows b n = ap not (locks-made (b / pageBytes))
 
   unit-stored : (u : EraseUnit) (b n : ℕ) → unitFree u b n (registersIn f wel g) ≡ unitFree u b n g
   unit-stored Sector b n = free-stored Array b n
   unit-stored Block32 b n = free-stored Array b n
   unit-stored Block64 b n = free-stored Array b n
-  unit-stored Chip b n = ap (λ (c : ℕ). eqb c 0) (code-stored (g .status) (statusLow f wel) (omega (arith, status-low-le f wel)))
+  unit-stored Chip b n = ap (λ (c : ℕ). eqb c 0) code-made
   unit-stored Row b n = free-stored Rows b n
 
   target-stored : (o : Operation) (n : ℕ) → targetFree o n (registersIn f wel g) ≡ targetFree o n g
@@ -72,22 +83,36 @@ module _ (f : Phase) (wel : Bool) (g : Stored) where
   bits-made =
       let s : statusLow f wel ≤ 3 = status-low-le f wel in
       let t : functionLow f ≤ 8 = function-low-le f in
-      rw (eq-eqb ((held Status (g .status) + statusLow f wel) % 4) (statusLow f wel) (omega arith), eq-eqb ((held Function (g .function) + functionLow f) % 16) (functionLow f) (omega arith), eq-eqb (held Extended (g .extended) % 32) 0 (omega arith))
+      rw (eq-eqb ((held Status (g .status) + statusLow f wel) % 4) (statusLow f wel) (omega arith), eq-eqb (registersIn f wel g .function % 16) (functionLow f + 2 * tbs (registersIn f wel g .function)) (omega arith), eq-eqb (held Extended (g .extended) % 32) 0 (omega arith))
 
   -- registers made anew of made ones
   pub registers-again : (h : Phase) (w : Bool) → registersIn h w (registersIn f wel g) ≡ registersIn h w g
   registers-again h w =
       let s : held Status (held Status (g .status) + statusLow f wel) ≡ held Status (g .status) = omega (arith, status-low-le f wel) in
-      let t : held Function (held Function (g .function) + functionLow f) ≡ held Function (g .function) = omega (arith, function-low-le f) in
+      let t : held Function (registersIn f wel g .function) ≡ held Function (g .function) = omega (arith, function-low-le f) in
       let u : held Extended (held Extended (g .extended)) ≡ held Extended (g .extended) = omega arith in
-      rw (s, t, u)
+      rw (s, t, tbs-made, u)
+
+  -- what the large part alone has goes by them too
+  pub large-made : (n bank : ℕ) → largeOk n (registersIn f wel g .function) bank ≡ largeOk n (g .function) bank
+  unfolding largeOk
+  large-made n bank = rw tbs-made
 
   -- and the live byte loaded from them
   pub live-again : liveLoaded (registersIn f wel g) ≡ liveLoaded g
   live-again = omega arith
 
+-- and so do the stored bits alone
+pub stored-large : (n : ℕ) (g : Stored) (bank : ℕ) → largeOk n (storedBits g .function) bank ≡ largeOk n (g .function) bank
+unfolding largeOk
+stored-large n g bank =
+    let t : tbs (storedBits g .function) ≡ tbs (g .function) = omega arith in
+    rw t
+
 pub made-sound : (p : Part) (g : Stored) (f : Phase) (wel : Bool)
     → sizeOk (p .blocks) ≡ true → sleepOk f (p .asleep) ≡ true → latchOk f wel ≡ true → phaseOk f (p .blocks) g ≡ true
+    → largeOk (p .blocks) (g .function) (p .bank) ≡ true
     → partSound (made p g f wel) f ≡ true
 unfolding partSound _and_
-made-sound p g f wel s a l o = rw (s, a, l, phase-stored f wel g f (p .blocks), o, bits-made f wel g)
+made-sound p g f wel s a l o b =
+    rw (s, a, l, phase-stored f wel g f (p .blocks), o, bits-made f wel g, large-made f wel g (p .blocks) (p .bank), b)

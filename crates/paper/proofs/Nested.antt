@@ -1,5 +1,5 @@
 -- A program within a suspended erase: what the registers show, and how it begins, goes on and ends.
-use Prim.Native.Nat.{ℕ, suc, _+_, _-_, _/_, _%_, _≤_, _<_}
+use Prim.Native.Nat.{ℕ, suc, _+_, _-_, _*_, _/_, _%_, _≤_, _<_}
 use mathlib.Core.Path.{_≡_, refl, sym, ap, _∙_, subst}
 use mathlib.Core.Bool.{Bool, true, false, cond, false≢true}
 use mathlib.Core.List.{List}
@@ -13,8 +13,9 @@ use Rattle.types.specs.declared.Operation.the-variants.{Program, Erase, Write}
 use Rattle.types.specs.declared.Phase.{Phase}
 use Rattle.types.specs.declared.Phase.the-variants.{Suspended, Nested}
 use Rattle.types.specs.declared.Command.{Command}
-use Rattle.types.specs.declared.Command.the-variants.{PageProgram}
 use Rattle.types.specs.declared.Decoded.the-variants.{Known}
+use Rattle.types.specs.declared.Effect.{Effect}
+use Rattle.types.specs.declared.Effect.the-variants.{Programs}
 use Rattle.types.specs.declared.Stored.{Stored}
 use Rattle.types.specs.declared.Record.{Record}
 use Rattle.types.specs.declared.Outcome.{Outcome}
@@ -24,9 +25,11 @@ use Rattle.words.proofs.Tests.{and-l, and-r, bit-le}
 use Rattle.paper.specs.Program.{dataSent, pageData, noData, programOf}
 use Rattle.paper.specs.Phases.{running, halted, workIs, isProgram, isErase, eraseHalted, isBusy, workingOn, restOf}
 use Rattle.paper.specs.Records.{wip, esus, psus, statusLow, functionLow}
+use Rattle.paper.specs.Registers.{tbs}
 use Rattle.paper.specs.Operations.{ticksInAll, ticksDone, advancedBy}
 use Rattle.paper.specs.Soundness.{bitsOk, sound}
-use Rattle.paper.specs.Table.{decoded, columns}
+use Rattle.paper.specs.Table.{decoded, columns, addressing}
+use Rattle.paper.specs.Commands.{changed, begins, changeBy}
 use Rattle.paper.specs.Numbers.{transactionRefusal, ignoredNumber}
 use Rattle.paper.specs.Calls.{refused, ignored, executed, outcomeTo, outcomeOf, answered, transacted}
 use Rattle.paper.specs.Ticks.{recordAfter}
@@ -40,18 +43,33 @@ pub record Showing (s : Stored) (wip wel esus psus : ℕ) : Type 0 where
   pub esus-shown : s .function / 8 % 2 ≡ esus
   pub psus-shown : s .function / 4 % 2 ≡ psus
 
+module _ (x q e g t : ℕ) (program : g ≤ 1) (low : t ≤ 1) (whole : x ≡ 16 * q + (8 * e + 4 * g + 2 * t)) where
+  eighths : x / 8 ≡ 2 * q + e
+  eighths = omega (arith, program, low, whole)
+
+  fourths : x / 4 ≡ 4 * q + 2 * e + g
+  fourths = omega (arith, low, whole)
+
+  esus-bit : e ≤ 1 → x / 8 % 2 ≡ e
+  esus-bit h = ap (λ (y : ℕ). y % 2) eighths ∙ omega (arith, h)
+
+  psus-bit : x / 4 % 2 ≡ g
+  psus-bit = ap (λ (y : ℕ). y % 2) fourths ∙ omega (arith, program)
+
 -- those of a sound record show its phase and its latch
 pub sound-shows : (p : Record) → sound p ≡ true → Showing (p .part .stored) (wip (p .phase)) (bit (p .part .wel)) (esus (p .phase)) (psus (p .phase))
 unfolding bitsOk
 sound-shows p s =
     let b = sound-parts p s .bits in
     let st : p .part .stored .status % 4 ≡ statusLow (p .phase) (p .part .wel) = eqb-true _ _ (and-l _ _ b) in
-    let fn : p .part .stored .function % 16 ≡ functionLow (p .phase) = eqb-true _ _ (and-l _ _ (and-r _ _ b)) in
+    let fn : p .part .stored .function % 16 ≡ functionLow (p .phase) + 2 * tbs (p .part .stored .function) = eqb-true _ _ (and-l _ _ (and-r _ _ b)) in
     let i = bit-le (isBusy (p .phase)) in
     let l = bit-le (p .part .wel) in
     let e = bit-le (eraseHalted (p .phase)) in
     let g = bit-le (workIs isProgram (halted (p .phase))) in
-    record { wip-shown = omega (arith, st, i, l); wel-shown = omega (arith, st, i, l); esus-shown = omega (arith, fn, e, g); psus-shown = omega (arith, fn, e, g) }
+    let x = p .part .stored .function in
+    let whole : x ≡ 16 * (x / 16) + (functionLow (p .phase) + 2 * tbs x) = omega (arith, fn) in
+    record { wip-shown = omega (arith, st, i, l); wel-shown = omega (arith, st, i, l); esus-shown = esus-bit x (x / 16) (esus (p .phase)) (psus (p .phase)) (tbs x) g (omega arith) whole e; psus-shown = psus-bit x (x / 16) (esus (p .phase)) (psus (p .phase)) (tbs x) g (omega arith) whole }
 
 -- while a program runs within a suspended erase WEL is 1
 pub nested-latch : (p : Record) (e o : Operation) → p .phase ≡ Nested o e → sound p ≡ true → p .part .wel ≡ true
@@ -85,12 +103,12 @@ zero-number n x y true e h z = eqb-true _ _ e
 zero-number n x y false e h z = sym h ∙ z
 
 -- a transaction that answers 0 executed the command that its first byte is, to which no number applied
-module _ (p : Record) (a r : ℕ) (wp : Bool) (i : List ℕ) (o : ℕ) (k : Command) (e : decoded (getD i 0 0) ≡ Known k) (z : transacted p a r wp i o .number ≡ 0) where
+module _ (p : Record) (a r : ℕ) (wp : Bool) (i : List ℕ) (o : ℕ) (k : Command) (e : decoded (p .part .blocks) (p .part .bank) (getD i 0 0) ≡ Known k) (z : transacted p a r wp i o .number ≡ 0) where
   not-refused : transactionRefusal (p .part .blocks) (sound p) a r (length i) o ≡ 0
   unfolding transacted outcomeOf
   not-refused =
       let n = transactionRefusal (p .part .blocks) (sound p) a r (length i) o in
-      zero-number n (outcomeTo (decoded (getD i 0 0)) (p .part) (p .phase) wp i) (refused n) (eqb n 0) refl refl z
+      zero-number n (outcomeTo (decoded (p .part .blocks) (p .part .bank) (getD i 0 0)) (p .part) (p .phase) wp i) (refused n) (eqb n 0) refl refl z
 
   taken : transacted p a r wp i o ≡ answered (outcomeTo (Known k) (p .part) (p .phase) wp i) i p
   unfolding transacted outcomeOf
@@ -104,13 +122,16 @@ module _ (p : Record) (a r : ℕ) (wp : Bool) (i : List ℕ) (o : ℕ) (k : Comm
   pub executed-so : transacted p a r wp i o ≡ answered (executed (columns k) (p .part) (p .phase) i) i p
   executed-so = taken ∙ rw not-ignored
 
--- a 02h that is executed on a part that is suspended from e begins a program within it; WEL is 1 still, and the bytes that count are kept
-pub program-nests : (p : Record) (e : Operation) (a r : ℕ) (wp : Bool) (i : List ℕ) (o : ℕ) → p .phase ≡ Suspended e → decoded (getD i 0 0) ≡ Known PageProgram → transacted p a r wp i o .number ≡ 0
+-- a 02h that is executed on a part that is suspended from e begins a program within it, with three address bytes or with four; WEL is 1 still, and the bytes that count are kept
+pub program-nests : (p : Record) (e : Operation) (a r : ℕ) (wp : Bool) (i : List ℕ) (o : ℕ) (k : Command) → p .phase ≡ Suspended e → decoded (p .part .blocks) (p .part .bank) (getD i 0 0) ≡ Known k
+    → columns k .effect ≡ Programs Array → transacted p a r wp i o .number ≡ 0
     → let q = transacted p a r wp i o .next in
-    (q .phase ≡ Nested (programOf Array (p .part .blocks) i) e) × (q .part .wel ≡ true) × (q .page ≡ pageData (dataSent i))
-program-nests p e a r wp i o f d z =
-    let q = executed-so p a r wp i o PageProgram d z in
-    (ap (λ (t : Answer). t .next .phase) q ∙ ap (λ (g : Phase). workingOn g (programOf Array (p .part .blocks) i)) f, ap (λ (t : Answer). t .next .part .wel) q, ap (λ (t : Answer). t .next .page) q)
+    let w = addressing (columns k .named) (p .part .bank) in
+    (q .phase ≡ Nested (programOf Array w (p .part .blocks) i) e) × (q .part .wel ≡ true) × (q .page ≡ pageData (dataSent w i))
+program-nests p e a r wp i o k f d c z =
+    let w = addressing (columns k .named) (p .part .bank) in
+    let q = ap (λ (t : Answer). t .next) (executed-so p a r wp i o k d z) ∙ ap (λ (x : Effect). changed (changeBy x w (begins x w (p .part .blocks) i) (p .part) (p .phase) i) i p) c in
+    (ap (λ (t : Record). t .phase) q ∙ ap (λ (g : Phase). workingOn g (programOf Array w (p .part .blocks) i)) f, ap (λ (t : Record). t .part .wel) q, ap (λ (t : Record). t .page) q)
 
 -- its ticks that are not the last go on with it
 pub nested-goes-on : (p : Record) (e o : Operation) (n : ℕ) → p .phase ≡ Nested o e → ticksDone o + n < ticksInAll o (p .part .blocks) → recordAfter n p ≡ recordOf (p .part) (Nested (advancedBy n o) e) (p .page)

@@ -1,8 +1,9 @@
 -- What a call that is not refused may rest on.
-use Prim.Native.Nat.{ℕ, _%_, _≤_}
+use Prim.Native.Nat.{ℕ, _+_, _*_, _%_, _≤_}
 use mathlib.Core.Path.{_≡_, refl}
-use mathlib.Core.Bool.{Bool, true, false, not}
+use mathlib.Core.Bool.{Bool, true, false, not, cond}
 use mathlib.Core.List.{List}
+use native.Mathlib.Omega.{arith}
 use lib.ListN.{length}
 use lib.Dec.{eqb}
 use borrow.Author.Tests.{eqb-true, leb-true}
@@ -14,23 +15,36 @@ use Rattle.types.specs.declared.Part.{Part}
 use Rattle.types.specs.declared.Columns.{Columns}
 use Rattle.words.specs.Logic.{_and_, _or_}
 use Rattle.words.proofs.Tests.{and-l, and-r, unless-zero, orElse-zero}
-use Rattle.paper.specs.Sizes.{sizeOk, arrayBytes, rowsBytes, transactionLimit, tickLimit}
+use Rattle.paper.specs.Sizes.{isLarge, sizeOk, arrayBytes, rowsBytes, transactionLimit, tickLimit}
+use Rattle.paper.specs.Registers.{tbs, bankLoaded}
 use Rattle.paper.specs.Phases.{eraseHalted, isBusy, isSuspended}
-use Rattle.paper.specs.Table.{lengthOk, takenAsleep, takenBusy, takenSuspended}
-use Rattle.paper.specs.Soundness.{bitsOk}
+use Rattle.paper.specs.Table.{addressing, lengthOk, takenAsleep, takenBusy, takenSuspended}
+use Rattle.paper.specs.Soundness.{bitsOk, largeOk}
 use Rattle.paper.specs.Numbers.{sizeNumber, rowsNumber, lengthNumber, outputNumber, soundNumber, ticksNumber, transactionRefusal, tickNumber, stateOk, addressOk, freeOk, commandNumber}
 
--- power-up's 5: status bits 1..0, function bits 3..0 or bits 4..0 of the extended read register not zero
-pub power-up-bits : (s : Stored) → bitsOk Idle false s ≡ (eqb (s .status % 4) 0 and eqb (s .function % 16) 0 and eqb (s .extended % 32) 0)
-unfolding bitsOk
-power-up-bits s = refl
+large-or : (t x y : Bool) → (x and cond t true (y and true)) ≡ (x and (t or y))
+unfolding _and_ _or_
+large-or true x y = refl
+large-or false true true = refl
+large-or false true false = refl
+large-or false false y = refl
+
+-- power-up's 5: status bits 1..0, function bits 3, 2 or 0 or bits 4..0 of the extended read register not zero, or function bit 1 on any part but the large one
+pub power-up-bits : (n : ℕ) (s : Stored)
+    → (bitsOk Idle false s and largeOk n (s .function) bankLoaded)
+    ≡ ((eqb (s .status % 4) 0 and eqb (s .function % 16) (2 * tbs (s .function)) and eqb (s .extended % 32) 0)
+    and (isLarge n or eqb (tbs (s .function)) 0))
+unfolding bitsOk largeOk
+power-up-bits n s =
+    let z : 0 + 2 * tbs (s .function) ≡ 2 * tbs (s .function) = omega arith in
+    rw z (large-or (isLarge n) _ (eqb (tbs (s .function)) 0))
 
 -- a tick call that is not refused, of a record of b blocks that is sound or is not
 pub record TicksTaken (b : ℕ) (sound : Bool) (a r n : ℕ) : Type 0 where
   pub size : a ≡ arrayBytes b
   pub rows : r ≡ rowsBytes
   pub is-sound : sound ≡ true
-  pub few : n ≤ tickLimit
+  pub few : n ≤ tickLimit b
 
 pub ticks-taken : (b : ℕ) (sound : Bool) (a r n : ℕ) → tickNumber b sound a r n ≡ 0 → TicksTaken b sound a r n
 unfolding tickNumber sizeNumber rowsNumber soundNumber ticksNumber
@@ -69,7 +83,7 @@ pub record CommandTaken (k : Columns) (w : Work) (p : Part) (f : Phase) (i : Lis
   pub length-ok : lengthOk (k .length) (length i) ≡ true
   pub state-ok : stateOk (k .wanted) p f ≡ true
   pub latch-ok : (not (k .wel) or p .wel) ≡ true
-  pub address-ok : addressOk (k .named) i ≡ true
+  pub address-ok : addressOk (k .named) (addressing (k .named) (p .bank)) i ≡ true
   pub free-ok : freeOk w p f wp ≡ true
 
 pub command-taken : (k : Columns) (w : Work) (p : Part) (f : Phase) (i : List ℕ) (wp : Bool) → commandNumber k w p f i wp ≡ 0 → CommandTaken k w p f i wp

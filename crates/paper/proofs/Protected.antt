@@ -1,10 +1,10 @@
--- The protection question: a block is protected exactly where it is one of the blocks that are answered; these are what 01's rule says, on every code and every size, and lie inside the part; refused, there are none.
-use Prim.Native.Nat.{ℕ, zero, suc, _+_, _-_, _/_, _≤_, _<_, min}
+-- The protection question: a block is protected exactly where it is one of the blocks that are answered; these are what the rules say, on every code and every size, and lie inside the part; refused, there are none.
+use Prim.Native.Nat.{ℕ, zero, suc, _+_, _-_, _*_, _/_, _%_, _≤_, _<_, min}
 use mathlib.Core.Path.{_≡_, refl, sym, ap, _∙_, subst⁻¹}
 use mathlib.Core.Bool.{Bool, true, false, not, cond, false≢true}
-use mathlib.Core.Logic.{_↔_, ⊎-elim}
+use mathlib.Core.Logic.{_↔_}
 use native.Mathlib.Omega.{arith}
-use lib.Dec.{eqb}
+use lib.Dec.{eqb, leb}
 use lib.Pow.{pow-mono}
 use borrow.Author.Tests.{eqb-true, eqb-false, leb-true, ltb-true, not-false, ne-eqb, le-leb, lt-leb, lt-ltb}
 use Rattle.types.specs.declared.Memory.the-variants.{Array}
@@ -14,13 +14,14 @@ use Rattle.types.specs.declared.Stored.{Stored}
 use Rattle.types.specs.declared.Operation.the-variants.{Program, Erase}
 use Rattle.types.specs.declared.Blocks.{Blocks}
 use Rattle.types.specs.declared.Cell.{Cell}
-use Rattle.types.specs.declared.BlockRow.{BlockRow}
 use Rattle.words.specs.Logic.{_and_, _or_, unless, _orElse_}
-use Rattle.words.proofs.Tests.{and-l, and-r, and-in, or-cases, unless-zero, orElse-zero, fails}
-use Rattle.paper.specs.Sizes.{sizeOk, blockBytes}
-use Rattle.paper.specs.BlockTable.{noBlocks, blockRow, cellOf}
-use Rattle.paper.specs.Protection.{codeOf, blocksAsked, ruleCount, protectsTop, ruleBlocks, blocksOf, question, protectedBlocks, among, protected}
+use Rattle.words.proofs.Tests.{and-l, and-r, and-in, unless-zero, orElse-zero, fails}
+use Rattle.paper.specs.Sizes.{isLarge, sizeOk, blockBytes}
+use Rattle.paper.specs.BlockTable.{noBlocks, blockRow, largeRow, cellOf, largeCellOf, tableCell}
+use Rattle.paper.specs.Registers.{tbs}
+use Rattle.paper.specs.Protection.{codeOf, wholeCode, blocksAsked, ruleCount, protectsTop, ruleBlocks, largeAsked, largeCount, largeBlocks, blocksByRule, blocksOf, codeMost, question, protectedBlocks, among, protected}
 use Rattle.paper.specs.Operations.{free, targetFree, unitSuspends}
+use Rattle.paper.proofs.Sizes.{by-size}
 
 -- block k is one of so many blocks from the first on: first <= k < first + count
 abbrev pub InBlocks : ℕ → ℕ → ℕ → Type 0
@@ -38,12 +39,12 @@ protected-exactly c n k = among-exactly (protectedBlocks c n) k
 -- the block of place b is one of the protected blocks of a part of n blocks, under the registers
 abbrev pub Blocked : ℕ → ℕ → Stored → Type 0
 Blocked b n s =
-    InBlocks (protectedBlocks (codeOf (s .status)) n .first) (protectedBlocks (codeOf (s .status)) n .count) (b / blockBytes)
+    InBlocks (protectedBlocks (wholeCode s) n .first) (protectedBlocks (wholeCode s) n .count) (b / blockBytes)
 
 -- a place of the array is not free exactly where its block is one of them
 pub not-free-exactly : (b n : ℕ) (s : Stored) → (free Array b n s ≡ false) ↔ Blocked b n s
 not-free-exactly b n s =
-    let e = protected-exactly (codeOf (s .status)) n (b / blockBytes) in
+    let e = protected-exactly (wholeCode s) n (b / blockBytes) in
     (λ h. e .0 (not-false _ h), λ w. ap not (e .1 w))
 
 -- so the target of a page program, and that of SER, BER32 and BER64, which are the units that can be suspended: 28 and soundness ask for it. (CER goes by the bits.)
@@ -65,7 +66,7 @@ none-protected c n k e =
 -- what a question that is not refused may rest on
 pub record Answerable (c n : ℕ) : Type 0 where
   pub size : sizeOk n ≡ true
-  pub known : c ≤ 15
+  pub known : c ≤ codeMost n
 
 pub answerable : (c n : ℕ) → question c n .number ≡ 0 → Answerable c n
 unfolding question
@@ -104,62 +105,68 @@ below t zero c h l = absurd (omega arith)
 below t (suc n) c h l = below-or-last t n c (eqb c n) refl (and-l _ _ h) (below t n c (and-r _ _ h)) l
 
 -- a number of blocks that is no size has no column
-untested : (a b c d : Bool) (w x y z : Cell) → (a or b or c or d) ≡ false → cond d w (cond c x (cond b y (cond a z noBlocks))) ≡ noBlocks
+no-column : (a b c d e : Bool) (w x y z v : Cell)
+    → (a or b or c or d or e) ≡ false → cond e v (cond d w (cond c x (cond b y (cond a z noBlocks)))) ≡ noBlocks
 unfolding _or_
-untested true b c d w x y z h = absurd (false≢true (sym h))
-untested false true c d w x y z h = absurd (false≢true (sym h))
-untested false false true d w x y z h = absurd (false≢true (sym h))
-untested false false false true w x y z h = absurd (false≢true (sym h))
-untested false false false false w x y z h = refl
+no-column true b c d e w x y z v h = absurd (false≢true (sym h))
+no-column false true c d e w x y z v h = absurd (false≢true (sym h))
+no-column false false true d e w x y z v h = absurd (false≢true (sym h))
+no-column false false false true e w x y z v h = absurd (false≢true (sym h))
+no-column false false false false true w x y z v h = absurd (false≢true (sym h))
+no-column false false false false false w x y z v h = refl
 
-no-size : (n : ℕ) (r : BlockRow) → sizeOk n ≡ false → cellOf n r ≡ noBlocks
-unfolding sizeOk cellOf
-no-size n r h =
-    untested (eqb n 1) (eqb n 4) (eqb n 8) (eqb n 16) (r .0) (r .1) (r .2) (r .3) h
+no-size : (c n : ℕ) → sizeOk n ≡ false → tableCell c n ≡ noBlocks
+unfolding sizeOk tableCell cellOf
+no-size c n h =
+    no-column (eqb n 1) (eqb n 4) (eqb n 8) (eqb n 16) (isLarge n) (blockRow c .0) (blockRow c .1) (blockRow c .2) (blockRow c .3) (largeCellOf (leb 16 c) (largeRow (c % 16))) h
 
 -- table and rule agree on a code
 abbrev agrees : ℕ → ℕ → Bool
-agrees n c = sameBlocks (protectedBlocks c n) (ruleBlocks c n)
+agrees n c = sameBlocks (protectedBlocks c n) (blocksByRule c n)
 
--- they do on each of the sixteen, in the column of each size
+-- they do on each of the sixteen, in the column of each size; on each of the thirty-two of the large part
 abbrev Column : ℕ → Type 0
-Column n = everyBelow (agrees n) 16 ≡ true
+Column n = everyBelow (agrees n) (suc (codeMost n)) ≡ true
 
 columns : (Column 16 × Column 8) × (Column 4 × Column 1)
-unfolding question blockRow cellOf ruleBlocks blocksAsked sizeOk _and_ _or_ unless _orElse_
+unfolding question blockRow cellOf tableCell ruleBlocks blocksAsked sizeOk _and_ _or_ unless _orElse_
 columns = ((refl, refl), (refl, refl))
 
+large-column : Column 512
+unfolding question largeRow tableCell largeBlocks largeAsked sizeOk _and_ _or_ unless _orElse_
+large-column = refl
+
 column : (n : ℕ) → sizeOk n ≡ true → Column n
-unfolding sizeOk
-column n h =
-    ⊎-elim
-    (λ e. subst⁻¹ Column (eqb-true n 1 e) (columns .1 .1))
-    (λ h′.
-    ⊎-elim
-    (λ e. subst⁻¹ Column (eqb-true n 4 e) (columns .1 .0))
-    (λ h″.
-    ⊎-elim
-    (λ e. subst⁻¹ Column (eqb-true n 8 e) (columns .0 .1))
-    (λ e. subst⁻¹ Column (eqb-true n 16 e) (columns .0 .0))
-    (or-cases _ _ h″))
-    (or-cases _ _ h′))
-    (or-cases _ _ h)
+column = by-size Column (columns .1 .1) (columns .1 .0) (columns .0 .1) (columns .0 .0) large-column
 
 -- on every code and every size the table says what the rule says
-pub table-is-rule : (c n : ℕ) → sizeOk n ≡ true → c ≤ 15 → protectedBlocks c n ≡ ruleBlocks c n
-table-is-rule c n s h = same-blocks _ _ (below (agrees n) 16 c (column n s) (omega arith))
+pub table-is-rule : (c n : ℕ) → sizeOk n ≡ true → c ≤ codeMost n → protectedBlocks c n ≡ blocksByRule c n
+table-is-rule c n s h = same-blocks _ _ (below (agrees n) (suc (codeMost n)) c (column n s) (omega (arith, h)))
 
 -- a code that is one: its blocks are the cell that is looked up; what is no size has none
-looked-as : (c n : ℕ) (t : Bool) → sizeOk n ≡ t → c ≤ 15 → protectedBlocks c n ≡ blocksOf (cellOf n (blockRow c))
+looked-as : (c n : ℕ) (t : Bool) → sizeOk n ≡ t → c ≤ codeMost n → protectedBlocks c n ≡ blocksOf (tableCell c n)
 unfolding question unless _orElse_
-looked-as c n true e h = rw (e, le-leb c 15 h)
-looked-as c n false e h = rw (e, no-size n (blockRow c) e)
+looked-as c n true e h = rw (e, le-leb c (codeMost n) h)
+looked-as c n false e h = rw (e, no-size c n e)
 
-pub looked-up : (c n : ℕ) → c ≤ 15 → protectedBlocks c n ≡ blocksOf (cellOf n (blockRow c))
+looked-up : (c n : ℕ) → c ≤ codeMost n → protectedBlocks c n ≡ blocksOf (tableCell c n)
 looked-up c n h = looked-as c n (sizeOk n) refl h
 
+-- in the table of the large part, or in that of the others
+module _ (c n : ℕ) (t : Bool) (e : isLarge n ≡ t) where
+  most-as : codeMost n ≡ cond t 31 15
+  most-as = rw e
+
+  pub table-looked-up : c ≤ cond t 31 15 → protectedBlocks c n ≡ blocksOf (cond t (largeCellOf (leb 16 c) (largeRow (c % 16))) (cellOf n (blockRow c)))
+  unfolding tableCell
+  table-looked-up h = looked-up c n (omega (arith, most-as, h)) ∙ rw e
+
+  -- a number that is no code has none
+  pub table-none : cond t 31 15 < c → protectedBlocks c n ≡ blocksOf noBlocks
+  table-none h = refused-none c n (λ z. omega (arith, most-as, h, answerable c n z .known))
+
 -- The answer is no blocks where the question is refused, and else the rule's: what holds of both holds of it.
-module _ (P : Blocks → Type 0) (c n : ℕ) (none : P (blocksOf noBlocks)) (ruled : Answerable c n → P (ruleBlocks c n)) where
+module _ (P : Blocks → Type 0) (c n : ℕ) (none : P (blocksOf noBlocks)) (ruled : Answerable c n → P (blocksByRule c n)) where
   refused-or-not : (t : Bool) → eqb (question c n .number) 0 ≡ t → P (protectedBlocks c n)
   refused-or-not true e =
       let a = answerable c n (eqb-true _ _ e) in
@@ -179,12 +186,25 @@ either-end : (t : Bool) (n k : ℕ) → k ≤ n → cond t (n - k) 0 + k ≤ n
 either-end true n k h = omega arith
 either-end false n k h = omega arith
 
+either-side : (t : Bool) (n k : ℕ) → k ≤ n → cond t 0 (n - k) + k ≤ n
+either-side true n k h = omega arith
+either-side false n k h = omega arith
+
 pub rule-inside : (c n : ℕ) → ruleBlocks c n .first + ruleBlocks c n .count ≤ n
 unfolding ruleBlocks
 rule-inside c n = either-end (protectsTop c) n (ruleCount c n) (omega arith)
 
+large-inside : (c n : ℕ) (bottom : Bool) → largeBlocks c bottom n .first + largeBlocks c bottom n .count ≤ n
+unfolding largeBlocks
+large-inside c n bottom = either-side (bottom or eqb c 0) n (largeCount c n) (omega arith)
+
+by-rule-inside : (c n : ℕ) (t : Bool)
+    → cond t (largeBlocks (c % 16) (leb 16 c) n) (ruleBlocks c n) .first + cond t (largeBlocks (c % 16) (leb 16 c) n) (ruleBlocks c n) .count ≤ n
+by-rule-inside c n true = large-inside (c % 16) n (leb 16 c)
+by-rule-inside c n false = rule-inside c n
+
 pub protected-inside : (c n : ℕ) → protectedBlocks c n .first + protectedBlocks c n .count ≤ n
-protected-inside c n = by-rule (λ (b : Blocks). b .first + b .count ≤ n) c n (omega arith) (λ a. rule-inside c n)
+protected-inside c n = by-rule (λ (b : Blocks). b .first + b .count ≤ n) c n (omega arith) (λ a. by-rule-inside c n (isLarge n))
 
 -- a code that protects top blocks asks for some
 top-asks : (c : ℕ) → protectsTop c ≡ true → 1 ≤ blocksAsked c
@@ -205,17 +225,59 @@ pub rule-from-zero : (c n : ℕ) → ruleBlocks c n .count ≡ 0 → ruleBlocks 
 unfolding ruleBlocks
 rule-from-zero c n e = from-zero (protectsTop c) n (blocksAsked c) (top-asks c) e
 
+-- a code of the large part but 0 asks for some
+large-asks : (c : ℕ) → (c ≡ 0 → ⊥) → 1 ≤ largeAsked c
+unfolding largeAsked
+large-asks c h = rw (ne-eqb c 0 h) (pow-mono {i = 0} {j = c - 1} (omega arith))
+
+large-end : (c n : ℕ) (bottom t : Bool) → eqb c 0 ≡ t → min n (largeAsked c) ≡ 0 → cond (bottom or t) 0 (n - min n (largeAsked c)) ≡ 0
+unfolding _or_
+large-end c n true t h e = refl
+large-end c n false true h e = refl
+large-end c n false false h e =
+    let l : 1 ≤ largeAsked c = large-asks c (eqb-false c 0 h) in
+    omega arith
+
+large-from-zero : (c n : ℕ) (bottom : Bool) → largeBlocks c bottom n .count ≡ 0 → largeBlocks c bottom n .first ≡ 0
+unfolding largeBlocks
+large-from-zero c n bottom e = large-end c n bottom (eqb c 0) refl e
+
+by-rule-from-zero : (c n : ℕ) (t : Bool)
+    → cond t (largeBlocks (c % 16) (leb 16 c) n) (ruleBlocks c n) .count ≡ 0 → cond t (largeBlocks (c % 16) (leb 16 c) n) (ruleBlocks c n) .first ≡ 0
+by-rule-from-zero c n true = large-from-zero (c % 16) n (leb 16 c)
+by-rule-from-zero c n false = rule-from-zero c n
+
 pub none-from-zero : (c n : ℕ) → protectedBlocks c n .count ≡ 0 → protectedBlocks c n .first ≡ 0
 none-from-zero c n =
-    by-rule (λ (b : Blocks). b .count ≡ 0 → b .first ≡ 0) c n (λ e. refl) (λ a. rule-from-zero c n)
+    by-rule (λ (b : Blocks). b .count ≡ 0 → b .first ≡ 0) c n (λ e. refl) (λ a. by-rule-from-zero c n (isLarge n))
 
--- the codes 0 and 15 ask for no block, and have none
-asked-none : (c n : ℕ) → blocksAsked c ≡ 0 → protectedBlocks c n .count ≡ 0
-unfolding ruleBlocks
-asked-none c n e =
-    let z : min n (blocksAsked c) ≡ 0 = omega arith in
-    by-rule (λ (b : Blocks). b .count ≡ 0) c n refl (λ a. z)
+-- BP bits of 0 ask for no block, and have none, whatever TBS is; so has the code 15, but on the large part
+none-asked : (c n : ℕ) (t : Bool)
+    → (t ≡ true → largeAsked (c % 16) ≡ 0) → (t ≡ false → blocksAsked c ≡ 0)
+    → cond t (largeBlocks (c % 16) (leb 16 c) n) (ruleBlocks c n) .count ≡ 0
+unfolding largeBlocks ruleBlocks
+none-asked c n true l r =
+    let z : largeAsked (c % 16) ≡ 0 = l refl in
+    omega (arith, z)
+none-asked c n false l r =
+    let z : blocksAsked c ≡ 0 = r refl in
+    omega (arith, z)
 
-pub none-counted : (n : ℕ) → (protectedBlocks 0 n .count ≡ 0) × (protectedBlocks 15 n .count ≡ 0)
+asked-none : (c n : ℕ) → (isLarge n ≡ true → largeAsked (c % 16) ≡ 0) → (isLarge n ≡ false → blocksAsked c ≡ 0) → protectedBlocks c n .count ≡ 0
+asked-none c n l r =
+    by-rule (λ (b : Blocks). b .count ≡ 0) c n refl (λ a. none-asked c n (isLarge n) l r)
+
+zero-counted : (t n : ℕ) → t < 2 → protectedBlocks (16 * t) n .count ≡ 0
+unfolding blocksAsked largeAsked _or_
+zero-counted zero n h = asked-none 0 n (λ l. refl) (λ r. refl)
+zero-counted (suc zero) n h = asked-none 16 n (λ l. refl) (λ r. refl)
+zero-counted (suc (suc t)) n h = absurd (omega arith)
+
+pub none-counted : (n : ℕ) (s : Stored) → codeOf (s .status) ≡ 0 → protectedBlocks (wholeCode s) n .count ≡ 0
+none-counted n s e =
+    let z : wholeCode s ≡ 16 * tbs (s .function) = omega (arith, e) in
+    ap (λ (c : ℕ). protectedBlocks c n .count) z ∙ zero-counted (tbs (s .function)) n (omega arith)
+
+pub fifteen-counted : (n : ℕ) → isLarge n ≡ false → protectedBlocks 15 n .count ≡ 0
 unfolding blocksAsked _or_
-none-counted n = (asked-none 0 n refl, asked-none 15 n refl)
+fifteen-counted n h = asked-none 15 n (λ l. absurd (false≢true (sym h ∙ l))) (λ r. refl)

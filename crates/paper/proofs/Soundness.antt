@@ -18,7 +18,7 @@ use Rattle.paper.specs.Phases.{running, halted, isProgram, isErase}
 use Rattle.paper.specs.Records.{marked, withLive}
 use Rattle.paper.specs.Operations.{ticksInAll, ticksDone, aligned, inside, targetFree, canSuspend, outside}
 use Rattle.paper.proofs.Phases.{no-work-at, at-same}
-use Rattle.paper.specs.Soundness.{sleepOk, latchOk, contentOk, operationOk, nestOk, phaseOk, bitsOk, pageOk, partSound, sound}
+use Rattle.paper.specs.Soundness.{sleepOk, latchOk, contentOk, operationOk, nestOk, phaseOk, bitsOk, largeOk, pageOk, partSound, sound}
 
 -- the parts of soundness, of a part in a phase with page data
 pub record Sound (p : Part) (f : Phase) (g : List ℕ) : Type 0 where
@@ -27,6 +27,7 @@ pub record Sound (p : Part) (f : Phase) (g : List ℕ) : Type 0 where
   pub latch : latchOk f (p .wel) ≡ true
   pub phase-ok : phaseOk f (p .blocks) (p .stored) ≡ true
   pub bits : bitsOk f (p .wel) (p .stored) ≡ true
+  pub large : largeOk (p .blocks) (p .stored .function) (p .bank) ≡ true
   pub page-ok : pageOk f g ≡ true
 
 -- a record that is sound by what it is made of
@@ -40,11 +41,12 @@ sound-parts p h =
     let h1 = and-r _ _ h0 in
     let h2 = and-r _ _ h1 in
     let h3 = and-r _ _ h2 in
-    record { size = and-l _ _ h0; sleep = and-l _ _ h1; latch = and-l _ _ h2; phase-ok = and-l _ _ h3; bits = and-r _ _ h3; page-ok = and-r _ _ h }
+    let h4 = and-r _ _ h3 in
+    record { size = and-l _ _ h0; sleep = and-l _ _ h1; latch = and-l _ _ h2; phase-ok = and-l _ _ h3; bits = and-l _ _ h4; large = and-r _ _ h4; page-ok = and-r _ _ h }
 
 pub part-whole : (p : Part) (f : Phase) (g : List ℕ) → Sound p f g → partSound p f ≡ true
 unfolding partSound
-part-whole p f g s = and-in (s .size) (and-in (s .sleep) (and-in (s .latch) (and-in (s .phase-ok) (s .bits))))
+part-whole p f g s = and-in (s .size) (and-in (s .sleep) (and-in (s .latch) (and-in (s .phase-ok) (and-in (s .bits) (s .large)))))
 
 pub sound-of : (p : Part) (f : Phase) (g : List ℕ) → partSound p f ≡ true → pageOk f g ≡ true → sound (recordOf p f g) ≡ true
 unfolding sound

@@ -1,10 +1,21 @@
 -- The lists of codes that the paper prints, read off the command table.
 use Prim.Native.Nat.{ℕ}
-use mathlib.Core.Path.{_≡_, refl}
-use mathlib.Core.List.{List, [], _∷_}
-use mathlib.Core.Bool.{Bool, true, false, cond}
+use mathlib.Core.Path.{_≡_, refl, sym, ap, _∙_}
+use mathlib.Core.List.{List, [], _∷_, _++_}
+use mathlib.Core.Bool.{Bool, true, false, not, cond, false≢true}
+use lib.Dec.{eqb}
 use Rattle.types.specs.declared.Columns.{Columns}
-use Rattle.paper.specs.Table.{Entry, codes, columns, takenAsleep, takenBusy, takenSuspended, isRead}
+use Rattle.types.specs.declared.Command.{Command}
+use Rattle.types.specs.declared.Command.the-variants.{Read}
+use Rattle.types.specs.declared.Decoded.{Decoded}
+use Rattle.types.specs.declared.Decoded.the-variants.{Known, Unknown}
+use Rattle.types.specs.declared.Effect.{Effect}
+use Rattle.types.specs.declared.Effect.the-variants.{Looks, Enables, Disables, Programs, Erases, Writes, Suspends, Resumes, Sleeps, Wakes, Arms, Resets, SetsLive, ClearsErrors, SetsBank, SetsFar}
+use Rattle.words.specs.Logic.{_and_}
+use Rattle.words.proofs.Tests.{and-l, and-r}
+use Rattle.paper.specs.Sizes.{isLarge}
+use Rattle.paper.specs.Registers.{extadd}
+use Rattle.paper.specs.Table.{Entry, codes, largeCodes, farCodes, lookUp, decoded, columns, takenAsleep, takenBusy, takenSuspended, isRead}
 
 -- the codes of the entries whose columns pass a test
 abbrev pub codesOf : (Columns → Bool) → List Entry → List ℕ
@@ -35,3 +46,135 @@ taken-erase-suspended = refl
 -- the codes that need WEL
 pub needs-wel : codesOf (λ (k : Columns). k .wel) codes ≡ 0x01 ∷ 0x42 ∷ 0x02 ∷ 0xD7 ∷ 0x20 ∷ 0x52 ∷ 0xD8 ∷ 0xC7 ∷ 0x60 ∷ 0x64 ∷ 0x62 ∷ 0x85 ∷ []
 needs-wel = refl
+
+-- Of the large part: the reads are 13h, 0Ch, 16h and C8h, none is taken asleep or busy, the reads alone are while suspended, from an erase too, and those of an erase or a program need WEL
+pub large-reads : codesOf isRead largeCodes ≡ 0x13 ∷ 0x0C ∷ 0x16 ∷ 0xC8 ∷ []
+large-reads = refl
+
+pub large-taken-asleep : codesOf (λ (k : Columns). takenAsleep (k .taken)) largeCodes ≡ []
+large-taken-asleep = refl
+
+pub large-taken-busy : codesOf (λ (k : Columns). takenBusy (k .taken)) largeCodes ≡ []
+large-taken-busy = refl
+
+pub large-taken-suspended : codesOf (λ (k : Columns). takenSuspended (k .taken) true) largeCodes ≡ 0x13 ∷ 0x0C ∷ 0x16 ∷ 0xC8 ∷ []
+large-taken-suspended = refl
+
+pub large-needs-wel : codesOf (λ (k : Columns). k .wel) largeCodes ≡ 0x12 ∷ 0x21 ∷ 0x5C ∷ 0xDC ∷ []
+large-needs-wel = refl
+
+-- the codes of table 8.3 are taken with four address bytes when they are with three, and need WEL so
+pub far-taken-erase-suspended : codesOf (λ (k : Columns). takenSuspended (k .taken) true) farCodes ≡ 0x03 ∷ 0x0B ∷ 0x02 ∷ []
+far-taken-erase-suspended = refl
+
+pub far-needs-wel : codesOf (λ (k : Columns). k .wel) farCodes ≡ 0x02 ∷ 0xD7 ∷ 0x20 ∷ 0x52 ∷ 0xD8 ∷ []
+far-needs-wel = refl
+
+-- a command that is looked up passes a test that every entry does
+abbrev every : (Command → Bool) → List Entry → Bool
+every test [] = true
+every test (e ∷ es) = test (e .command) and every test es
+
+abbrev isKnown : Decoded → Bool
+isKnown (Known k) = true
+isKnown Unknown = false
+
+abbrev commandIn : Decoded → Command
+commandIn (Known k) = k
+commandIn Unknown = Read
+
+found-as : (test : Command → Bool) (x k : Command) (rest : Decoded) (t : Bool)
+    → test x ≡ true → (rest ≡ Known k → test k ≡ true) → cond t (Known x) rest ≡ Known k → test k ≡ true
+found-as test x k rest true h r e = ap test (sym (ap commandIn e)) ∙ h
+found-as test x k rest false h r e = r e
+
+found : (test : Command → Bool) (es : List Entry) (c : ℕ) (k : Command) → every test es ≡ true → lookUp es c ≡ Known k → test k ≡ true
+found test [] c k h e = absurd (false≢true (ap isKnown e))
+found test (x ∷ xs) c k h e =
+    found-as test (x .command) k (lookUp xs c) (eqb c (x .code)) (and-l _ _ h) (found test xs c k (and-r _ _ h)) e
+
+-- What a code is, from what each of the three lists of codes has at it: what a list has, where the test lets it be asked, or else what comes after it
+abbrev on : Bool → Decoded → Decoded → Decoded
+on t (Known k) d = cond t (Known k) d
+on t Unknown d = d
+
+on-unasked : (a d : Decoded) → d ≡ on false a d
+on-unasked (Known k) d = refl
+on-unasked Unknown d = refl
+
+on-last : (a : Decoded) → a ≡ on true a Unknown
+on-last (Known k) = refl
+on-last Unknown = refl
+
+on-more : (t : Bool) (k : Command) (a d e : Decoded) → e ≡ on true a d → cond t (Known k) e ≡ on true (cond t (Known k) a) d
+on-more true k a d e h = refl
+on-more false k a d e h = h
+
+joined : (es fs : List Entry) (c : ℕ) → lookUp (es ++ fs) c ≡ on true (lookUp es c) (lookUp fs c)
+joined [] fs c = refl
+joined (e ∷ es) fs c =
+    on-more (eqb c (e .code)) (e .command) (lookUp es c) (lookUp fs c) (lookUp (es ++ fs) c) (joined es fs c)
+
+before : (t : Bool) (es fs : List Entry) (c : ℕ) → lookUp (cond t es [] ++ fs) c ≡ on t (lookUp es c) (lookUp fs c)
+before true es fs c = joined es fs c
+before false es fs c = on-unasked (lookUp es c) (lookUp fs c)
+
+last : (t : Bool) (es : List Entry) (c : ℕ) → lookUp (cond t es []) c ≡ on t (lookUp es c) Unknown
+last true es c = on-last (lookUp es c)
+last false es c = on-unasked (lookUp es c) Unknown
+
+-- by the tests for EXTADD and for the large part; at a known code it computes to an answer by these
+abbrev pub answer : Bool → Bool → ℕ → Decoded
+answer far large c = on far (lookUp farCodes c) (on true (lookUp codes c) (on large (lookUp largeCodes c) Unknown))
+
+pub answered : (n bank c : ℕ) → decoded n bank c ≡ answer (extadd bank) (isLarge n) c
+unfolding decoded
+answered n bank c =
+    before (extadd bank) farCodes (codes ++ cond (isLarge n) largeCodes []) c
+    ∙ ap (on (extadd bank) (lookUp farCodes c)) (joined codes (cond (isLarge n) largeCodes []) c ∙ ap (on true (lookUp codes c)) (last (isLarge n) largeCodes c))
+
+-- a code is one command on every part, under every bank register
+abbrev pub Always : ℕ → Command → Type 0
+Always c k = (n bank : ℕ) → decoded n bank c ≡ Known k
+
+-- so is each of the command table that table 8.3 does not list
+pub known : (c : ℕ) (k : Command) → lookUp farCodes c ≡ Unknown → lookUp codes c ≡ Known k → Always c k
+known c k f e n bank = answered n bank c ∙ rw (f, e)
+
+-- what writes the bank register
+abbrev pub setsBank : Effect → Bool
+setsBank Looks = false
+setsBank Enables = false
+setsBank Disables = false
+setsBank (Programs m) = false
+setsBank (Erases u) = false
+setsBank (Writes r) = false
+setsBank Suspends = false
+setsBank Resumes = false
+setsBank Sleeps = false
+setsBank Wakes = false
+setsBank Arms = false
+setsBank Resets = false
+setsBank SetsLive = false
+setsBank ClearsErrors = false
+setsBank SetsBank = true
+setsBank (SetsFar far) = true
+
+-- is a command of the large part alone
+abbrev sparesBank : Command → Bool
+sparesBank k = not (setsBank (columns k .effect))
+
+spares-all : (far : Bool) → every sparesBank (cond far farCodes [] ++ (codes ++ [])) ≡ true
+unfolding _and_
+spares-all true = refl
+spares-all false = refl
+
+bank-large-as : (n bank c : ℕ) (k : Command) (t : Bool) → isLarge n ≡ t
+    → lookUp (cond (extadd bank) farCodes [] ++ (codes ++ cond t largeCodes [])) c ≡ Known k → setsBank (columns k .effect) ≡ true → isLarge n ≡ true
+bank-large-as n bank c k true l e h = l
+bank-large-as n bank c k false l e h =
+    absurd (false≢true (sym (ap not h) ∙ found sparesBank (cond (extadd bank) farCodes [] ++ (codes ++ [])) c k (spares-all (extadd bank)) e))
+
+pub bank-large : (n bank c : ℕ) (k : Command) → decoded n bank c ≡ Known k → setsBank (columns k .effect) ≡ true → isLarge n ≡ true
+unfolding decoded
+bank-large n bank c k e h = bank-large-as n bank c k (isLarge n) refl e h

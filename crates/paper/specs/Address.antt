@@ -6,8 +6,10 @@ use lib.ListN.{getD, take, drop}
 use lib.Dec.{eqb, ltb}
 use Rattle.types.specs.declared.Memory.{Memory}
 use Rattle.types.specs.declared.Memory.the-variants.{Array, Rows}
-use Rattle.words.specs.Logic.{_and_}
-use Rattle.paper.specs.Sizes.{arrayBytes, pageBytes}
+use Rattle.types.specs.declared.Addressing.{Addressing}
+use Rattle.types.specs.declared.Addressing.the-variants.{Three, Four}
+use Rattle.words.specs.Logic.{bit, _and_}
+use Rattle.paper.specs.Sizes.{arrayBytes, bankBytes, pageBytes}
 
 -- the number that bytes are after a number that was read before them, high byte first
 abbrev pub readOn : ℕ → List ℕ → ℕ
@@ -18,42 +20,48 @@ readOn a (b ∷ bs) = readOn (a * 256 + b) bs
 unfoldable pub highFirst : List ℕ → ℕ
 highFirst bs = readOn 0 bs
 
--- A is three address bytes
-abbrev pub addressCount : ℕ
-addressCount = 3
+-- an address is three bytes, or four
+abbrev pub addressCount : Addressing → ℕ
+addressCount (Three upper) = 3
+addressCount Four = 4
+
+-- three bytes are an address in a bank, which begins here; four are one in the whole array
+abbrev pub bankBase : Addressing → ℕ
+bankBase (Three upper) = bit upper * bankBytes
+bankBase Four = 0
 
 -- so many bytes after the code
 abbrev pub addressBytes : ℕ → List ℕ → List ℕ
 addressBytes count i = take count (drop 1 i)
 
 -- the address as it was sent
-abbrev pub addressSent : List ℕ → ℕ
-addressSent i = highFirst (addressBytes addressCount i)
+abbrev pub addressSent : Addressing → List ℕ → ℕ
+addressSent g i = bankBase g + highFirst (addressBytes (addressCount g) i)
 
 -- A: the address taken modulo the array size of a part of n blocks
-unfoldable pub addressIn : ℕ → List ℕ → ℕ
-addressIn n i = addressSent i % arrayBytes n
+unfoldable pub addressIn : Addressing → ℕ → List ℕ → ℕ
+addressIn g n i = addressSent g i % arrayBytes n
 
--- row addresses, as sent, are 00h, then 00h, 10h, 20h or 30h, then a byte address: below 4000h, and the second byte's low half 0
-unfoldable pub rowOk : List ℕ → Bool
-rowOk i = ltb (addressSent i / 4096) 4 and eqb (addressSent i / 256 % 16) 0
+-- row addresses, as sent, are 00h, then 00h, 10h, 20h or 30h, then a byte address: below 4000h, and the low half of the byte before the last is 0. (A fourth byte before them would be 00h too.)
+unfoldable pub rowOk : Addressing → List ℕ → Bool
+rowOk g i = ltb (addressSent g i / 4096) 4 and eqb (addressSent g i / 256 % 16) 0
 
 -- where the row begins that a valid row address names
-abbrev pub rowBase : List ℕ → ℕ
-rowBase i = addressSent i / 4096 * pageBytes
+abbrev pub rowBase : Addressing → List ℕ → ℕ
+rowBase g i = addressSent g i / 4096 * pageBytes
 
 -- its byte address
-abbrev pub rowByte : List ℕ → ℕ
-rowByte i = addressSent i % 256
+abbrev pub rowByte : Addressing → List ℕ → ℕ
+rowByte g i = addressSent g i % 256
 
 -- the byte's place in the rows
-unfoldable pub rowPlace : List ℕ → ℕ
-rowPlace i = rowBase i + rowByte i
+unfoldable pub rowPlace : Addressing → List ℕ → ℕ
+rowPlace g i = rowBase g i + rowByte g i
 
 -- the place in a memory that a transaction names
-abbrev pub placeIn : Memory → ℕ → List ℕ → ℕ
-placeIn Array n i = addressIn n i
-placeIn Rows n i = rowPlace i
+abbrev pub placeIn : Memory → Addressing → ℕ → List ℕ → ℕ
+placeIn Array g n i = addressIn g n i
+placeIn Rows g n i = rowPlace g i
 
 -- the third address byte, of which 90h asks bit 0
 abbrev pub thirdAddressByte : List ℕ → ℕ

@@ -20,9 +20,9 @@ use Rattle.types.specs.declared.Ticked.{Ticked}
 use Rattle.words.specs.Logic.{whenZero}
 use Rattle.paper.specs.Records.{fresh}
 use Rattle.paper.specs.Soundness.{sound}
-use Rattle.paper.specs.Table.{decoded, columns}
+use Rattle.paper.specs.Table.{decoded, columns, addressing}
 use Rattle.paper.specs.Reads.{undriven, outputOf, firstDriven}
-use Rattle.paper.specs.Commands.{changed, begins, changeBy, changeIgnored}
+use Rattle.paper.specs.Commands.{changed, begun, changeBy, changeIgnored}
 use Rattle.paper.specs.Numbers.{powerUpNumber, transactionRefusal, tickNumber, ignoredNumber}
 use Rattle.paper.specs.Ticks.{recordAfter, memoryAfter, workingTicks}
 
@@ -37,7 +37,7 @@ noStored = record { status = 0; function = 0; extended = 0 }
 abbrev pub zeroRecord : Record
 zeroRecord = fresh 1 noIdentity noStored
 
--- power-up gives an idle, awake, unarmed record with WEL 0, page data zero, and the live byte loaded with the error bits 0
+-- power-up gives an idle, awake, unarmed record with WEL 0, page data zero, the live byte loaded with the error bits 0, and the bank register 00h
 unfoldable pub poweredUp : ℕ → Identity → Stored → PoweredUp
 poweredUp n id s =
     whenZero (powerUpNumber n s)
@@ -55,7 +55,7 @@ ignored d number p n = record { change = changeIgnored d number p; number = numb
 -- 0: executed
 abbrev pub executed : Columns → Part → Phase → List ℕ → Outcome
 executed k p f i =
-    record { change = changeBy (k .effect) (begins (k .effect) (p .blocks) i) p f i; number = 0; first = firstDriven k (length i) }
+    record { change = changeBy (k .effect) (addressing (k .named) (p .bank)) (begun k p i) p f i; number = 0; first = firstDriven k (length i) }
 
 -- the outcome of a first byte that was decoded
 abbrev pub outcomeTo : Decoded → Part → Phase → Bool → List ℕ → Outcome
@@ -69,7 +69,7 @@ outcomeTo Unknown p f wp i = ignored Unknown (ignoredNumber Unknown p f i wp) p 
 unfoldable pub outcomeOf : Part → Phase → Bool → ℕ → ℕ → Bool → List ℕ → ℕ → Outcome
 outcomeOf p f s a r wp i o =
     whenZero (transactionRefusal (p .blocks) s a r (length i) o)
-    (outcomeTo (decoded (getD i 0 0)) p f wp i)
+    (outcomeTo (decoded (p .blocks) (p .bank) (getD i 0 0)) p f wp i)
     (refused (transactionRefusal (p .blocks) s a r (length i) o))
 
 -- a transaction's answer: its outcome, made of the record
@@ -89,7 +89,7 @@ outputTo Unknown p f xs rs wp i = undriven (length i)
 unfoldable pub outputAfter : Part → Phase → Bool → List ℕ → List ℕ → Bool → List ℕ → List ℕ → List ℕ
 outputAfter p f s xs rs wp i o =
     whenZero (transactionRefusal (p .blocks) s (length xs) (length rs) (length i) (length o))
-    (outputTo (decoded (getD i 0 0)) p f xs rs wp i)
+    (outputTo (decoded (p .blocks) (p .bank) (getD i 0 0)) p f xs rs wp i)
     o
 
 abbrev pub transactedOutput : Record → List ℕ → List ℕ → Bool → List ℕ → List ℕ → List ℕ

@@ -5,6 +5,7 @@ use mathlib.Core.Bool.{cond}
 use lib.ListN.{length, take, drop, replicate}
 use lib.Dec.{leb}
 use Rattle.types.specs.declared.Memory.{Memory}
+use Rattle.types.specs.declared.Addressing.{Addressing}
 use Rattle.types.specs.declared.Memory.the-variants.{Array, Rows}
 use Rattle.types.specs.declared.EraseUnit.{EraseUnit}
 use Rattle.types.specs.declared.EraseUnit.the-variants.{Sector, Block32, Block64, Chip, Row}
@@ -38,8 +39,8 @@ abbrev pub unitBase : EraseUnit → ℕ → ℕ → ℕ
 unitBase u n a = downTo (unitBytes u n) a
 
 -- the erase that a transaction begins: the unit that holds A. A row erase disregards the byte address
-unfoldable pub eraseOf : EraseUnit → ℕ → List ℕ → Operation
-eraseOf u n i = Erase u (unitBase u n (placeIn (memoryOf u) n i)) 0
+unfoldable pub eraseOf : EraseUnit → Addressing → ℕ → List ℕ → Operation
+eraseOf u g n i = Erase u (unitBase u n (placeIn (memoryOf u) g n i)) 0
 
 -- an erased byte is FFh
 abbrev pub erasedByte : ℕ

@@ -14,7 +14,7 @@ use Rattle.types.specs.declared.Work.the-variants.{NoWork, At}
 use Rattle.types.specs.declared.Decoded.{Decoded}
 use Rattle.types.specs.declared.Decoded.the-variants.{Known, Unknown}
 use Rattle.types.specs.declared.Effect.{Effect}
-use Rattle.types.specs.declared.Effect.the-variants.{Looks, Enables, Disables, Programs, Erases, Writes, Suspends, Resumes, Sleeps, Wakes, Arms, Resets, SetsLive, ClearsErrors}
+use Rattle.types.specs.declared.Effect.the-variants.{Looks, Enables, Disables, Programs, Erases, Writes, Suspends, Resumes, Sleeps, Wakes, Arms, Resets, SetsLive, ClearsErrors, SetsBank, SetsFar}
 use Rattle.types.specs.declared.Record.{Record}
 use Rattle.words.specs.Logic.{_and_}
 use Rattle.paper.specs.Sizes.{arrayBytes, rowsBytes, pageBytes, sameMemory, fromOn}
@@ -40,6 +40,8 @@ letsGo Arms = false
 letsGo Resets = true
 letsGo SetsLive = false
 letsGo ClearsErrors = false
+letsGo SetsBank = false
+letsGo (SetsFar far) = false
 
 -- so the command that a first byte is
 abbrev pub letsGoBy : Decoded → Bool
@@ -49,7 +51,7 @@ letsGoBy Unknown = false
 -- a call lets the suspended operation go: it is a resume or a reset that is executed
 abbrev pub releases : Call → Record → Bool
 releases (transaction wp i o) p =
-    eqb (transacted p (arrayBytes (p .part .blocks)) rowsBytes wp i o .number) 0 and letsGoBy (decoded (getD i 0 0))
+    eqb (transacted p (arrayBytes (p .part .blocks)) rowsBytes wp i o .number) 0 and letsGoBy (decoded (p .part .blocks) (p .part .bank) (getD i 0 0))
 releases (ticks n) p = false
 
 -- no call of a list does

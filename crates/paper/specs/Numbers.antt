@@ -17,7 +17,8 @@ use Rattle.types.specs.declared.Part.{Part}
 use Rattle.types.specs.declared.Decoded.{Decoded}
 use Rattle.types.specs.declared.Decoded.the-variants.{Known, Unknown}
 use Rattle.types.specs.declared.Named.{Named}
-use Rattle.types.specs.declared.Named.the-variants.{Bare, Place, InRow}
+use Rattle.types.specs.declared.Named.the-variants.{Bare, Place, Far, InRow}
+use Rattle.types.specs.declared.Addressing.{Addressing}
 use Rattle.types.specs.declared.Wanted.{Wanted}
 use Rattle.types.specs.declared.Wanted.the-variants.{Any, Running, Halted, Armed}
 use Rattle.types.specs.declared.Columns.{Columns}
@@ -25,14 +26,15 @@ use Rattle.words.specs.Logic.{_and_, _or_, unless, _orElse_}
 use Rattle.paper.specs.Sizes.{sizeOk, arrayBytes, rowsBytes, transactionLimit, tickLimit}
 use Rattle.paper.specs.Address.{rowOk}
 use Rattle.paper.specs.Protection.{barred}
+use Rattle.paper.specs.Registers.{bankLoaded}
 use Rattle.paper.specs.Phases.{halted, eraseHalted, isBusy, isSuspended}
 use Rattle.paper.specs.Operations.{targetFree, outsideOf}
-use Rattle.paper.specs.Soundness.{bitsOk}
-use Rattle.paper.specs.Table.{columns, lengthOk, takenAsleep, takenBusy, takenSuspended}
+use Rattle.paper.specs.Soundness.{bitsOk, largeOk}
+use Rattle.paper.specs.Table.{columns, addressing, lengthOk, takenAsleep, takenBusy, takenSuspended}
 use Rattle.paper.specs.Suspend.{suspendable, resumable}
-use Rattle.paper.specs.Commands.{begins}
+use Rattle.paper.specs.Commands.{begun}
 
--- 1: size, n blocks, not 1, 4, 8, 16, or array length, a bytes, not the record's size
+-- 1: size, n blocks, not 1, 4, 8, 16 or 512, or array length, a bytes, not the record's size
 unfoldable pub sizeNumber : ℕ → ℕ → ℕ
 sizeNumber n a = unless (sizeOk n and eqb a (arrayBytes n)) 1
 
@@ -52,13 +54,13 @@ outputNumber n o = unless (eqb o n) 4
 unfoldable pub soundNumber : Bool → ℕ
 soundNumber sound = unless sound 5
 
--- 6: more than 4,096 ticks asked
-unfoldable pub ticksNumber : ℕ → ℕ
-ticksNumber n = unless (leb n tickLimit) 6
+-- 6: more than 4,096 ticks asked, of the large part more than 131,072; n is the size in blocks
+unfoldable pub ticksNumber : ℕ → ℕ → ℕ
+ticksNumber n ticks = unless (leb ticks (tickLimit n)) 6
 
--- power-up can give only 1 and 5; 5 there: status bits 1..0, function bits 3..0 or bits 4..0 of the extended read register not zero
+-- power-up can give only 1 and 5; 5 there: status bits 1..0, function bits 3..0, but for TBS on the large part, or bits 4..0 of the extended read register not zero
 unfoldable pub powerUpNumber : ℕ → Stored → ℕ
-powerUpNumber n s = unless (sizeOk n) 1 orElse unless (bitsOk Idle false s) 5
+powerUpNumber n s = unless (sizeOk n) 1 orElse unless (bitsOk Idle false s and largeOk n (s .function) bankLoaded) 5
 
 -- a transaction's 2 to 5, which go by no size: the record is sound or is not, the rows have r bytes; l and o are the lengths of input and output
 abbrev pub laterRefusal : Bool → ℕ → ℕ → ℕ → ℕ
@@ -69,12 +71,10 @@ laterRefusal sound r l o =
 unfoldable pub transactionRefusal : ℕ → Bool → ℕ → ℕ → ℕ → ℕ → ℕ
 transactionRefusal n sound a r l o = sizeNumber n a orElse laterRefusal sound r l o
 
--- ticks can give only 1, 2, 5 and 6: those that go by no size, and all
-abbrev pub laterTickNumber : Bool → ℕ → ℕ → ℕ
-laterTickNumber sound r ticks = rowsNumber r orElse soundNumber sound orElse ticksNumber ticks
-
+-- ticks can give only 1, 2, 5 and 6
 unfoldable pub tickNumber : ℕ → Bool → ℕ → ℕ → ℕ → ℕ
-tickNumber n sound a r ticks = sizeNumber n a orElse laterTickNumber sound r ticks
+tickNumber n sound a r ticks =
+    sizeNumber n a orElse rowsNumber r orElse soundNumber sound orElse ticksNumber n ticks
 
 -- 25: nothing running that can be suspended, nothing to resume, or 99h not armed
 abbrev pub stateOk : Wanted → Part → Phase → Bool
@@ -83,11 +83,12 @@ stateOk Running p f = suspendable f
 stateOk Halted p f = resumable f
 stateOk Armed p f = p .armed
 
--- 27: row address not valid
-abbrev pub addressOk : Named → List ℕ → Bool
-addressOk Bare i = true
-addressOk Place i = true
-addressOk InRow i = rowOk i
+-- 27: row address not valid, of an address that is sent as g says
+abbrev pub addressOk : Named → Addressing → List ℕ → Bool
+addressOk Bare g i = true
+addressOk Place g i = true
+addressOk Far g i = true
+addressOk InRow g i = rowOk g i
 
 -- the pin bars status writes alone
 abbrev pub pinOk : Register → Stored → Bool → Bool
@@ -117,10 +118,10 @@ commandNumber k w p f i wp =
     orElse unless (lengthOk (k .length) (length i)) 24
     orElse unless (stateOk (k .wanted) p f) 25
     orElse unless (not (k .wel) or p .wel) 26
-    orElse unless (addressOk (k .named) i) 27
+    orElse unless (addressOk (k .named) (addressing (k .named) (p .bank)) i) 27
     orElse unless (freeOk w p f wp) 28
 
 -- 20 to 28: 20 where the first byte is in no row of the command table, even asleep or busy
 abbrev pub ignoredNumber : Decoded → Part → Phase → List ℕ → Bool → ℕ
-ignoredNumber (Known k) p f i wp = commandNumber (columns k) (begins (columns k .effect) (p .blocks) i) p f i wp
+ignoredNumber (Known k) p f i wp = commandNumber (columns k) (begun (columns k) p i) p f i wp
 ignoredNumber Unknown p f i wp = 20

@@ -15,7 +15,7 @@ use Rattle.types.specs.declared.Work.{Work}
 use Rattle.types.specs.declared.Work.the-variants.{NoWork, At}
 use Rattle.words.specs.Logic.{_and_}
 use Rattle.paper.specs.Sizes.{memoryBytes, sameMemory, fromOn, pageBytes}
-use Rattle.paper.specs.Protection.{codeOf, protectedAt, locked}
+use Rattle.paper.specs.Protection.{codeOf, wholeCode, protectedAt, locked}
 use Rattle.paper.specs.Program.{pageBase, pagePlace, narrowed}
 use Rattle.paper.specs.Erase.{memoryOf, unitPages, unitBytes, unitBase, pageErased}
 
@@ -51,7 +51,7 @@ inside (Write r v) n = true
 
 -- a place of a memory is unprotected or unlocked under the registers, on a part of n blocks
 abbrev pub free : Memory → ℕ → ℕ → Stored → Bool
-free Array b n s = not (protectedAt (codeOf (s .status)) n b)
+free Array b n s = not (protectedAt (wholeCode s) n b)
 free Rows b n s = not (locked (s .function) (b / pageBytes))
 
 -- a unit is: any but CER lies in one block or row, so its base decides; CER needs all four BP bits 0

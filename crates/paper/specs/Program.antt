@@ -4,6 +4,7 @@ use mathlib.Core.List.{List, _++_}
 use lib.ListN.{length, getD, drop, set, replicate}
 use lib.Bits.{bitAnd}
 use Rattle.types.specs.declared.Memory.{Memory}
+use Rattle.types.specs.declared.Addressing.{Addressing}
 use Rattle.types.specs.declared.Operation.{Operation}
 use Rattle.types.specs.declared.Operation.the-variants.{Program}
 use Rattle.paper.specs.Sizes.{pageBytes, downTo}
@@ -17,9 +18,9 @@ pageBase a = downTo pageBytes a
 unfoldable pub pagePlace : ℕ → ℕ → ℕ
 pagePlace s k = (s + k) % pageBytes
 
--- the data follows the code and the three address bytes
-abbrev pub dataSent : List ℕ → List ℕ
-dataSent i = drop (1 + addressCount) i
+-- the data follows the code and the address bytes
+abbrev pub dataSent : Addressing → List ℕ → List ℕ
+dataSent g i = drop (1 + addressCount g) i
 
 -- of more than 256 bytes the last 256 count
 abbrev pub keptCount : List ℕ → ℕ
@@ -38,9 +39,9 @@ unfoldable pub noData : List ℕ
 noData = replicate pageBytes 0
 
 -- the program that a transaction begins in a memory of a part of n blocks: of the page (row) of A, from the place in it of the first byte that counts
-unfoldable pub programOf : Memory → ℕ → List ℕ → Operation
-programOf m n i =
-    Program m (pagePlace (placeIn m n i) (passedCount (dataSent i))) (pageBase (placeIn m n i)) (keptCount (dataSent i)) 0
+unfoldable pub programOf : Memory → Addressing → ℕ → List ℕ → Operation
+programOf m g n i =
+    Program m (pagePlace (placeIn m g n i) (passedCount (dataSent g i))) (pageBase (placeIn m g n i)) (keptCount (dataSent g i)) 0
 
 -- new = old AND data
 abbrev pub narrowedByte : ℕ → ℕ → ℕ

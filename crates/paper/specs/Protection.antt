@@ -1,18 +1,24 @@
 -- Protection: which blocks a code protects, which rows are locked, and when the pin bars a status write.
-use Prim.Native.Nat.{ℕ, _+_, _-_, _/_, _%_, _^_, min}
+use Prim.Native.Nat.{ℕ, _+_, _-_, _*_, _/_, _%_, _^_, min}
 use mathlib.Core.Bool.{Bool, not, cond}
 use lib.Dec.{eqb, ltb, leb}
 use Rattle.types.specs.declared.Blocks.{Blocks}
 use Rattle.types.specs.declared.Cell.{Cell}
+use Rattle.types.specs.declared.Stored.{Stored}
 use Rattle.words.specs.Logic.{_and_, _or_, unless, _orElse_, whenZero}
-use Rattle.paper.specs.Sizes.{sizeOk, blockBytes}
-use Rattle.paper.specs.BlockTable.{noBlocks, blockRow, cellOf}
+use Rattle.paper.specs.Sizes.{isLarge, sizeOk, blockBytes}
+use Rattle.paper.specs.Registers.{tbs}
+use Rattle.paper.specs.BlockTable.{noBlocks, tableCell}
 
 -- code c = BP3..BP0, bits 5..2 of the status
 abbrev pub codeOf : ℕ → ℕ
 codeOf status = status / 4 % 16
 
--- 01's rule, over any number n of blocks.
+-- the code with TBS, the top or bottom bit, above it: what the protection question is asked. (Other parts than the large one have no such bit, and it is 0.)
+abbrev pub wholeCode : Stored → ℕ
+wholeCode s = codeOf (s .status) + 16 * tbs (s .function)
+
+-- 01's rule, over any number n of blocks: that of every part but the large one.
 -- How many blocks a code asks for: 0 or 15 none; c = 1..7 2^(c-1); c = 8..14 2^(14-c). (A number above 15 is no code, and asks for none.)
 unfoldable pub blocksAsked : ℕ → ℕ
 blocksAsked c = cond (eqb c 0 or leb 15 c) 0 (cond (leb c 7) (2 ^ (c - 1)) (2 ^ (14 - c)))
@@ -30,6 +36,22 @@ unfoldable pub ruleBlocks : ℕ → ℕ → Blocks
 ruleBlocks c n =
     record { first = cond (protectsTop c) (n - ruleCount c n) 0; count = ruleCount c n }
 
+-- The rule of the large part, over any number n of blocks. A code asks for: 0 none; c = 1 and up 2^(c-1) (so that of 512 blocks 10 and up protect all)
+unfoldable pub largeAsked : ℕ → ℕ
+largeAsked c = cond (eqb c 0) 0 (2 ^ (c - 1))
+
+abbrev pub largeCount : ℕ → ℕ → ℕ
+largeCount c n = min n (largeAsked c)
+
+-- they are the bottom blocks or the top ones by TBS
+unfoldable pub largeBlocks : ℕ → Bool → ℕ → Blocks
+largeBlocks c bottom n =
+    record { first = cond (bottom or eqb c 0) 0 (n - largeCount c n); count = largeCount c n }
+
+-- the blocks that the rule of a part of n blocks gives for a code
+abbrev pub blocksByRule : ℕ → ℕ → Blocks
+blocksByRule c n = cond (isLarge n) (largeBlocks (c % 16) (leb 16 c) n) (ruleBlocks c n)
+
 -- a cell of the block table as blocks
 abbrev pub blocksOf : Cell → Blocks
 blocksOf k = record { first = k .0; count = k .1 }
@@ -39,16 +61,20 @@ pub record ProtectionAnswer : Type 0 where
   pub number : ℕ
   pub blocks : Blocks
 
--- its number: 0; 1 for a bad size; 5 for a code above 15; the lower first
-abbrev pub questionNumber : ℕ → ℕ → ℕ
-questionNumber c n = unless (sizeOk n) 1 orElse unless (leb c 15) 5
+-- codes are 0 to 15; of the large part 0 to 31, 16 and up with TBS 1
+abbrev pub codeMost : ℕ → ℕ
+codeMost n = cond (isLarge n) 31 15
 
--- the answer: the blocks are the cell of the code's row in the size's column, 0 and 0 for none; and 0 and 0 where the number is not 0. (The table agrees with the rule on every code and size: paper/proofs/Protected.antt.)
+-- its number: 0; 1 for a bad size; 5 for a number that is no code; the lower first
+abbrev pub questionNumber : ℕ → ℕ → ℕ
+questionNumber c n = unless (sizeOk n) 1 orElse unless (leb c (codeMost n)) 5
+
+-- the answer: the blocks are the cell of the code in the table of the size, 0 and 0 for none; and 0 and 0 where the number is not 0. (The table agrees with the rules on every code and size: paper/proofs/Protected.antt.)
 unfoldable pub question : ℕ → ℕ → ProtectionAnswer
 question c n =
     record {
       number = questionNumber c n;
-      blocks = blocksOf (whenZero (questionNumber c n) (cellOf n (blockRow c)) noBlocks);
+      blocks = blocksOf (whenZero (questionNumber c n) (tableCell c n) noBlocks);
     }
 
 -- the protected blocks: the answer without its number

@@ -5,15 +5,16 @@ use mathlib.Core.List.{List, [], _∷_}
 use lib.ListN.{length, take, drop, replicate}
 use lib.Dec.{leb}
 use Rattle.types.specs.declared.Source.{Source}
-use Rattle.types.specs.declared.Source.the-variants.{None, ArrayBytes, RowBytes, StatusByte, FunctionByte, IdentityBytes, MakerPair, DeviceByte, ExtendedByte}
+use Rattle.types.specs.declared.Source.the-variants.{None, ArrayBytes, RowBytes, StatusByte, FunctionByte, IdentityBytes, MakerPair, DeviceByte, ExtendedByte, BankByte}
 use Rattle.types.specs.declared.Columns.{Columns}
 use Rattle.types.specs.declared.Part.{Part}
+use Rattle.types.specs.declared.Addressing.{Addressing}
 use Rattle.words.specs.Logic.{_and_}
 use Rattle.words.specs.Lists.{upTo, round}
 use Rattle.paper.specs.Sizes.{pageBytes}
 use Rattle.paper.specs.Address.{addressIn, rowBase, rowByte, thirdAddressByte}
 use Rattle.paper.specs.Registers.{extendedRead}
-use Rattle.paper.specs.Table.{isRead}
+use Rattle.paper.specs.Table.{addressing, isRead}
 
 -- output places that the part doesn't drive hold FFh
 abbrev pub undrivenByte : ℕ
@@ -24,35 +25,39 @@ abbrev pub undriven : ℕ → List ℕ
 undriven n = replicate n undrivenByte
 
 -- the bytes that a command drives, round and round: array reads run on past the end to address 0, row reads wrap inside the row,
--- status, function and the extended read register repeat, 9Fh repeats M, T, C, 90h alternates M and D, ABh repeats D
-abbrev pub sourceBytes : Source → Part → List ℕ → List ℕ → List ℕ → List ℕ
-sourceBytes None p xs rs i = []
-sourceBytes ArrayBytes p xs rs i = xs
-sourceBytes RowBytes p xs rs i = take pageBytes (drop (rowBase i) rs)
-sourceBytes StatusByte p xs rs i = p .stored .status ∷ []
-sourceBytes FunctionByte p xs rs i = p .stored .function ∷ []
-sourceBytes IdentityBytes p xs rs i = p .identity .maker ∷ p .identity .kind ∷ p .identity .capacity ∷ []
-sourceBytes MakerPair p xs rs i = p .identity .maker ∷ p .identity .device ∷ []
-sourceBytes DeviceByte p xs rs i = p .identity .device ∷ []
-sourceBytes ExtendedByte p xs rs i = extendedRead (p .live) (p .stored .status) ∷ []
+-- status, function, the extended read register and the bank register repeat, 9Fh repeats M, T, C, 90h alternates M and D, ABh repeats D
+abbrev pub sourceBytes : Source → Addressing → Part → List ℕ → List ℕ → List ℕ → List ℕ
+sourceBytes None g p xs rs i = []
+sourceBytes ArrayBytes g p xs rs i = xs
+sourceBytes RowBytes g p xs rs i = take pageBytes (drop (rowBase g i) rs)
+sourceBytes StatusByte g p xs rs i = p .stored .status ∷ []
+sourceBytes FunctionByte g p xs rs i = p .stored .function ∷ []
+sourceBytes IdentityBytes g p xs rs i = p .identity .maker ∷ p .identity .kind ∷ p .identity .capacity ∷ []
+sourceBytes MakerPair g p xs rs i = p .identity .maker ∷ p .identity .device ∷ []
+sourceBytes DeviceByte g p xs rs i = p .identity .device ∷ []
+sourceBytes ExtendedByte g p xs rs i = extendedRead (p .live) (p .stored .status) ∷ []
+sourceBytes BankByte g p xs rs i = p .bank ∷ []
 
 -- at which of them it begins: at A, at the row's byte address; 90h with bit 0 of the third address byte clear: M first, set: D first
-abbrev pub sourceStart : Source → ℕ → List ℕ → ℕ
-sourceStart None n i = 0
-sourceStart ArrayBytes n i = addressIn n i
-sourceStart RowBytes n i = rowByte i
-sourceStart StatusByte n i = 0
-sourceStart FunctionByte n i = 0
-sourceStart IdentityBytes n i = 0
-sourceStart MakerPair n i = thirdAddressByte i % 2
-sourceStart DeviceByte n i = 0
-sourceStart ExtendedByte n i = 0
+abbrev pub sourceStart : Source → Addressing → ℕ → List ℕ → ℕ
+sourceStart None g n i = 0
+sourceStart ArrayBytes g n i = addressIn g n i
+sourceStart RowBytes g n i = rowByte g i
+sourceStart StatusByte g n i = 0
+sourceStart FunctionByte g n i = 0
+sourceStart IdentityBytes g n i = 0
+sourceStart MakerPair g n i = thirdAddressByte i % 2
+sourceStart DeviceByte g n i = 0
+sourceStart ExtendedByte g n i = 0
+sourceStart BankByte g n i = 0
 
 -- the byte at place j of an executed command's output
 abbrev pub outputByte : Columns → Part → List ℕ → List ℕ → List ℕ → ℕ → ℕ
 outputByte k p xs rs i j =
     cond (isRead k and leb (k .from) j)
-    (round (sourceBytes (k .source) p xs rs i) (sourceStart (k .source) (p .blocks) i) (j - k .from))
+    (round (sourceBytes (k .source) (addressing (k .named) (p .bank)) p xs rs i)
+    (sourceStart (k .source) (addressing (k .named) (p .bank)) (p .blocks) i)
+    (j - k .from))
     undrivenByte
 
 -- its whole output, as long as the input

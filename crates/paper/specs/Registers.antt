@@ -1,13 +1,16 @@
--- Registers: what a write holds, and what its one tick stores; the live byte of the extended read register.
+-- Registers: what a write holds, and what its one tick stores; the live byte of the extended read register; the bank address register.
 use Prim.Native.Nat.{ℕ, _+_, _*_, _/_, _%_}
+use mathlib.Core.Bool.{Bool}
 use mathlib.Core.List.{List}
 use lib.ListN.{getD}
 use lib.Bits.{bitOr}
+use lib.Dec.{eqb}
 use Rattle.types.specs.declared.Register.{Register}
 use Rattle.types.specs.declared.Register.the-variants.{Status, Function, Extended}
 use Rattle.types.specs.declared.Stored.{Stored}
 use Rattle.types.specs.declared.Operation.{Operation}
 use Rattle.types.specs.declared.Operation.the-variants.{Program, Erase, Write}
+use Rattle.words.specs.Logic.{bit}
 
 -- the byte that a write holds: a status write its byte with bits 1..0 zero, a function write with bits 3..0 zero, a write of the extended read register with bits 4..0 zero
 abbrev pub held : Register → ℕ → ℕ
@@ -27,15 +30,21 @@ withBytes status function s = record { status = status; function = function; ext
 abbrev pub withExtended : ℕ → Stored → Stored
 withExtended v s = record { status = s .status; function = s .function; extended = v }
 
+-- TBS, the top or bottom bit of the large part, is bit 1 of the function register: 0 top, 1 bottom
+abbrev pub tbs : ℕ → ℕ
+tbs function = function / 2 % 2
+
 -- the stored bits of registers, without those that other fields define
 abbrev pub storedBits : Stored → Stored
 storedBits s =
-    withBytes (held Status (s .status)) (held Function (s .function)) (withExtended (held Extended (s .extended)) s)
+    withBytes (held Status (s .status)) (held Function (s .function) + 2 * tbs (s .function))
+    (withExtended (held Extended (s .extended)) s)
 
--- the registers after a write's tick: 01h stores bits 7..2 (the byte that it holds has the others 0); 42h may set IRL bits and never clears one, other bits are disregarded; 85h stores bits 7..5
+-- the registers after a write's tick: 01h stores bits 7..2 (the byte that it holds has the others 0); 42h may set IRL bits and never clears one, other bits are disregarded, and TBS stays; 85h stores bits 7..5
 abbrev pub registerWritten : Register → ℕ → Stored → Stored
 registerWritten Status v s = withBytes v (s .function) s
-registerWritten Function v s = withBytes (s .status) (bitOr (s .function / 16) (v / 16) * 16) s
+registerWritten Function v s =
+    withBytes (s .status) (bitOr (s .function / 16) (v / 16) * 16 + 2 * tbs (s .function)) s
 registerWritten Extended v s = withExtended v s
 
 -- the registers after an operation's last tick
@@ -73,3 +82,23 @@ liveFailed errors live = bitOr live errors
 -- what 81h reads, of the live byte and of the status register: bits 7..5 and the error bits of the live byte; bit 4 reads 1; bit 0 is WIP, as in status
 abbrev pub extendedRead : ℕ → ℕ → ℕ
 extendedRead live status = held Extended live + 16 + live / 2 % 8 * 2 + status % 2
+
+-- the bank address register of the large part: bit 7 EXTADD, bits 6..1 zero, bit 0 the bank bit. It is 00h after power-up and reset
+abbrev pub bankLoaded : ℕ
+bankLoaded = 0
+
+-- EXTADD is 1: a far address, of four bytes
+abbrev pub extadd : ℕ → Bool
+extadd bank = eqb (bank / 128 % 2) 1
+
+-- the bank bit is 1: the upper bank
+abbrev pub upperBank : ℕ → Bool
+upperBank bank = eqb (bank % 2) 1
+
+-- B7h sets EXTADD and 29h clears it; the bank bit stays
+abbrev pub bankTurned : Bool → ℕ → ℕ
+bankTurned far bank = 128 * bit far + bank % 2
+
+-- 17h and C5h set both to those of a byte, whose bits 6..1 are disregarded
+abbrev pub bankSet : ℕ → ℕ
+bankSet b = bankTurned (extadd b) b

@@ -1,14 +1,18 @@
 -- The part on the bench: its sizes.
 use Prim.Native.Nat.{ℕ, _+_, _*_, _/_}
-use mathlib.Core.Bool.{Bool, true, false}
+use mathlib.Core.Bool.{Bool, true, false, cond}
 use lib.Dec.{eqb, ltb, leb}
 use Rattle.types.specs.declared.Memory.{Memory}
 use Rattle.types.specs.declared.Memory.the-variants.{Array, Rows}
 use Rattle.words.specs.Logic.{_and_, _or_}
 
--- 4, 8 or 16 blocks, and one short size of 1 block
+-- the large part has 512 blocks
+abbrev pub isLarge : ℕ → Bool
+isLarge n = eqb n 512
+
+-- 4, 8 or 16 blocks, and one short size of 1 block; and the large part
 unfoldable pub sizeOk : ℕ → Bool
-sizeOk n = eqb n 1 or eqb n 4 or eqb n 8 or eqb n 16
+sizeOk n = eqb n 1 or eqb n 4 or eqb n 8 or eqb n 16 or isLarge n
 
 -- a block has 65,536 bytes
 abbrev pub blockBytes : ℕ
@@ -17,6 +21,10 @@ blockBytes = 65536
 -- an array of n blocks, in bytes
 abbrev pub arrayBytes : ℕ → ℕ
 arrayBytes n = n * blockBytes
+
+-- the large part has two banks of 16,777,216 bytes
+abbrev pub bankBytes : ℕ
+bankBytes = 16777216
 
 -- the rows are a separate 1,024 bytes, four rows of 256
 abbrev pub rowsBytes : ℕ
@@ -50,6 +58,6 @@ downTo size a = a / size * size
 abbrev pub transactionLimit : ℕ
 transactionLimit = 4096
 
--- a tick call asks at most 4,096 ticks
-abbrev pub tickLimit : ℕ
-tickLimit = 4096
+-- a tick call asks at most 4,096 ticks, on the large part at most 131,072
+abbrev pub tickLimit : ℕ → ℕ
+tickLimit n = cond (isLarge n) 131072 4096

@@ -1,7 +1,7 @@
 -- A record is sound when.
-use Prim.Native.Nat.{ℕ, _%_}
+use Prim.Native.Nat.{ℕ, _+_, _*_, _/_, _%_}
 use mathlib.Core.List.{List}
-use mathlib.Core.Bool.{Bool, true, not}
+use mathlib.Core.Bool.{Bool, true, not, cond}
 use lib.ListN.{drop}
 use lib.Dec.{eqb, ltb, leb}
 use Rattle.types.specs.declared.Operation.{Operation}
@@ -13,10 +13,10 @@ use Rattle.types.specs.declared.Part.{Part}
 use Rattle.types.specs.declared.Record.{Record}
 use Rattle.words.specs.Logic.{_and_, _or_}
 use Rattle.words.specs.Lists.{allZero}
-use Rattle.paper.specs.Sizes.{sizeOk, pageBytes}
+use Rattle.paper.specs.Sizes.{isLarge, sizeOk, pageBytes}
 use Rattle.paper.specs.Phases.{isProgram, isErase, isIdle}
 use Rattle.paper.specs.Records.{statusLow, functionLow}
-use Rattle.paper.specs.Registers.{held}
+use Rattle.paper.specs.Registers.{held, tbs}
 use Rattle.paper.specs.Operations.{ticksInAll, ticksDone, aligned, inside, targetFree, canSuspend, outside, keptBy}
 
 -- asleep only if idle
@@ -56,12 +56,16 @@ phaseOk (Busy o) n s = operationOk o n s
 phaseOk (Suspended o) n s = canSuspend o and operationOk o n s
 phaseOk (Nested o e) n s = nestOk e o n and operationOk e n s and operationOk o n s
 
--- stored register bits that other fields define (WIP, WEL, ESUS, PSUS) agree with them; function bits 1..0 are 0, and so are bits 4..0 of the extended read register's stored byte
+-- stored register bits that other fields define (WIP, WEL, ESUS, PSUS) agree with them; function bit 0 is 0, bit 1 is TBS, and bits 4..0 of the extended read register's stored byte are 0
 unfoldable pub bitsOk : Phase → Bool → Stored → Bool
 bitsOk f wel s =
     eqb (s .status % 4) (statusLow f wel)
-    and eqb (s .function % 16) (functionLow f)
+    and eqb (s .function % 16) (functionLow f + 2 * tbs (s .function))
     and eqb (s .extended % 32) 0
+
+-- the large part alone has TBS, and a bank register, whose bits 6..1 are 0; with the others both are 0
+unfoldable pub largeOk : ℕ → ℕ → ℕ → Bool
+largeOk n function bank = cond (isLarge n) (eqb (bank / 2 % 64) 0) (eqb (tbs function) 0 and eqb bank 0)
 
 -- how many bytes of page data a phase keeps; within a suspended erase they belong to the inner program
 abbrev pub keptIn : Phase → ℕ
@@ -82,6 +86,7 @@ partSound p f =
     and latchOk f (p .wel)
     and phaseOk f (p .blocks) (p .stored)
     and bitsOk f (p .wel) (p .stored)
+    and largeOk (p .blocks) (p .stored .function) (p .bank)
 
 -- the whole
 unfoldable pub sound : Record → Bool

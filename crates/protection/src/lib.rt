@@ -1,13 +1,18 @@
 // Protection: which blocks a code protects, which rows are locked, and when the pin bars a status write.
 ghost use mathlib.Core.Path.{_≡_};
-ghost use Rattle.paper.specs.BlockTable.{blockRow, cellOf};
-ghost use Rattle.paper.specs.Protection.{question, among, locked, barred};
+ghost use Prim.Native.Nat.{_%_};
+ghost use lib.Dec.{leb};
+ghost use Rattle.paper.specs.BlockTable.{blockRow, largeRow, cellOf, largeCellOf};
+ghost use Rattle.paper.specs.Protection.{blocksOf, codeMost, question, among, locked, barred};
 use types::BlockRow;
 use types::Blocks;
 use types::Cell;
+use types::LargeRow;
 
-// The highest code.
+// The highest code, and that of the large part.
 const CODE_MOST: u64 = 15;
+
+const LARGE_CODE_MOST: u64 = 31;
 
 // The sixteen rows of the block table, BP3 BP2 BP1 BP0 = 0000 downward to 1111, in the layout of table 6.4 of source
 // document 000: a column for each size in the printed order, and then that of the 1-block size, which no source prints.
@@ -58,12 +63,68 @@ fn cell_of(blocks: u64, row: BlockRow) -> Cell
     }
 }
 
-// The protection question's number, of a code and a size: 0; 1 for a bad size; 5 for a code above 15; the lower first.
+// The sixteen rows of the block table of the large part, that of source document 004, with a column for each value of the top
+// or bottom bit. Rows that are printed as one (101x, 11xx) are two and four here.
+fn large_row(code: u8) -> LargeRow
+    ensures { λ r. ⌜ r ≡ largeRow code ⌝ }
+{
+    match code {
+        //                 TBS 0, top      TBS 1, bottom
+        0b0000 => LargeRow(Cell(000, 000), Cell(000, 000)),
+        0b0001 => LargeRow(Cell(511, 001), Cell(000, 001)),
+        0b0010 => LargeRow(Cell(510, 002), Cell(000, 002)),
+        0b0011 => LargeRow(Cell(508, 004), Cell(000, 004)),
+        0b0100 => LargeRow(Cell(504, 008), Cell(000, 008)),
+        0b0101 => LargeRow(Cell(496, 016), Cell(000, 016)),
+        0b0110 => LargeRow(Cell(480, 032), Cell(000, 032)),
+        0b0111 => LargeRow(Cell(448, 064), Cell(000, 064)),
+        0b1000 => LargeRow(Cell(384, 128), Cell(000, 128)),
+        0b1001 => LargeRow(Cell(256, 256), Cell(000, 256)),
+        0b1010 => LargeRow(Cell(000, 512), Cell(000, 512)),
+        0b1011 => LargeRow(Cell(000, 512), Cell(000, 512)),
+        0b1100 => LargeRow(Cell(000, 512), Cell(000, 512)),
+        0b1101 => LargeRow(Cell(000, 512), Cell(000, 512)),
+        0b1110 => LargeRow(Cell(000, 512), Cell(000, 512)),
+        0b1111 => LargeRow(Cell(000, 512), Cell(000, 512)),
+        _ => LargeRow(Cell(000, 000), Cell(000, 000)), // no code
+    }
+}
+
+// The cell of a code of the large part: bit 4 is the top or bottom bit.
+fn large_cell(code: u8) -> Cell
+    ensures { λ r. ⌜ r ≡ largeCellOf (leb 16 code) (largeRow (code % 16)) ⌝ }
+{
+    let row = large_row(code % 16);
+    if 16 <= code { row.1 } else { row.0 }
+}
+
+fn blocks_of(cell: Cell) -> Blocks
+    ensures { λ r. ⌜ r ≡ blocksOf cell ⌝ }
+{
+    Blocks {
+        first: cell.0,
+        count: cell.1,
+    }
+}
+
+// The highest code on a part of so many blocks.
+fn code_most(blocks: u64) -> u64
+    ensures { λ r. ⌜ r ≡ codeMost blocks ⌝ }
+{
+    if sizes::is_large(blocks) {
+        LARGE_CODE_MOST
+    } else {
+        CODE_MOST
+    }
+}
+
+// The protection question's number, of a code and a size: 0; 1 for a bad size; 5 for a number that is no code; the lower
+// first.
 pub fn question_number(code: u64, blocks: u64) -> u8
     ensures { λ r. ⌜ r ≡ question code blocks .number ⌝ }
 {
     let size = sizes::size_ok(blocks);
-    let known = code <= CODE_MOST;
+    let known = code <= code_most(blocks);
     words::number_or(size, 1, words::number_or(known, 5, 0))
 }
 
@@ -72,14 +133,16 @@ pub fn question_number(code: u64, blocks: u64) -> u8
 pub fn protected_blocks(code: u64, blocks: u64) -> Blocks
     ensures { λ r. ⌜ r ≡ question code blocks .blocks ⌝ }
 {
+    if sizes::is_large(blocks) {
+        if LARGE_CODE_MOST < code {
+            return Blocks { first: 0, count: 0 };
+        }
+        return blocks_of(large_cell(code as u8));
+    }
     if CODE_MOST < code {
         return Blocks { first: 0, count: 0 };
     }
-    let cell = cell_of(blocks, block_row(code as u8));
-    Blocks {
-        first: cell.0,
-        count: cell.1,
-    }
+    blocks_of(cell_of(blocks, block_row(code as u8)))
 }
 
 // Whether a block is one of these blocks. (The difference wraps for a block below the first, and is then above every count.)

@@ -6,6 +6,7 @@ use Rattle.record.proofs.settle.Reads as settle
 use Rattle.record.proofs.fresh_part.Reads as fresh-part
 use Rattle.record.proofs.no_stored.Reads as no-stored
 use Rattle.record.proofs.zero_record.Reads as zero-record
+use Rattle.record.proofs.large_ok.Reads as large-ok
 use Rattle.record.proofs.bits_ok.Reads as bits-ok
 use Rattle.record.proofs.power_up.Reads as power-up
 
@@ -26,6 +27,9 @@ no-stored-one κ a x y s t p q = agree p q
 
 pub zero-record-one : OneResult zero-record.Learnt
 zero-record-one κ a x y s t p q = agree p q
+
+pub large-ok-one : OneResult large-ok.Learnt
+large-ok-one κ a x y s t p q = agree p q
 
 pub bits-ok-one : OneResult bits-ok.Learnt
 bits-ok-one κ a x y s t p q = agree p q

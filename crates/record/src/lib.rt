@@ -5,7 +5,7 @@ ghost use Rattle.words.specs.Logic.{bit};
 ghost use Rattle.paper.specs.Program.{noData};
 ghost use Rattle.paper.specs.Phases.{isErase, isProgram};
 ghost use Rattle.paper.specs.Records.{statusLow, functionLow, registersIn, made, settled, freshPart, fresh};
-ghost use Rattle.paper.specs.Soundness.{bitsOk};
+ghost use Rattle.paper.specs.Soundness.{bitsOk, largeOk};
 ghost use Rattle.paper.specs.Numbers.{powerUpNumber};
 ghost use Rattle.paper.specs.Calls.{noStored, zeroRecord, poweredUp};
 use types::Identity;
@@ -64,12 +64,13 @@ fn registers_in(phase: Phase, wel: bool, stored: Stored) -> Stored
     let extended = operations::held_byte(Register::Extended, stored.extended);
     let mut next = stored;
     next.status = status + low_status;
-    next.function = function + low_function;
+    next.function = function + 2 * (stored.function / 2 % 2) + low_function;
     next.extended = extended;
     next
 }
 
-// A part in a phase, with the stored bits of some registers and with a latch. Size, identity, marks and live byte stay.
+// A part in a phase, with the stored bits of some registers and with a latch. Size, identity, marks, live byte and bank
+// register stay.
 pub fn make(part: Part, stored: Stored, phase: Phase, wel: bool) -> Part
     ensures { λ r. ⌜ r ≡ made part stored phase wel ⌝ }
 {
@@ -88,7 +89,7 @@ pub fn settle(part: Part, phase: Phase, wel: bool) -> Part
     make(part, stored, phase, wel)
 }
 
-// An awake, unarmed part with WEL 0 and the live byte loaded, for an idle phase.
+// An awake, unarmed part with WEL 0, the live byte loaded and the bank register 00h, for an idle phase.
 pub fn fresh_part(blocks: u16, identity: Identity, stored: Stored) -> Part
     ensures { λ r. ⌜ r ≡ freshPart blocks identity stored ⌝ }
 {
@@ -101,6 +102,7 @@ pub fn fresh_part(blocks: u16, identity: Identity, stored: Stored) -> Part
         armed: false,
         asleep: false,
         live: registers.extended,
+        bank: 0,
     }
 }
 
@@ -141,13 +143,27 @@ pub fn zero_record() -> Record
     make_fresh(1, identity, stored)
 }
 
-// Whether WIP, WEL, ESUS and PSUS in the registers are those that phase and latch define, and function bits 1..0 and bits
-// 4..0 of the extended read register's stored byte zero.
+// Whether what the large part alone has can stand in a part of so many blocks: bits 6..1 of its bank register are zero;
+// other parts have neither TBS nor a bank register.
+pub fn large_ok(blocks: u16, function: u8, bank: u8) -> bool
+    ensures { λ r. ⌜ r ≡ largeOk blocks function bank ⌝ }
+{
+    if sizes::is_large(blocks as u64) {
+        return bank / 2 % 64 == 0;
+    }
+    let top = function / 2 % 2 == 0;
+    let none = bank == 0;
+    words::both(top, none)
+}
+
+// Whether WIP, WEL, ESUS and PSUS in the registers are those that phase and latch define, and function bit 0 and bits 4..0 of
+// the extended read register's stored byte zero.
 pub fn bits_ok(phase: Phase, wel: bool, stored: Stored) -> bool
     ensures { λ r. ⌜ r ≡ bitsOk phase wel stored ⌝ }
 {
     let latches = stored.status % 4 == status_low(phase, wel);
-    let marks = stored.function % 16 == function_low(phase);
+    let tbs = 2 * (stored.function / 2 % 2);
+    let marks = stored.function % 16 == function_low(phase) + tbs;
     let extended = stored.extended % 32 == 0;
     words::both(latches, words::both(marks, extended))
 }
@@ -157,7 +173,8 @@ fn power_up_number(blocks: u16, stored: Stored) -> u8
 {
     let size = sizes::size_ok(blocks as u64);
     let bits = bits_ok(Phase::Idle, false, stored);
-    words::number_or(size, 1, words::number_or(bits, 5, 0))
+    let registers = words::both(bits, large_ok(blocks, stored.function, 0));
+    words::number_or(size, 1, words::number_or(registers, 5, 0))
 }
 
 // Power-up: an idle, awake, unarmed record with WEL 0 and page data zero; refused, with 1 or 5, an idle

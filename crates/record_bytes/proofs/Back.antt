@@ -34,9 +34,9 @@ mark-back : (m : Bool) → eqb (bit m) 1 ≡ m
 mark-back true = refl
 mark-back false = refl
 
-same-fields : (b b′ : ℕ) (i : Identity) (s : Stored) (w w′ a a′ z z′ : Bool) (v : ℕ) → b ≡ b′ → w ≡ w′ → a ≡ a′ → z ≡ z′
-    → _≡_ {A = Part} record { blocks = b; identity = i; stored = s; wel = w; armed = a; asleep = z; live = v } record { blocks = b′; identity = i; stored = s; wel = w′; armed = a′; asleep = z′; live = v }
-same-fields b b′ i s w w′ a a′ z z′ v eb ew ea ez = rw (eb, ew, ea, ez)
+same-fields : (b b′ : ℕ) (i : Identity) (s : Stored) (w w′ a a′ z z′ : Bool) (v k : ℕ) → b ≡ b′ → w ≡ w′ → a ≡ a′ → z ≡ z′
+    → _≡_ {A = Part} record { blocks = b; identity = i; stored = s; wel = w; armed = a; asleep = z; live = v; bank = k } record { blocks = b′; identity = i; stored = s; wel = w′; armed = a′; asleep = z′; live = v; bank = k }
+same-fields b b′ i s w w′ a a′ z z′ v k eb ew ea ez = rw (eb, ew, ea, ez)
 
 page-back : (p : Record) → drop headerLength (recordBytes p) ≡ p .page
 unfolding recordBytes partBytes worksBytes operationBytes
@@ -60,7 +60,7 @@ module _ (p : Record) (h : Fits p) where
   part-back : partIn (recordBytes p) ≡ p .part
   unfolding partIn recordBytes partBytes worksBytes operationBytes
   part-back =
-      same-fields _ _ (p .part .identity) (p .part .stored) _ _ _ _ _ _ (p .part .live) (number-back 2 (p .part .blocks) (h .blocks)) (mark-back (p .part .wel)) (mark-back (p .part .armed)) (mark-back (p .part .asleep))
+      same-fields _ _ (p .part .identity) (p .part .stored) _ _ _ _ _ _ (p .part .live) (p .part .bank) (number-back 2 (p .part .blocks) (h .blocks)) (mark-back (p .part .wel)) (mark-back (p .part .armed)) (mark-back (p .part .asleep))
 
   phase-in-back : phaseIn (recordBytes p) ≡ p .phase
   phase-in-back = rw (running-back, halted-back) (phase-works (p .phase))

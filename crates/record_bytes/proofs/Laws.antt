@@ -150,7 +150,7 @@ none-bytes = refl
 pub part-as : (p : Part) (w a z : ℕ) → w ≡ bit (p .wel) → a ≡ bit (p .armed) → z ≡ bit (p .asleep)
     → p .blocks / 256 % 256 ∷ p .blocks % 256
     ∷ p .identity .maker ∷ p .identity .kind ∷ p .identity .capacity ∷ p .identity .device
-    ∷ (storedBytes (p .stored) ++ (w ∷ a ∷ z ∷ p .live ∷ []))
+    ∷ (storedBytes (p .stored) ++ (w ∷ a ∷ z ∷ p .live ∷ p .bank ∷ []))
     ≡ partBytes p
 unfolding partBytes
 part-as p w a z ew ea ez = rw (ew, ea, ez)

@@ -25,7 +25,7 @@ use Rattle.cells.specs.declared.Cells.{Cells}
 use Rattle.cells.specs.Operations.{cellsOf, workCells, operationIn}
 use Rattle.record_bytes.specs.declared.Found.{Found}
 use Rattle.record_bytes.specs.declared.Seen.{Seen}
-use Rattle.record_bytes.specs.Layout.{welAt, armedAt, asleepAt, liveAt, baseAt, countAt, doneAt, operationLength, runningAt, haltedAt, spareAt, spareLength, phaseLength, headerLength, recordLength, partBytes, operationBytes, worksBytes, phaseBytes, operationAt}
+use Rattle.record_bytes.specs.Layout.{welAt, armedAt, asleepAt, liveAt, bankAt, baseAt, countAt, doneAt, operationLength, runningAt, haltedAt, spareAt, spareLength, phaseLength, headerLength, recordLength, partBytes, operationBytes, worksBytes, phaseBytes, operationAt}
 use Rattle.record_bytes.specs.Read.{numberAt, marksIn, sameCells, sameBytes, cellsIn, workAt, storedOf, partIn, phaseIn, fieldsIn, holds, nothing, recordIn, found, seen, Fitting}
 use Rattle.record_bytes.proofs.Laws.{two-bytes, operation-length, none-bytes}
 use Rattle.record_bytes.proofs.Same.{same-append, same-number}
@@ -53,7 +53,7 @@ regroup false b c d = refl
 -- a part with its fields in the bytes f 0, f 1, ..
 abbrev partOf : (ℕ → ℕ) → Part
 partOf f =
-    record { blocks = f 0 * 256 + f 1; identity = record { maker = f 2; kind = f 3; capacity = f 4; device = f 5 }; stored = storedOf f; wel = eqb (f welAt) 1; armed = eqb (f armedAt) 1; asleep = eqb (f asleepAt) 1; live = f liveAt }
+    record { blocks = f 0 * 256 + f 1; identity = record { maker = f 2; kind = f 3; capacity = f 4; device = f 5 }; stored = storedOf f; wel = eqb (f welAt) 1; armed = eqb (f armedAt) 1; asleep = eqb (f asleepAt) 1; live = f liveAt; bank = f bankAt }
 
 -- an operation compared with bytes: its cells are with theirs
 module _ (xs : List ℕ) (l : length xs ≡ operationLength) (low : (j : ℕ) → getD xs j 0 < 256) where

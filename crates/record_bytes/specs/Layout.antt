@@ -29,7 +29,7 @@ storedBytes s = s .status ∷ s .function ∷ s .extended ∷ []
 abbrev pub storedLength : ℕ
 storedLength = length (storedBytes noStored)
 
--- they stand behind blocks and identity, and behind them WEL, the marks and the live byte
+-- they stand behind blocks and identity, and behind them WEL, the marks, the live byte and the bank register
 abbrev pub storedAt : ℕ
 storedAt = 6
 
@@ -48,9 +48,12 @@ asleepAt = marksAt + 2
 abbrev pub liveAt : ℕ
 liveAt = marksAt + 3
 
+abbrev pub bankAt : ℕ
+bankAt = marksAt + 4
+
 -- so many bytes of a header say what a part is
 abbrev pub partLength : ℕ
-partLength = marksAt + 4
+partLength = marksAt + 5
 
 -- an operation has so many: its kind, its start or value, and in eight bytes each its base, its count and its ticks done
 abbrev pub baseAt : ℕ
@@ -90,13 +93,13 @@ headerLength = partLength + phaseLength
 abbrev pub recordLength : ℕ
 recordLength = headerLength + pageBytes
 
--- what a part is: at 0 blocks, at 2 identity M, T, C, D, at 6 the registers, then WEL, armed, asleep, the live byte
+-- what a part is: at 0 blocks, at 2 identity M, T, C, D, at 6 the registers, then WEL, armed, asleep, the live byte, the bank register
 unfoldable pub partBytes : Part → List ℕ
 partBytes p =
     highFirstBytes 2 (p .blocks)
     ++ (p .identity .maker ∷ p .identity .kind ∷ p .identity .capacity ∷ p .identity .device ∷ [])
     ++ storedBytes (p .stored)
-    ++ (bit (p .wel) ∷ bit (p .armed) ∷ bit (p .asleep) ∷ p .live ∷ [])
+    ++ (bit (p .wel) ∷ bit (p .armed) ∷ bit (p .asleep) ∷ p .live ∷ p .bank ∷ [])
 
 -- an operation
 unfoldable pub operationBytes : Cells → List ℕ

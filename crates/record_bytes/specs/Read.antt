@@ -20,7 +20,7 @@ use Rattle.cells.specs.declared.Cells.{Cells}
 use Rattle.cells.specs.Operations.{cells, workCells, workOf}
 use Rattle.record_bytes.specs.declared.Found.{Found}
 use Rattle.record_bytes.specs.declared.Seen.{Seen}
-use Rattle.record_bytes.specs.Layout.{storedAt, welAt, armedAt, asleepAt, liveAt, baseAt, countAt, doneAt, runningAt, haltedAt, headerLength, recordLength, header, operationAt}
+use Rattle.record_bytes.specs.Layout.{storedAt, welAt, armedAt, asleepAt, liveAt, bankAt, baseAt, countAt, doneAt, runningAt, haltedAt, headerLength, recordLength, header, operationAt}
 
 -- the number that k bytes from a place on are
 abbrev pub numberAt : List ℕ → ℕ → ℕ → ℕ
@@ -41,7 +41,7 @@ storedOf f = record { status = f storedAt; function = f (storedAt + 1); extended
 -- the fields of a part at their places, whatever stands there
 unfoldable pub partIn : List ℕ → Part
 partIn bs =
-    record { blocks = numberAt bs 0 2; identity = record { maker = getD bs 2 0; kind = getD bs 3 0; capacity = getD bs 4 0; device = getD bs 5 0 }; stored = storedOf (λ j. getD bs j 0); wel = eqb (getD bs welAt 0) 1; armed = eqb (getD bs armedAt 0) 1; asleep = eqb (getD bs asleepAt 0) 1; live = getD bs liveAt 0 }
+    record { blocks = numberAt bs 0 2; identity = record { maker = getD bs 2 0; kind = getD bs 3 0; capacity = getD bs 4 0; device = getD bs 5 0 }; stored = storedOf (λ j. getD bs j 0); wel = eqb (getD bs welAt 0) 1; armed = eqb (getD bs armedAt 0) 1; asleep = eqb (getD bs asleepAt 0) 1; live = getD bs liveAt 0; bank = getD bs bankAt 0 }
 
 -- the phase so
 abbrev pub phaseIn : List ℕ → Phase

@@ -1,7 +1,7 @@
 // The places of a record's fields in its bytes. Numbers stand high byte first. Each place is given by the one before it.
 
-// What the part is: two bytes of blocks, the identity M, T, C, D, the stored registers, WEL, the marks, and the live byte
-// of the extended read register.
+// What the part is: two bytes of blocks, the identity M, T, C, D, the stored registers, WEL, the marks, the live byte of the
+// extended read register, and the bank register.
 pub const BLOCKS: usize = 0;
 
 pub const MAKER: usize = BLOCKS + 2;
@@ -26,9 +26,11 @@ pub const ASLEEP: usize = ARMED + 1;
 
 pub const LIVE: usize = ASLEEP + 1;
 
+pub const BANK: usize = LIVE + 1;
+
 // What it does, in cells: what runs, and what is suspended. Zeros stand behind them, so many that with page data an idle
 // part has 320 bytes in a row that are 0: they are looked at in wide steps, with none left over.
-pub const RUNNING: usize = LIVE + 1;
+pub const RUNNING: usize = BANK + 1;
 
 pub const HALTED: usize = RUNNING + OPERATION_BYTES;
 

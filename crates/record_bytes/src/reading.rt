@@ -67,6 +67,7 @@ fn part_in(bytes: &[u8]) -> Part
         armed: bytes[places::ARMED] == 1,
         asleep: bytes[places::ASLEEP] == 1,
         live: bytes[places::LIVE],
+        bank: bytes[places::BANK],
     }
 }
 

@@ -42,6 +42,7 @@ fn part_bytes(part: Part) -> [u8; places::RUNNING]
         armed,
         asleep,
         part.live,
+        part.bank,
     ]
 }
 
@@ -214,8 +215,8 @@ fn write_page(becomes: Data, input: &[u8], page: &mut [u8])
 {
     match becomes {
         Data::Kept => {}
-        Data::Sent => {
-            let kept = sent::page_data(input);
+        Data::Sent(form) => {
+            let kept = sent::page_data(form, input);
             bytes::copy(&kept, page);
         }
         Data::Zero => runs::fill(page, 0),

@@ -1,9 +1,10 @@
 // The refusals of the transaction and the tick call, the numbers 1 to 6, in the paper's order.
 ghost use mathlib.Core.Path.{_≡_};
 ghost use Rattle.words.specs.Logic.{_orElse_};
-ghost use Rattle.paper.specs.Numbers.{sizeNumber, rowsNumber, laterRefusal, transactionRefusal, laterTickNumber, tickNumber};
+ghost use Rattle.paper.specs.Sizes.{tickLimit};
+ghost use Rattle.paper.specs.Numbers.{sizeNumber, rowsNumber, laterRefusal, transactionRefusal, tickNumber};
 
-// 1 where the size is not 1, 4, 8 or 16 blocks, or the array's length is not the size; else the number of the tests
+// 1 where the size is not 1, 4, 8, 16 or 512 blocks, or the array's length is not the size; else the number of the tests
 // that follow.
 pub fn size_number_or(blocks: u16, array: usize, rest: u8) -> u8
     ensures { λ r. ⌜ r ≡ (sizeNumber blocks array orElse rest) ⌝ }
@@ -47,18 +48,22 @@ pub fn transaction_refusal(
     size_number_or(blocks, array, later_refusal(sound, rows, n, o))
 }
 
-// A tick call's 2, 5 and 6, which go by no size.
-pub fn later_tick_number(sound: bool, rows: usize, ticks: usize) -> u8
-    ensures { λ r. ⌜ r ≡ laterTickNumber sound rows ticks ⌝ }
+// The most ticks that a call may ask of a part of so many blocks.
+fn tick_limit(blocks: u16) -> usize
+    ensures { λ r. ⌜ r ≡ tickLimit blocks ⌝ }
 {
-    let few = ticks <= types::TICKS_MOST;
-    let n5 = words::number_or(sound, 5, words::number_or(few, 6, 0));
-    rows_number_or(rows, n5)
+    if sizes::is_large(blocks as u64) {
+        types::LARGE_TICKS_MOST
+    } else {
+        types::TICKS_MOST
+    }
 }
 
 // A tick call's 1, 2, 5 and 6; 0 where it is not refused.
 pub fn tick_number(blocks: u16, sound: bool, array: usize, rows: usize, ticks: usize) -> u8
     ensures { λ r. ⌜ r ≡ tickNumber blocks sound array rows ticks ⌝ }
 {
-    size_number_or(blocks, array, later_tick_number(sound, rows, ticks))
+    let few = ticks <= tick_limit(blocks);
+    let n5 = words::number_or(sound, 5, words::number_or(few, 6, 0));
+    size_number_or(blocks, array, rows_number_or(rows, n5))
 }

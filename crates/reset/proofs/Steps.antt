@@ -1,10 +1,11 @@
 -- What ABh, 66h and 99h each make of a sound record, and what a power-up with a record's stored register bits gives.
-use Prim.Native.Nat.{ℕ, _%_}
+use Prim.Native.Nat.{ℕ, _+_, _*_, _%_}
 use mathlib.Core.Path.{_≡_, refl, ap, _∙_}
 use mathlib.Core.Bool.{Bool, true, false, not}
 use mathlib.Core.List.{[], _∷_}
 use native.Mathlib.Omega.{arith}
-use borrow.Author.Tests.{not-true}
+use lib.Dec.{eqb}
+use borrow.Author.Tests.{not-true, eq-eqb}
 use Rattle.types.specs.declared.Phase.{Phase}
 use Rattle.types.specs.declared.Work.the-variants.{NoWork}
 use Rattle.types.specs.declared.Register.the-variants.{Status, Function, Extended}
@@ -16,15 +17,17 @@ use Rattle.types.specs.declared.Answer.{Answer}
 use Rattle.types.specs.declared.Record.{Record}
 use Rattle.words.specs.Logic.{_and_, _or_, unless, _orElse_}
 use Rattle.paper.specs.Sizes.{sizeOk}
-use Rattle.paper.specs.Registers.{held, storedBits}
+use Rattle.paper.specs.Registers.{held, tbs, storedBits, bankLoaded}
 use Rattle.paper.specs.Phases.{isBusy}
 use Rattle.paper.specs.Records.{marked, fresh}
-use Rattle.paper.specs.Soundness.{sleepOk, sound, bitsOk}
+use Rattle.paper.specs.Soundness.{sleepOk, sound, bitsOk, largeOk}
 use Rattle.paper.specs.Numbers.{commandNumber, powerUpNumber}
-use Rattle.paper.specs.Table.{decoded, columns}
+use Rattle.paper.specs.Table.{columns}
 use Rattle.paper.specs.Calls.{poweredUp}
 use Rattle.paper.specs.History.{recordAfterCall}
+use Rattle.paper.proofs.Table.{known}
 use Rattle.paper.proofs.Phases.{busy-not-idle}
+use Rattle.paper.proofs.MadeSound.{stored-large}
 use Rattle.paper.proofs.Soundness.{recordOf, sound-parts}
 use Rattle.paper.proofs.Answers.{executes, ignores, arm-number, reset-number}
 use Rattle.reset.specs.Closing.{wake, arm, answerToReset}
@@ -42,12 +45,12 @@ busy-awake f asleep b h = not-true asleep (rw (busy-not-idle f b) at h)
 
 module _ (p : Record) (s : sound p ≡ true) (wp : Bool) where
   woken-as : (busy : Bool) → isBusy (p .phase) ≡ busy → recordAfterCall (wake wp) p .part .asleep ≡ false
-  unfolding decoded unless
+  unfolding unless
   woken-as true e =
-      ap (λ (t : Answer). t .next .part .asleep) (ignores p s wp Wake (0xAB ∷ []) (omega arith) (omega arith) refl 21 (wake-number (p .part) (p .phase) wp true e))
+      ap (λ (t : Answer). t .next .part .asleep) (ignores p s wp Wake (0xAB ∷ []) (omega arith) (omega arith) (known 0xAB Wake refl refl (p .part .blocks) (p .part .bank)) 21 (wake-number (p .part) (p .phase) wp true e))
       ∙ busy-awake (p .phase) (p .part .asleep) e (sound-parts p s .sleep)
   woken-as false e =
-      ap (λ (t : Answer). t .next .part .asleep) (executes p s wp Wake (0xAB ∷ []) (omega arith) (omega arith) refl (wake-number (p .part) (p .phase) wp false e))
+      ap (λ (t : Answer). t .next .part .asleep) (executes p s wp Wake (0xAB ∷ []) (omega arith) (omega arith) (known 0xAB Wake refl refl (p .part .blocks) (p .part .bank)) (wake-number (p .part) (p .phase) wp false e))
 
   -- after ABh, executed or ignored, a part is awake
   pub woken : recordAfterCall (wake wp) p .part .asleep ≡ false
@@ -56,22 +59,23 @@ module _ (p : Record) (s : sound p ≡ true) (wp : Bool) where
   -- 66h arms an awake part
   module _ (awake : p .part .asleep ≡ false) where
     pub armed-now : recordAfterCall (arm wp) p ≡ recordOf (marked (p .part) true) (p .phase) (p .page)
-    unfolding decoded
-    armed-now = ap (λ (t : Answer). t .next) (executes p s wp ArmReset (0x66 ∷ []) (omega arith) (omega arith) refl (arm-number (p .part) (p .phase) awake wp))
+    armed-now = ap (λ (t : Answer). t .next) (executes p s wp ArmReset (0x66 ∷ []) (omega arith) (omega arith) (known 0x66 ArmReset refl refl (p .part .blocks) (p .part .bank)) (arm-number (p .part) (p .phase) awake wp))
 
     -- 99h resets an awake and armed part
     pub reset-now : p .part .armed ≡ true → answerToReset wp p ≡ record { next = fresh (p .part .blocks) (p .part .identity) (p .part .stored); number = 0; first = 1 }
-    unfolding decoded unless
-    reset-now a = executes p s wp Reset (0x99 ∷ []) (omega arith) (omega arith) refl (reset-number (p .part) (p .phase) awake wp true a)
+    unfolding unless
+    reset-now a = executes p s wp Reset (0x99 ∷ []) (omega arith) (omega arith) (known 0x99 Reset refl refl (p .part .blocks) (p .part .bank)) (reset-number (p .part) (p .phase) awake wp true a)
 
--- a power-up with stored bits is not refused, and gives the record that goes by them
-pub powered-as : (n : ℕ) (id : Identity) (g : Stored) → sizeOk n ≡ true → poweredUp n id (storedBits g) ≡ record { next = fresh n id g; number = 0 }
+-- a power-up with the stored bits of registers that the part can have is not refused, and gives the record that goes by them
+pub powered-as : (n : ℕ) (id : Identity) (g : Stored) → sizeOk n ≡ true → largeOk n (g .function) bankLoaded ≡ true → poweredUp n id (storedBits g) ≡ record { next = fresh n id g; number = 0 }
 unfolding poweredUp powerUpNumber bitsOk _and_ unless _orElse_
-powered-as n id g h =
+powered-as n id g h l =
+    let fn = storedBits g .function in
     let a : held Status (g .status) % 4 ≡ 0 = omega arith in
-    let b : held Function (g .function) % 16 ≡ 0 = omega arith in
+    let b : eqb (fn % 16) (0 + 2 * tbs fn) ≡ true = eq-eqb (fn % 16) (0 + 2 * tbs fn) (omega arith) in
     let c : held Status (held Status (g .status)) ≡ held Status (g .status) = omega arith in
-    let d : held Function (held Function (g .function)) ≡ held Function (g .function) = omega arith in
+    let d : held Function fn ≡ held Function (g .function) = omega arith in
+    let t : tbs fn ≡ tbs (g .function) = omega arith in
     let e : held Extended (g .extended) % 32 ≡ 0 = omega arith in
     let f : held Extended (held Extended (g .extended)) ≡ held Extended (g .extended) = omega arith in
-    rw (h, a, b, c, d, e, f)
+    rw (h, stored-large n g bankLoaded ∙ l, a, b, c, d, t, e, f)

@@ -14,7 +14,7 @@ use Rattle.paper.specs.Soundness.{sound}
 use Rattle.paper.specs.Calls.{poweredUp}
 use Rattle.paper.specs.History.{Call, recordAfterCall, recordAfterCalls, history}
 use Rattle.paper.proofs.Soundness.{recordOf, sound-parts}
-use Rattle.paper.proofs.Kept.{power-up-sound, powered-fresh}
+use Rattle.paper.proofs.Kept.{unbanked, power-up-sound, powered-fresh}
 use Rattle.paper.proofs.CallKept.{calls-sound, calls-size}
 use Rattle.paper.proofs.Histories.{calls-append, history-append}
 use Rattle.reset.specs.Closing.{wake, arm, reset, allAside, untilArmed, untilReset, closing, poweredAs, answerToReset, FreshAfter}
@@ -85,7 +85,7 @@ module _ (w1 w2 w3 : Bool) (b c : List Call) (p : Record) where
         let i : atReset .part .identity ≡ id = calls-identity (untilReset w1 w2 b c) p ∙ ei in
         ap (λ (k : ℕ). poweredAs k id atReset) (sym m)
         ∙ ap (λ (j : Identity). poweredAs (atReset .part .blocks) j atReset) (sym i)
-        ∙ powered-as (atReset .part .blocks) (atReset .part .identity) (atReset .part .stored) (sound-parts atReset (ready .is-sound) .size)
+        ∙ powered-as (atReset .part .blocks) (atReset .part .identity) (atReset .part .stored) (sound-parts atReset (ready .is-sound) .size) (unbanked (atReset .part .blocks) (atReset .part .stored .function) (atReset .part .bank) (sound-parts atReset (ready .is-sound) .large))
 
     fresh-as : (n : ℕ) (id : Identity) → p .part .blocks ≡ n → p .part .identity ≡ id → FreshAfter n id w1 w2 w3 b c p
     fresh-as n id en ei =

@@ -1,12 +1,13 @@
 // What a transaction names, and the operation that it begins.
 ghost use mathlib.Core.Path.{_≡_};
-ghost use Prim.Native.Nat.{_-_, _%_};
+ghost use Prim.Native.Nat.{_+_, _-_, _%_};
 ghost use lib.ListN.{getD};
-ghost use Rattle.paper.specs.Address.{addressSent, addressIn, rowOk, rowBase, rowByte, placeIn};
+ghost use Rattle.paper.specs.Address.{addressCount, addressSent, addressIn, rowOk, rowBase, rowByte, placeIn};
 ghost use Rattle.paper.specs.Program.{dataSent, keptCount, passedCount, pageData, programOf};
 ghost use Rattle.paper.specs.Erase.{eraseOf};
 ghost use Rattle.paper.specs.Registers.{writeOf};
 ghost use Rattle.paper.specs.Commands.{begins};
+use types::Addressing;
 use types::Effect;
 use types::EraseUnit;
 use types::Memory;
@@ -22,17 +23,23 @@ pub fn byte_at(input: &[u8], place: usize) -> u8
 }
 
 // The address as it was sent.
-fn address_as_sent(input: &[u8]) -> usize
-    ensures { λ r. ⌜ r ≡ addressSent (now (input .entry)) ⌝ }
+fn address_as_sent(form: Addressing, input: &[u8]) -> usize
+    ensures { λ r. ⌜ r ≡ addressSent form (now (input .entry)) ⌝ }
 {
-    address::address_sent(input, 3)
+    match form {
+        Addressing::Three(upper) => {
+            let bank = (words::bit_of(upper) as usize) * types::BANK_BYTES;
+            bank + address::address_sent(input, 3)
+        }
+        Addressing::Four => address::address_sent(input, 4),
+    }
 }
 
 // A: the address taken modulo the array size. (A part of no blocks does not exist; there it is the address as sent.)
-pub fn address_in(blocks: u16, input: &[u8]) -> usize
-    ensures { λ r. ⌜ r ≡ addressIn blocks (now (input .entry)) ⌝ }
+pub fn address_in(form: Addressing, blocks: u16, input: &[u8]) -> usize
+    ensures { λ r. ⌜ r ≡ addressIn form blocks (now (input .entry)) ⌝ }
 {
-    let a = address_as_sent(input);
+    let a = address_as_sent(form, input);
     let size = (blocks as usize) * types::BLOCK_BYTES;
     if size == 0 {
         return a;
@@ -41,81 +48,93 @@ pub fn address_in(blocks: u16, input: &[u8]) -> usize
 }
 
 // Whether the address that was sent is a row address.
-pub fn row_ok(input: &[u8]) -> bool
-    ensures { λ r. ⌜ r ≡ rowOk (now (input .entry)) ⌝ }
+pub fn row_ok(form: Addressing, input: &[u8]) -> bool
+    ensures { λ r. ⌜ r ≡ rowOk form (now (input .entry)) ⌝ }
 {
-    let a = address_as_sent(input);
+    let a = address_as_sent(form, input);
     let row = a / 4096 < 4;
     let low = a / 256 % 16 == 0;
     words::both(row, low)
 }
 
 // Where the row that was named begins.
-pub fn row_base(input: &[u8]) -> usize
-    ensures { λ r. ⌜ r ≡ rowBase (now (input .entry)) ⌝ }
+pub fn row_base(form: Addressing, input: &[u8]) -> usize
+    ensures { λ r. ⌜ r ≡ rowBase form (now (input .entry)) ⌝ }
 {
-    address_as_sent(input) / 4096 * types::PAGE_BYTES
+    address_as_sent(form, input) / 4096 * types::PAGE_BYTES
 }
 
 // The byte address in the row that was named.
-pub fn row_byte(input: &[u8]) -> usize
-    ensures { λ r. ⌜ r ≡ rowByte (now (input .entry)) ⌝ }
+pub fn row_byte(form: Addressing, input: &[u8]) -> usize
+    ensures { λ r. ⌜ r ≡ rowByte form (now (input .entry)) ⌝ }
 {
-    address_as_sent(input) % 256
+    address_as_sent(form, input) % 256
 }
 
 // The place in a memory that a transaction names.
-fn place_in(memory: Memory, blocks: u16, input: &[u8]) -> usize
-    ensures { λ r. ⌜ r ≡ placeIn memory blocks (now (input .entry)) ⌝ }
+fn place_in(memory: Memory, form: Addressing, blocks: u16, input: &[u8]) -> usize
+    ensures { λ r. ⌜ r ≡ placeIn memory form blocks (now (input .entry)) ⌝ }
 {
     match memory {
-        Memory::Array => address_in(blocks, input),
-        Memory::Rows => row_base(input) + row_byte(input),
+        Memory::Array => address_in(form, blocks, input),
+        Memory::Rows => row_base(form, input) + row_byte(form, input),
+    }
+}
+
+// The place of the first data byte, behind the code and the address bytes.
+fn data_place(form: Addressing) -> usize
+    ensures { λ r. ⌜ r ≡ 1 + addressCount form ⌝ }
+{
+    match form {
+        Addressing::Three(_) => 4,
+        Addressing::Four => 5,
     }
 }
 
 // How many data bytes of a program are kept.
-fn kept_count(input: &[u8]) -> usize
-    ensures { λ r. ⌜ r ≡ keptCount (dataSent (now (input .entry))) ⌝ }
+fn kept_count(form: Addressing, input: &[u8]) -> usize
+    ensures { λ r. ⌜ r ≡ keptCount (dataSent form (now (input .entry))) ⌝ }
 {
     let n = input.len();
-    if n < 4 {
+    let first = data_place(form);
+    if n < first {
         return 0;
     }
-    words::lesser(n - 4, types::PAGE_BYTES)
+    words::lesser(n - first, types::PAGE_BYTES)
 }
 
 // How many came before those that are kept.
-fn passed_count(input: &[u8]) -> usize
-    ensures { λ r. ⌜ r ≡ passedCount (dataSent (now (input .entry))) ⌝ }
+fn passed_count(form: Addressing, input: &[u8]) -> usize
+    ensures { λ r. ⌜ r ≡ passedCount (dataSent form (now (input .entry))) ⌝ }
 {
     let n = input.len();
-    if n < 4 {
+    let first = data_place(form);
+    if n < first {
         return 0;
     }
-    n - 4 - kept_count(input)
+    n - first - kept_count(form, input)
 }
 
 // The page data of a program: the kept bytes in order of arrival, zeros after them.
-pub fn page_data(input: &[u8]) -> [u8; 256]
-    ensures { λ r. ⌜ r ≡ pageData (dataSent (now (input .entry))) ⌝ }
+pub fn page_data(form: Addressing, input: &[u8]) -> [u8; 256]
+    ensures { λ r. ⌜ r ≡ pageData (dataSent form (now (input .entry))) ⌝ }
 {
     let mut page = [0u8; 256];
-    let first = words::lesser(4, input.len());
-    let passed = passed_count(input);
+    let first = words::lesser(data_place(form), input.len());
+    let passed = passed_count(form, input);
     let from = first + passed;
-    let end = from + kept_count(input);
+    let end = from + kept_count(form, input);
     bytes::copy(&input[from..end], &mut page);
     page
 }
 
 // The program that a transaction begins.
-fn program_of(memory: Memory, blocks: u16, input: &[u8]) -> Operation
-    ensures { λ r. ⌜ r ≡ programOf memory blocks (now (input .entry)) ⌝ }
+fn program_of(memory: Memory, form: Addressing, blocks: u16, input: &[u8]) -> Operation
+    ensures { λ r. ⌜ r ≡ programOf memory form blocks (now (input .entry)) ⌝ }
 {
-    let place = place_in(memory, blocks, input);
-    let start = pages::page_place((place % 256) as u8, passed_count(input));
-    let count = kept_count(input);
+    let place = place_in(memory, form, blocks, input);
+    let start = pages::page_place((place % 256) as u8, passed_count(form, input));
+    let count = kept_count(form, input);
     Operation::Program {
         memory: memory,
         base: place / types::PAGE_BYTES * types::PAGE_BYTES,
@@ -126,10 +145,10 @@ fn program_of(memory: Memory, blocks: u16, input: &[u8]) -> Operation
 }
 
 // The erase that a transaction begins.
-fn erase_of(unit: EraseUnit, blocks: u16, input: &[u8]) -> Operation
-    ensures { λ r. ⌜ r ≡ eraseOf unit blocks (now (input .entry)) ⌝ }
+fn erase_of(unit: EraseUnit, form: Addressing, blocks: u16, input: &[u8]) -> Operation
+    ensures { λ r. ⌜ r ≡ eraseOf unit form blocks (now (input .entry)) ⌝ }
 {
-    let place = place_in(pages::unit_memory(unit), blocks, input);
+    let place = place_in(pages::unit_memory(unit), form, blocks, input);
     let base = pages::unit_base(unit, blocks, place);
     Operation::Erase {
         unit: unit,
@@ -149,16 +168,16 @@ fn write_of(register: Register, input: &[u8]) -> Operation
     }
 }
 
-// What a command begins on a part of so many blocks: an operation with no tick done, or nothing.
-pub fn begins(effect: Effect, blocks: u16, input: &[u8]) -> Work
-    ensures { λ r. ⌜ r ≡ begins effect blocks (now (input .entry)) ⌝ }
+// What a command begins on a part of so many blocks, with its address sent so: an operation with no tick done, or nothing.
+pub fn begins(effect: Effect, form: Addressing, blocks: u16, input: &[u8]) -> Work
+    ensures { λ r. ⌜ r ≡ begins effect form blocks (now (input .entry)) ⌝ }
 {
     match effect {
         Effect::Looks => Work::NoWork,
         Effect::Enables => Work::NoWork,
         Effect::Disables => Work::NoWork,
-        Effect::Programs(memory) => Work::At(program_of(memory, blocks, input)),
-        Effect::Erases(unit) => Work::At(erase_of(unit, blocks, input)),
+        Effect::Programs(memory) => Work::At(program_of(memory, form, blocks, input)),
+        Effect::Erases(unit) => Work::At(erase_of(unit, form, blocks, input)),
         Effect::Writes(register) => Work::At(write_of(register, input)),
         Effect::Suspends => Work::NoWork,
         Effect::Resumes => Work::NoWork,
@@ -168,5 +187,7 @@ pub fn begins(effect: Effect, blocks: u16, input: &[u8]) -> Work
         Effect::Resets => Work::NoWork,
         Effect::SetsLive => Work::NoWork,
         Effect::ClearsErrors => Work::NoWork,
+        Effect::SetsBank => Work::NoWork,
+        Effect::SetsFar(_) => Work::NoWork,
     }
 }

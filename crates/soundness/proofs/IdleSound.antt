@@ -11,13 +11,14 @@ use Rattle.words.specs.Lists.{allZero}
 use Rattle.words.proofs.Tests.{and-assoc}
 use Rattle.paper.specs.Sizes.{sizeOk}
 use Rattle.paper.specs.Phases.{isIdle}
-use Rattle.paper.specs.Soundness.{bitsOk, pageOk, partSound, sound}
+use Rattle.paper.specs.Soundness.{bitsOk, largeOk, pageOk, partSound, sound}
 use Rattle.paper.proofs.Soundness.{recordOf}
 use Rattle.soundness.specs.Judged.{soundTold}
 
-pub idle-sound-as : (p : Part) (t : Bool) → (partSound p Idle and t) ≡ (sizeOk (p .blocks) and (bitsOk Idle (p .wel) (p .stored) and t))
+pub idle-sound-as : (p : Part) (t : Bool)
+    → (partSound p Idle and t) ≡ (sizeOk (p .blocks) and ((bitsOk Idle (p .wel) (p .stored) and largeOk (p .blocks) (p .stored .function) (p .bank)) and t))
 unfolding partSound _or_ _and_
-idle-sound-as p t = sym (and-assoc (sizeOk (p .blocks)) (bitsOk Idle (p .wel) (p .stored)) t)
+idle-sound-as p t = sym (and-assoc (sizeOk (p .blocks)) (bitsOk Idle (p .wel) (p .stored) and largeOk (p .blocks) (p .stored .function) (p .bank)) t)
 
 -- told whether an idle one has no page data
 pub sound-told : (p : Part) (f : Phase) (empty : Bool) (g : List ℕ) → (isIdle f ≡ true → empty ≡ allZero g) → soundTold p f empty g ≡ sound (recordOf p f g)

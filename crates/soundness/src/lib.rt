@@ -113,10 +113,14 @@ fn is_sound_part(size: bool, part: Part, phase: Phase) -> bool
     let work = work_in(phase);
     let own = work_ok(work, phases::is_suspended(phase), part.blocks, stored);
     let bits = record::bits_ok(phase, part.wel, stored);
+    let registers = words::both(
+        bits,
+        record::large_ok(part.blocks, stored.function, part.bank),
+    );
     let operation = words::both(outer, own);
     words::both(
         size,
-        words::both(sleep, words::both(latch, words::both(operation, bits))),
+        words::both(sleep, words::both(latch, words::both(operation, registers))),
     )
 }
 
@@ -139,7 +143,11 @@ fn is_sound_idle(size: bool, part: Part, empty: bool) -> bool
 {
     let stored = part.stored;
     let bits = record::bits_ok(Phase::Idle, part.wel, stored);
-    words::both(size, words::both(bits, empty))
+    let registers = words::both(
+        bits,
+        record::large_ok(part.blocks, stored.function, part.bank),
+    );
+    words::both(size, words::both(registers, empty))
 }
 
 // Whether a record is sound that is a part in a phase with page data, where it is told of an idle one whether it has no
@@ -170,10 +178,17 @@ pub fn is_sound_any(part: Part, phase: Phase, page: &[u8]) -> bool
     let work = work_in(phase);
     let own = work_ok(work, phases::is_suspended(phase), part.blocks, stored);
     let bits = record::bits_ok(phase, part.wel, stored);
+    let registers = words::both(
+        bits,
+        record::large_ok(part.blocks, stored.function, part.bank),
+    );
     let operation = words::both(outer, own);
     let whole = words::both(
         size,
-        words::both(rested, words::both(latch, words::both(operation, bits))),
+        words::both(
+            rested,
+            words::both(latch, words::both(operation, registers)),
+        ),
     );
     let zero_after = is_zero_from(page, kept_in(phase));
     words::both(whole, zero_after)

@@ -1,6 +1,7 @@
 -- Two results that a contract of this crate allows are equal.
 use Rattle.words.proofs.Allowed.{OneResult, agree}
 use Rattle.table.proofs.columns_of.Reads as columns-of
+use Rattle.table.proofs.addressing.Reads as addressing
 use Rattle.table.proofs.taken_asleep.Reads as taken-asleep
 use Rattle.table.proofs.taken_busy.Reads as taken-busy
 use Rattle.table.proofs.taken_suspended.Reads as taken-suspended
@@ -10,6 +11,9 @@ use Rattle.table.proofs.first_driven.Reads as first-driven
 
 pub columns-of-one : OneResult columns-of.Learnt
 columns-of-one κ a x y s t p q = agree p q
+
+pub addressing-one : OneResult addressing.Learnt
+addressing-one κ a x y s t p q = agree p q
 
 pub taken-asleep-one : OneResult taken-asleep.Learnt
 taken-asleep-one κ a x y s t p q = agree p q

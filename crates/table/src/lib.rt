@@ -1,7 +1,8 @@
 // The command table.
 ghost use mathlib.Core.Path.{_≡_};
-ghost use Rattle.paper.specs.Table.{line, columns, takenAsleep, takenBusy, takenSuspended, lengthOk, drives};
+ghost use Rattle.paper.specs.Table.{line, columns, addressing, takenAsleep, takenBusy, takenSuspended, lengthOk, drives};
 ghost use Rattle.paper.specs.Reads.{firstDriven};
+use types::Addressing;
 use types::Columns;
 use types::Command;
 use types::Effect;
@@ -85,6 +86,31 @@ pub fn columns_of(command: Command) -> Columns
         Command::SetStored => line(Exactly(2), WEL, Rest, Bare, Any, None, 0, Writes(Extended)),
         Command::SetLive => line(Exactly(2), NO, Rest, Bare, Any, None, 0, SetsLive),
         Command::ClearErrors => line(Exactly(1), NO, Rest, Bare, Any, None, 0, ClearsErrors),
+        Command::FarRead => line(AtLeast(5), NO, OrHalted, Far, Any, ArrayBytes, 5, Looks),
+        Command::FarFastRead => line(AtLeast(6), NO, OrHalted, Far, Any, ArrayBytes, 6, Looks),
+        Command::FarPageProgram => line(AtLeast(6), WEL, Esus, Far, Any, None, 0, Programs(Array)),
+        Command::FarPageProgramAtRest => {
+            line(AtLeast(6), WEL, Rest, Far, Any, None, 0, Programs(Array))
+        }
+        Command::FarSectorErase => line(Exactly(5), WEL, Rest, Far, Any, None, 0, Erases(Sector)),
+        Command::FarBlockErase32 => line(Exactly(5), WEL, Rest, Far, Any, None, 0, Erases(Block32)),
+        Command::FarBlockErase64 => line(Exactly(5), WEL, Rest, Far, Any, None, 0, Erases(Block64)),
+        Command::ReadBank => line(AtLeast(1), NO, OrHalted, Bare, Any, BankByte, 1, Looks),
+        Command::WriteBank => line(Exactly(2), NO, Rest, Bare, Any, None, 0, SetsBank),
+        Command::EnterFar => line(Exactly(1), NO, Rest, Bare, Any, None, 0, SetsFar(true)),
+        Command::LeaveFar => line(Exactly(1), NO, Rest, Bare, Any, None, 0, SetsFar(false)),
+    }
+}
+
+// How the address of a command is sent under a bank register.
+pub fn addressing(named: Named, bank: u8) -> Addressing
+    ensures { λ r. ⌜ r ≡ addressing named bank ⌝ }
+{
+    match named {
+        Named::Bare => Addressing::Three(false),
+        Named::Place => Addressing::Three(bank % 2 == 1),
+        Named::Far => Addressing::Four,
+        Named::InRow => Addressing::Three(false),
     }
 }
 
@@ -154,6 +180,7 @@ pub fn drives_any(source: Source) -> bool
         Source::MakerPair => true,
         Source::DeviceByte => true,
         Source::ExtendedByte => true,
+        Source::BankByte => true,
     }
 }
 

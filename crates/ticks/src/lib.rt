@@ -101,7 +101,8 @@ fn register_written(register: Register, value: u8, stored: Stored) -> Stored
             next
         }
         Register::Function => {
-            next.function = (stored.function / 16 | value / 16) * 16;
+            let tbs = 2 * (stored.function / 2 % 2);
+            next.function = (stored.function / 16 | value / 16) * 16 + tbs;
             next
         }
         Register::Extended => {

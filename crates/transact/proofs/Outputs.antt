@@ -10,35 +10,40 @@ use lib.Dec.{leb}
 use lib.ListN.{length, length-take, length-drop}
 use Rattle.types.specs.declared.Source.{Source}
 use Rattle.types.specs.declared.Source.the-variants.{None, RowBytes}
+use Rattle.types.specs.declared.Addressing.{Addressing}
 use Rattle.types.specs.declared.Columns.{Columns}
 use Rattle.types.specs.declared.Part.{Part}
 use Rattle.words.specs.Logic.{_and_}
 use Rattle.words.specs.Lists.{upTo, round}
 use Rattle.words.proofs.Lists.{upTo-const}
 use Rattle.paper.specs.Address.{rowBase}
-use Rattle.paper.specs.Table.{drives}
+use Rattle.paper.specs.Table.{addressing, drives}
 use Rattle.paper.specs.Reads.{undrivenByte, undriven, sourceBytes, sourceStart, outputOf}
 use Rattle.transact.specs.Shown.{shown, HasBytes}
 
 module _ (k : Columns) (p : Part) (xs rs i : List ℕ) where
+  -- how the address is sent
+  abbrev form : Addressing
+  form = addressing (k .named) (p .bank)
+
   -- the output with what is driven apart
   outputFor : Source → Bool → List ℕ
   outputFor w t =
-      upTo (length i) (λ (j : ℕ). cond (t and leb (k .from) j) (round (sourceBytes w p xs rs i) (sourceStart w (p .blocks) i) (j - k .from)) undrivenByte)
+      upTo (length i) (λ (j : ℕ). cond (t and leb (k .from) j) (round (sourceBytes w form p xs rs i) (sourceStart w form (p .blocks) i) (j - k .from)) undrivenByte)
 
   module _ (w : Source) (e : k .source ≡ w) where
-    pub driven-output : drives w ≡ true → outputOf k p xs rs i ≡ shown (sourceBytes w p xs rs i) (sourceStart w (p .blocks) i) (k .from) (length i)
+    pub driven-output : drives w ≡ true → outputOf k p xs rs i ≡ shown (sourceBytes w form p xs rs i) (sourceStart w form (p .blocks) i) (k .from) (length i)
     unfolding outputOf outputFor _and_
     driven-output d = ap (λ (x : Source). outputFor x (drives x)) e ∙ ap (outputFor w) d
 
-    pub some-bytes : drives w ≡ true → HasBytes k p xs rs i → 0 < length (sourceBytes w p xs rs i)
+    pub some-bytes : drives w ≡ true → HasBytes k p xs rs i → 0 < length (sourceBytes w form p xs rs i)
     some-bytes d h =
-        let n = subst (λ (x : Source). drives x ≡ true → length (sourceBytes x p xs rs i) ≡ 0 → ⊥) e h d in
-        ⊎-elim (λ z. absurd (n z)) (λ l. l) (eq-zero-or-pos (length (sourceBytes w p xs rs i)))
+        let n = subst (λ (x : Source). drives x ≡ true → length (sourceBytes x form p xs rs i) ≡ 0 → ⊥) e h d in
+        ⊎-elim (λ z. absurd (n z)) (λ l. l) (eq-zero-or-pos (length (sourceBytes w form p xs rs i)))
 
   pub blank-output : k .source ≡ None → outputOf k p xs rs i ≡ undriven (length i)
   unfolding outputOf outputFor _and_
   blank-output e = ap (λ (x : Source). outputFor x (drives x)) e ∙ upTo-const (length i) undrivenByte
 
-  pub row-inside : k .source ≡ RowBytes → HasBytes k p xs rs i → rowBase i < length rs
+  pub row-inside : k .source ≡ RowBytes → HasBytes k p xs rs i → rowBase form i < length rs
   row-inside e h = omega (arith, simp (length-take, length-drop) at (some-bytes RowBytes e refl h))

@@ -13,6 +13,7 @@ ghost use Rattle.paper.specs.Reads.{undriven, outputOf};
 ghost use Rattle.paper.specs.Commands.{changeBarred};
 ghost use Rattle.paper.specs.Calls.{outcomeTo, outcomeOf, transacted, outputTo, outputAfter, transactedOutput};
 ghost use Rattle.transact.specs.Shown.{shown, HasBytes};
+use types::Addressing;
 use types::Answer;
 use types::Change;
 use types::Columns;
@@ -55,13 +56,13 @@ fn extended_read(part: Part) -> u8
 }
 
 // The row that was named, from the byte that was named on.
-fn drive_row(rows: &[u8], input: &[u8], output: &mut [u8], from: usize)
-    requires { ⌜ rowBase (now input) < length (now rows) ⌝ }
-    ensures { λ _. ⌜ now (output .exit) ≡ shown (take 256 (drop (rowBase (now (input .entry))) (now (rows .entry)))) (rowByte (now (input .entry))) from (length (now (output .entry))) ⌝ }
+fn drive_row(form: Addressing, rows: &[u8], input: &[u8], output: &mut [u8], from: usize)
+    requires { ⌜ rowBase form (now input) < length (now rows) ⌝ }
+    ensures { λ _. ⌜ now (output .exit) ≡ shown (take 256 (drop (rowBase form (now (input .entry))) (now (rows .entry)))) (rowByte form (now (input .entry))) from (length (now (output .entry))) ⌝ }
 {
-    let base = sent::row_base(input);
+    let base = sent::row_base(form, input);
     let end = words::lesser(base + types::PAGE_BYTES, rows.len());
-    let at = sent::row_byte(input);
+    let at = sent::row_byte(form, input);
     drive_from(&rows[base..end], at, output, from);
 }
 
@@ -72,14 +73,16 @@ fn show(k: Columns, part: Part, array: &[u8], rows: &[u8], input: &[u8], output:
 {
     let source = k.source;
     let from = k.from;
+    let named = k.named;
+    let form = table::addressing(named, part.bank);
     let identity = part.identity;
     match source {
         Source::None => runs::blank(output),
         Source::ArrayBytes => {
-            let at = sent::address_in(part.blocks, input);
+            let at = sent::address_in(form, part.blocks, input);
             drive_from(array, at, output, from);
         }
-        Source::RowBytes => drive_row(rows, input, output, from),
+        Source::RowBytes => drive_row(form, rows, input, output, from),
         Source::StatusByte => repeat_from(part.stored.status, output, from),
         Source::FunctionByte => repeat_from(part.stored.function, output, from),
         Source::IdentityBytes => {
@@ -93,6 +96,7 @@ fn show(k: Columns, part: Part, array: &[u8], rows: &[u8], input: &[u8], output:
         }
         Source::DeviceByte => repeat_from(identity.device, output, from),
         Source::ExtendedByte => repeat_from(extended_read(part), output, from),
+        Source::BankByte => repeat_from(part.bank, output, from),
     }
 }
 
@@ -138,7 +142,9 @@ fn answer_to(
     let k = table::columns_of(command);
     let n = input.len();
     let effect = k.effect;
-    let work = sent::begins(effect, part.blocks, input);
+    let named = k.named;
+    let form = table::addressing(named, part.bank);
+    let work = sent::begins(effect, form, part.blocks, input);
     let number = ignoring::command_number(k, work, part, phase, input, wp);
     if number == 28 {
         return bar(effect, number, part, n, output);
@@ -147,7 +153,7 @@ fn answer_to(
         return ignore(number, n, output);
     }
     show(k, part, array, rows, input, output);
-    let change = effects::change_by(effect, work, part, phase, input);
+    let change = effects::change_by(effect, form, work, part, phase, input);
     let first = table::first_driven(k, n);
     Outcome {
         change: change,
@@ -188,7 +194,7 @@ pub fn transact_part(
             first: 0,
         };
     }
-    let decoded = decode::decode(sent::byte_at(input, 0));
+    let decoded = decode::decode(part.blocks, part.bank, sent::byte_at(input, 0));
     let Decoded::Known(command) = decoded else {
         return ignore(20, n, output);
     };

@@ -8,10 +8,15 @@ pub const BLOCK_BYTES: usize = 65536;
 
 pub const ROWS_BYTES: usize = 1024;
 
-// A transaction has at most 4,096 bytes, and a tick call asks at most 4,096 ticks.
+// A transaction has at most 4,096 bytes, and a tick call asks at most 4,096 ticks, on the large part at most 131,072.
 pub const TRANSACTION_MOST: usize = 4096;
 
 pub const TICKS_MOST: usize = 4096;
+
+pub const LARGE_TICKS_MOST: usize = 131072;
+
+// The large part has two banks of 16,777,216 bytes.
+pub const BANK_BYTES: usize = 16777216;
 
 // The two memories of a part: the array of blocks, and the four information rows.
 pub enum Memory {
@@ -30,6 +35,9 @@ pub struct Cell(pub u16, pub u16);
 
 // A row of the block table, its cells in the order in which the sizes are printed: 8, 4 and 2 Mbit, and then 1 block.
 pub struct BlockRow(pub Cell, pub Cell, pub Cell, pub Cell);
+
+// A row of the block table of the large part: with the top or bottom bit 0, and 1.
+pub struct LargeRow(pub Cell, pub Cell);
 
 // What an erase takes: SER, BER32, BER64, CER or the row erase.
 pub enum EraseUnit {
@@ -102,7 +110,7 @@ pub struct Stored {
 }
 
 // What a part is, whatever it does. The live byte of the extended read register has its bits 7..5 and the error bits:
-// 3 E_ERR, 2 P_ERR, 1 PROT_E.
+// 3 E_ERR, 2 P_ERR, 1 PROT_E. The bank address register has bit 7 EXTADD and bit 0, the bank bit.
 pub struct Part {
     pub blocks: u16,
     pub identity: Identity,
@@ -110,6 +118,7 @@ pub struct Part {
     pub wel: bool,
     pub armed: bool,
     pub asleep: bool,
+    pub bank: u8,
     pub live: u8,
 }
 
@@ -120,10 +129,16 @@ pub struct Record {
     pub page: [u8; 256],
 }
 
-// What becomes of page data: it is as it was, what was sent, or zero.
+// How an address is sent after the code: three bytes, which are an address in the upper bank where it is true; or four.
+pub enum Addressing {
+    Three(bool),
+    Four,
+}
+
+// What becomes of page data: it is as it was; what was sent, behind an address that was sent so; or zero.
 pub enum Data {
     Kept,
-    Sent,
+    Sent(Addressing),
     Zero,
 }
 
@@ -141,7 +156,8 @@ pub enum Change {
     Clears(Part),
 }
 
-// The commands, in the order of the command table; then those of the extended read register.
+// The commands, in the order of the command table; then those of the extended read register; then those of the large
+// part: with four address bytes, the program of which 12h is taken at rest alone, and of the bank address register.
 pub enum Command {
     Read,
     FastRead,
@@ -171,6 +187,17 @@ pub enum Command {
     SetStored,
     SetLive,
     ClearErrors,
+    FarRead,
+    FarFastRead,
+    FarPageProgram,
+    FarPageProgramAtRest,
+    FarSectorErase,
+    FarBlockErase32,
+    FarBlockErase64,
+    ReadBank,
+    WriteBank,
+    EnterFar,
+    LeaveFar,
 }
 
 // What decoding a first byte gives: a command, or that the byte is in no row of the table.
@@ -196,6 +223,7 @@ pub enum Source {
     MakerPair,
     DeviceByte,
     ExtendedByte,
+    BankByte,
 }
 
 // What an executed command does with the record.
@@ -214,6 +242,8 @@ pub enum Effect {
     Resets,
     SetsLive,
     ClearsErrors,
+    SetsBank,
+    SetsFar(bool),
 }
 
 // When a command is taken: at rest, awake and idle; also while an erase is suspended, ESUS 1; also while suspended; also
@@ -227,10 +257,12 @@ pub enum Taken {
     OrAsleep,
 }
 
-// What the address bytes of a command name: nothing, also where it has none; a place of the array; a byte in a row.
+// What the address bytes of a command name: nothing, also where it has none; a place of the array, with three bytes; a
+// far place of the array, with four; a byte in a row.
 pub enum Named {
     Bare,
     Place,
+    Far,
     InRow,
 }
 

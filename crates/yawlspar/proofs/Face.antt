@@ -16,16 +16,16 @@ use Rattle.types.specs.declared.Outcome.{Outcome}
 use Rattle.types.specs.declared.Ticked.{Ticked}
 use Rattle.types.specs.declared.Waited.{Waited}
 use Rattle.types.specs.declared.PoweredUp.{PoweredUp}
-use Rattle.words.specs.Logic.{_and_}
+use Rattle.words.specs.Logic.{_and_, unless, _orElse_}
 use Rattle.words.proofs.Tests.{and-l, and-r, unless-zero, orElse-zero, orElse-on, orElse-first}
 use Rattle.paper.specs.Sizes.{pageBytes}
 use Rattle.paper.specs.Soundness.{sound}
 use Rattle.paper.specs.Registers.{withBytes, withExtended}
 use Rattle.paper.specs.Program.{noData}
 use Rattle.paper.specs.Records.{fresh}
-use Rattle.paper.specs.Numbers.{powerUpNumber, laterRefusal, laterTickNumber}
+use Rattle.paper.specs.Numbers.{powerUpNumber, rowsNumber, soundNumber, laterRefusal}
 use Rattle.paper.specs.Calls.{noStored, zeroRecord, poweredUp, outcomeOf, outputAfter, ticked, tickedMemory}
-use Rattle.paper.proofs.Sizes.{size-range}
+use Rattle.paper.proofs.Sizes.{size-range, limit-range}
 use Rattle.paper.proofs.Soundness.{recordOf}
 use Rattle.paper.proofs.CallKept.{done-at-most}
 use Rattle.ticks.specs.Waited.{waitedOf, waitedMemory, tickedBy}
@@ -51,8 +51,8 @@ module _ (h : Held) (e : h .ok ≡ false) where
   unfolding transactOutput
   unheld-output xs rs wp i o = rw e
 
-  pub unheld-tick-answer : (a r n : ℕ) → packed (laterTickNumber false r n) 0 ≡ tickAnswer h a r n
-  unfolding tickAnswer
+  pub unheld-tick-answer : (a r n : ℕ) → packed (rowsNumber r orElse 5) 0 ≡ tickAnswer h a r n
+  unfolding tickAnswer soundNumber unless
   unheld-tick-answer a r n = rw e
 
   pub unheld-tick-bytes : (a r n : ℕ) (bs : List ℕ) → bs ≡ tickBytes h a r n bs
@@ -105,8 +105,9 @@ module _ (bs : List ℕ) (e : recordIn bs .ok ≡ true) (x : Found) (ex : x ≡ 
       ticks-told =
           ap (tickedBy u) (sym (held-state bs e)) ∙ rw (eu, ex) (ticked-told whole lent-length a r n) ∙ ap (λ (q : Record). ticked q a r n) (held-state bs e)
 
-      pub told-done : u .done ≤ 4096
-      told-done = rw (ap (λ (y : Ticked). y .done) ticks-told) (done-at-most held a r n .1)
+      pub told-done : u .done ≤ 131072
+      told-done =
+          rw (ap (λ (y : Ticked). y .done) ticks-told) (omega (arith, done-at-most held a r n .1, limit-range (held .part .blocks) .1))
 
       pub tick-answer : packed (u .number) (u .done) ≡ tickAnswer (recordIn bs) a r n
       unfolding tickAnswer
@@ -124,7 +125,7 @@ module _ (bs : List ℕ) (e : recordIn bs .ok ≡ true) (x : Found) (ex : x ≡ 
 -- power-up: what the numbers that it can take are
 pub record Given (l : ℕ) (q : Asked) : Type 0 where
   pub whole : l ≡ recordLength
-  pub few : q .blocks ≤ 16
+  pub few : q .blocks ≤ 512
   pub maker : q .maker ≤ 255
   pub kind : q .kind ≤ 255
   pub capacity : q .capacity ≤ 255

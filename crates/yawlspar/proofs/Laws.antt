@@ -31,10 +31,14 @@ outcome-first Unknown p f wp i = omega arith
 
 module _ (p : Part) (f : Phase) (s : Bool) (a r : ℕ) (wp : Bool) (i : List ℕ) (o : ℕ) where
   first-as : (t : Bool) → eqb (transactionRefusal (p .blocks) s a r (length i) o) 0 ≡ t
-      → cond t (outcomeTo (decoded (getD i 0 0)) p f wp i) (refused (transactionRefusal (p .blocks) s a r (length i) o)) .first ≤ 4096
-  first-as true e = omega (arith, outcome-first (decoded (getD i 0 0)) p f wp i, transaction-taken _ _ _ _ _ _ (eqb-true _ _ e) .few)
+      → cond t (outcomeTo (decoded (p .blocks) (p .bank) (getD i 0 0)) p f wp i) (refused (transactionRefusal (p .blocks) s a r (length i) o)) .first ≤ 4096
+  first-as true e = omega (arith, outcome-first (decoded (p .blocks) (p .bank) (getD i 0 0)) p f wp i, transaction-taken _ _ _ _ _ _ (eqb-true _ _ e) .few)
   first-as false e = omega arith
 
-  pub first-few : outcomeOf p f s a r wp i o .first ≤ 4096
+  first-few : outcomeOf p f s a r wp i o .first ≤ 4096
   unfolding outcomeOf
   first-few = first-as _ refl
+
+  -- and so can be packed
+  pub first-packs : outcomeOf p f s a r wp i o .first ≤ 131072
+  first-packs = omega (arith, first-few)

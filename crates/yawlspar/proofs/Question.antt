@@ -17,5 +17,5 @@ module _ (b : Blocks) (code n : ℕ) (told : b ≡ protectedBlocks code n) where
   none-held address z =
       sym (ap bit (none-protected code n (address % arrayBytes n / blockBytes) (sym counted ∙ z)))
 
-  pub some-held : (b .count ≡ 0 → ⊥) → (1 ≤ n) × (n ≤ 16)
+  pub some-held : (b .count ≡ 0 → ⊥) → (1 ≤ n) × (n ≤ 512)
   some-held h = size-range n (some-answerable code n (λ e. h (counted ∙ e)) .size)

@@ -15,7 +15,7 @@ use Rattle.words.specs.Logic.{_and_, unless, _orElse_, whenZero}
 use Rattle.paper.specs.Sizes.{sizeOk}
 use Rattle.paper.specs.Registers.{withBytes, withExtended}
 use Rattle.paper.specs.Soundness.{sound}
-use Rattle.paper.specs.Numbers.{laterRefusal, laterTickNumber}
+use Rattle.paper.specs.Numbers.{rowsNumber, soundNumber, laterRefusal}
 use Rattle.paper.specs.Commands.{changed}
 use Rattle.paper.specs.Calls.{noStored, poweredUp, refused, outcomeOf, outputAfter, ticked, tickedMemory}
 use Rattle.record_bytes.specs.Layout.{recordLength, recordBytes}
@@ -111,7 +111,7 @@ abbrev pub heldTicks : Held → ℕ → ℕ → ℕ → Ticked
 heldTicks h a r n =
     cond (h .ok)
     (ticked (h .state) a r n)
-    (record { next = h .state; number = laterTickNumber false r n; done = 0 })
+    (record { next = h .state; number = rowsNumber r orElse soundNumber false; done = 0 })
 
 -- their number, and how many did work
 unfoldable pub tickAnswer : Held → ℕ → ℕ → ℕ → ℕ

@@ -14,7 +14,7 @@ use types::Identity;
 
 // The number and the place in one.
 fn pack(number: u8, place: usize) -> u64
-    requires { ⌜ place ≤ 4096 ⌝ }
+    requires { ⌜ place ≤ 131072 ⌝ }
     ensures { λ r. ⌜ r ≡ packed number place ⌝ }
 {
     (number as u64) + 256 * (place as u64)
@@ -148,7 +148,7 @@ pub extern "C" fn yawlspar_tick(
 {
     let found = record_bytes::reading::read_any(bytes);
     if !found.ok {
-        let unread = refusals::later_tick_number(false, rows.len(), count as usize);
+        let unread = refusals::rows_number_or(rows.len(), 5);
         return pack(unread, 0);
     }
     let part = found.part;

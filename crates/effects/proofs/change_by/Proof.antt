@@ -111,6 +111,33 @@ enum-told-14 c = search needs
 held-byte-requires-2 : tie.Need-held-byte-requires-2
 held-byte-requires-2 c κs = search needs
 
+enum-told-15 : tie.Need-enum-told-15
+enum-told-15 c = search needs
+
+byte-at-requires-2 : tie.Need-byte-at-requires-2
+byte-at-requires-2 c κs = search needs
+
+turn-bank-requires : tie.Need-turn-bank-requires
+turn-bank-requires c κs = search needs
+
+set-bank-requires : tie.Need-set-bank-requires
+set-bank-requires c κs = search needs
+
+unarm-requires-7 : tie.Need-unarm-requires-7
+unarm-requires-7 c κs = search needs
+
+enum-known-effect : tie.Need-enum-known-effect
+enum-known-effect c = search needs
+
+turn-bank-requires-2 : tie.Need-turn-bank-requires-2
+turn-bank-requires-2 c κs = search needs
+
+set-bank-requires-2 : tie.Need-set-bank-requires-2
+set-bank-requires-2 c κs = search needs
+
+unarm-requires-8 : tie.Need-unarm-requires-8
+unarm-requires-8 c κs = search needs
+
 returns : tie.Need-returns
 returns c = rw (c .enum-told .given .1)
 
@@ -153,6 +180,12 @@ returns-13 c = rw (c .before .before .before .enum-told13 .given .1, c .before .
 returns-14 : tie.Need-returns-14
 returns-14 c = rw (c .before .enum-told14 .given .1, c .held-byte2 .ensures)
 
+returns-15 : tie.Need-returns-15
+returns-15 c = rw (c .before .before .before .before .enum-told15 .given .1, c .unarm7 .ensures, c .before .set-bank .ensures, c .before .before .turn-bank .ensures, c .before .before .before .byte-at2 .ensures)
+
+returns-16 : tie.Need-returns-16
+returns-16 c = rw (c .before .before .before .before .effect .given .1, c .unarm8 .ensures, c .before .set-bank2 .ensures, c .before .before .turn-bank2 .ensures)
+
 pub change-by-spec : {M : Type 1} → statement M
 change-by-spec =
     tie.close
@@ -193,6 +226,15 @@ change-by-spec =
     add-live
     enum-told-14
     held-byte-requires-2
+    enum-told-15
+    byte-at-requires-2
+    turn-bank-requires
+    set-bank-requires
+    unarm-requires-7
+    enum-known-effect
+    turn-bank-requires-2
+    set-bank-requires-2
+    unarm-requires-8
     returns
     returns-2
     returns-3
@@ -206,4 +248,6 @@ change-by-spec =
     returns-11
     returns-12
     returns-13
-    returns-14)
+    returns-14
+    returns-15
+    returns-16)

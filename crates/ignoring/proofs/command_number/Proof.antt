@@ -33,6 +33,9 @@ suspended-ok-requires c κs = search needs
 either-requires-3 : tie.Need-either-requires-3
 either-requires-3 c κs = search needs
 
+addressing-requires : tie.Need-addressing-requires
+addressing-requires c κs = search needs
+
 address-ok-requires : tie.Need-address-ok-requires
 address-ok-requires c κs = search needs
 
@@ -77,15 +80,16 @@ returns c =
       c .before .before .before .before .before .before .before .number-or .ensures ∙ orElse-none _,
       c .before .before .before .before .before .before .before .before .free-ok .ensures,
       c .before .before .before .before .before .before .before .before .before .address-ok .ensures,
-      c .before .before .before .before .before .before .before .before .before .before .either3 .ensures,
-      c .before .before .before .before .before .before .before .before .before .before .before .before .suspended-ok .ensures,
-      c .before .before .before .before .before .before .before .before .before .before .before .before .before .state-ok .ensures,
-      c .before .before .before .before .before .before .before .before .before .before .before .before .before .before .length-ok .ensures,
-      c .before .before .before .before .before .before .before .before .before .before .before .before .before .before .before .either2 .ensures,
-      c .before .before .before .before .before .before .before .before .before .before .before .before .before .before .before .before .is-busy .ensures,
-      c .before .before .before .before .before .before .before .before .before .before .before .before .before .before .before .before .before .taken-busy .ensures,
-      c .before .before .before .before .before .before .before .before .before .before .before .before .before .before .before .before .before .before .either .ensures,
-      c .before .before .before .before .before .before .before .before .before .before .before .before .before .before .before .before .before .before .before .before .taken-asleep .ensures,
+      c .before .before .before .before .before .before .before .before .before .before .addressing .ensures,
+      c .before .before .before .before .before .before .before .before .before .before .before .either3 .ensures,
+      c .before .before .before .before .before .before .before .before .before .before .before .before .before .suspended-ok .ensures,
+      c .before .before .before .before .before .before .before .before .before .before .before .before .before .before .state-ok .ensures,
+      c .before .before .before .before .before .before .before .before .before .before .before .before .before .before .before .length-ok .ensures,
+      c .before .before .before .before .before .before .before .before .before .before .before .before .before .before .before .before .either2 .ensures,
+      c .before .before .before .before .before .before .before .before .before .before .before .before .before .before .before .before .before .is-busy .ensures,
+      c .before .before .before .before .before .before .before .before .before .before .before .before .before .before .before .before .before .before .taken-busy .ensures,
+      c .before .before .before .before .before .before .before .before .before .before .before .before .before .before .before .before .before .before .before .either .ensures,
+      c .before .before .before .before .before .before .before .before .before .before .before .before .before .before .before .before .before .before .before .before .before .taken-asleep .ensures,
     )
 
 pub command-number-spec : {M : Type 1} → statement M
@@ -101,6 +105,7 @@ command-number-spec =
     state-ok-requires
     suspended-ok-requires
     either-requires-3
+    addressing-requires
     address-ok-requires
     free-ok-requires
     number-or-requires

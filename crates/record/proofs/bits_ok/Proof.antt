@@ -1,14 +1,20 @@
 -- `record::bits_ok` meets its contract: it joins the tests as the definition does.
-use borrow.Author.Needs.{needs}
 use Rattle.paper.specs.Soundness.{bitsOk}
+use borrow.Author.Needs.{needs}
 use Rattle.record.proofs.bits_ok.Statement.{statement}
 use Rattle.record.proofs.bits_ok.Tie as tie
 
 status-low-requires : tie.Need-status-low-requires
 status-low-requires c κs = search needs
 
+mul-tbs : tie.Need-mul-tbs
+mul-tbs c = search needs
+
 function-low-requires : tie.Need-function-low-requires
 function-low-requires c κs = search needs
+
+add-marks : tie.Need-add-marks
+add-marks c = search needs
 
 both-requires : tie.Need-both-requires
 both-requires c κs = search needs
@@ -18,8 +24,16 @@ both-requires-2 c κs = search needs
 
 returns : tie.Need-returns
 unfolding bitsOk
-returns c = rw (c .both2 .ensures, c .before .both .ensures, c .before .before .before .function-low .ensures, c .before .before .before .before .before .status-low .ensures)
+returns c = rw (c .both2 .ensures, c .before .both .ensures, c .before .before .before .function-low .ensures, c .before .before .before .before .before .before .status-low .ensures)
 
 pub bits-ok-spec : {M : Type 1} → statement M
 bits-ok-spec =
-    tie.close (tie.spec status-low-requires function-low-requires both-requires both-requires-2 returns)
+    tie.close
+    (tie.spec
+    status-low-requires
+    mul-tbs
+    function-low-requires
+    add-marks
+    both-requires
+    both-requires-2
+    returns)

@@ -20,8 +20,8 @@ page-place-requires c κs = search needs
 kept-count-requires : tie.Need-kept-count-requires
 kept-count-requires c κs = search needs
 
-mul-t9 : tie.Need-mul-t9
-mul-t9 c = search needs
+mul-t10 : tie.Need-mul-t10
+mul-t10 c = search needs
 
 returns : tie.Need-returns
 unfolding programOf
@@ -36,5 +36,5 @@ program-of-spec =
     passed-count-requires
     page-place-requires
     kept-count-requires
-    mul-t9
+    mul-t10
     returns)

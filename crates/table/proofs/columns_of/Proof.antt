@@ -171,6 +171,72 @@ enum-told-28 c = search needs
 line-requires-28 : tie.Need-line-requires-28
 line-requires-28 c κs = search needs
 
+enum-told-29 : tie.Need-enum-told-29
+enum-told-29 c = search needs
+
+line-requires-29 : tie.Need-line-requires-29
+line-requires-29 c κs = search needs
+
+enum-told-30 : tie.Need-enum-told-30
+enum-told-30 c = search needs
+
+line-requires-30 : tie.Need-line-requires-30
+line-requires-30 c κs = search needs
+
+enum-told-31 : tie.Need-enum-told-31
+enum-told-31 c = search needs
+
+line-requires-31 : tie.Need-line-requires-31
+line-requires-31 c κs = search needs
+
+enum-told-32 : tie.Need-enum-told-32
+enum-told-32 c = search needs
+
+line-requires-32 : tie.Need-line-requires-32
+line-requires-32 c κs = search needs
+
+enum-told-33 : tie.Need-enum-told-33
+enum-told-33 c = search needs
+
+line-requires-33 : tie.Need-line-requires-33
+line-requires-33 c κs = search needs
+
+enum-told-34 : tie.Need-enum-told-34
+enum-told-34 c = search needs
+
+line-requires-34 : tie.Need-line-requires-34
+line-requires-34 c κs = search needs
+
+enum-told-35 : tie.Need-enum-told-35
+enum-told-35 c = search needs
+
+line-requires-35 : tie.Need-line-requires-35
+line-requires-35 c κs = search needs
+
+enum-told-36 : tie.Need-enum-told-36
+enum-told-36 c = search needs
+
+line-requires-36 : tie.Need-line-requires-36
+line-requires-36 c κs = search needs
+
+enum-told-37 : tie.Need-enum-told-37
+enum-told-37 c = search needs
+
+line-requires-37 : tie.Need-line-requires-37
+line-requires-37 c κs = search needs
+
+enum-told-38 : tie.Need-enum-told-38
+enum-told-38 c = search needs
+
+line-requires-38 : tie.Need-line-requires-38
+line-requires-38 c κs = search needs
+
+enum-told-39 : tie.Need-enum-told-39
+enum-told-39 c = search needs
+
+line-requires-39 : tie.Need-line-requires-39
+line-requires-39 c κs = search needs
+
 returns : tie.Need-returns
 returns c = rw (c .before .enum-told .given .1) (c .line .ensures)
 
@@ -255,6 +321,39 @@ returns-27 c = rw (c .before .enum-told27 .given .1) (c .line27 .ensures)
 returns-28 : tie.Need-returns-28
 returns-28 c = rw (c .before .enum-told28 .given .1) (c .line28 .ensures)
 
+returns-29 : tie.Need-returns-29
+returns-29 c = rw (c .before .enum-told29 .given .1) (c .line29 .ensures)
+
+returns-30 : tie.Need-returns-30
+returns-30 c = rw (c .before .enum-told30 .given .1) (c .line30 .ensures)
+
+returns-31 : tie.Need-returns-31
+returns-31 c = rw (c .before .enum-told31 .given .1) (c .line31 .ensures)
+
+returns-32 : tie.Need-returns-32
+returns-32 c = rw (c .before .enum-told32 .given .1) (c .line32 .ensures)
+
+returns-33 : tie.Need-returns-33
+returns-33 c = rw (c .before .enum-told33 .given .1) (c .line33 .ensures)
+
+returns-34 : tie.Need-returns-34
+returns-34 c = rw (c .before .enum-told34 .given .1) (c .line34 .ensures)
+
+returns-35 : tie.Need-returns-35
+returns-35 c = rw (c .before .enum-told35 .given .1) (c .line35 .ensures)
+
+returns-36 : tie.Need-returns-36
+returns-36 c = rw (c .before .enum-told36 .given .1) (c .line36 .ensures)
+
+returns-37 : tie.Need-returns-37
+returns-37 c = rw (c .before .enum-told37 .given .1) (c .line37 .ensures)
+
+returns-38 : tie.Need-returns-38
+returns-38 c = rw (c .before .enum-told38 .given .1) (c .line38 .ensures)
+
+returns-39 : tie.Need-returns-39
+returns-39 c = rw (c .before .enum-told39 .given .1) (c .line39 .ensures)
+
 pub columns-of-spec : {M : Type 1} → statement M
 columns-of-spec =
     tie.close
@@ -315,6 +414,28 @@ columns-of-spec =
     line-requires-27
     enum-told-28
     line-requires-28
+    enum-told-29
+    line-requires-29
+    enum-told-30
+    line-requires-30
+    enum-told-31
+    line-requires-31
+    enum-told-32
+    line-requires-32
+    enum-told-33
+    line-requires-33
+    enum-told-34
+    line-requires-34
+    enum-told-35
+    line-requires-35
+    enum-told-36
+    line-requires-36
+    enum-told-37
+    line-requires-37
+    enum-told-38
+    line-requires-38
+    enum-told-39
+    line-requires-39
     returns
     returns-2
     returns-3
@@ -342,4 +463,15 @@ columns-of-spec =
     returns-25
     returns-26
     returns-27
-    returns-28)
+    returns-28
+    returns-29
+    returns-30
+    returns-31
+    returns-32
+    returns-33
+    returns-34
+    returns-35
+    returns-36
+    returns-37
+    returns-38
+    returns-39)

@@ -42,11 +42,12 @@ same-length c = search needs
 returns-2 : tie.Need-returns-2
 unfolding outcomeOf outputAfter
 returns-2 c =
-    let i = now (c .before .before .before .before .before .before .before .before .before .before .before .before .before .before .args .input) in
+    let a = c .before .before .before .before .before .before .before .before .before .before .before .before .before .before .args in
+    let i = now (a .input) in
     let n = c .before .before .before .before .before .before .before .before .before .transaction-refusal .ensures in
     let e = c .before .before .before .before .before .before .before .before .if1 .left in
     let t = transaction-taken _ _ _ _ _ _ (sym n ∙ e) in
-    let d : decoded (getD i 0 0) ≡ Unknown = ap decoded (sym (c .before .before .before .before .before .before .before .byte-at .ensures)) ∙ sym (c .before .before .before .before .before .before .decode .ensures) ∙ c .before .before .before .before .enum-told .given .1 in
+    let d : decoded (a .part .blocks) (a .part .bank) (getD i 0 0) ≡ Unknown = ap (decoded (a .part .blocks) (a .part .bank)) (sym (c .before .before .before .before .before .before .before .byte-at .ensures)) ∙ sym (c .before .before .before .before .before .before .decode .ensures) ∙ c .before .before .before .before .enum-told .given .1 in
     let z = eq-eqb _ _ e in
     (rw (← n, z, d) (c .before .before .ignore .ensures .0), rw (← n, z, d, ← t .same) (c .before .before .ignore .ensures .1))
 
@@ -61,9 +62,10 @@ same-length-2 c = search needs
 returns-3 : tie.Need-returns-3
 unfolding outcomeOf outputAfter
 returns-3 c =
-    let i = now (c .before .before .before .before .before .before .before .before .before .before .before .before .before .before .before .args .input) in
+    let a = c .before .before .before .before .before .before .before .before .before .before .before .before .before .before .before .args in
+    let i = now (a .input) in
     let n = c .before .before .before .before .before .before .before .before .before .before .transaction-refusal .ensures in
-    let d : decoded (getD i 0 0) ≡ Known (c .before .before .before .before .before .decoded .given .0 .0) = ap decoded (sym (c .before .before .before .before .before .before .before .before .byte-at .ensures)) ∙ sym (c .before .before .before .before .before .before .before .decode .ensures) ∙ c .before .before .before .before .before .decoded .given .1 in
+    let d : decoded (a .part .blocks) (a .part .bank) (getD i 0 0) ≡ Known (c .before .before .before .before .before .decoded .given .0 .0) = ap (decoded (a .part .blocks) (a .part .bank)) (sym (c .before .before .before .before .before .before .before .before .byte-at .ensures)) ∙ sym (c .before .before .before .before .before .before .before .decode .ensures) ∙ c .before .before .before .before .before .decoded .given .1 in
     let z = eq-eqb _ _ (c .before .before .before .before .before .before .before .before .before .if1 .left) in
     (rw (← n, z, d) (c .before .before .answer-to .ensures .0), rw (← n, z, d) (c .before .before .answer-to .ensures .1))
 

@@ -14,8 +14,8 @@ use Rattle.yawlspar.proofs.yawlspar_tick.Tie as tie
 read-any-requires : tie.Need-read-any-requires
 read-any-requires c κs = search needs
 
-later-tick-number-requires : tie.Need-later-tick-number-requires
-later-tick-number-requires c κs = search needs
+rows-number-or-requires : tie.Need-rows-number-or-requires
+rows-number-or-requires c κs = search needs
 
 pack-requires : tie.Need-pack-requires
 pack-requires c κs = omega arith
@@ -27,7 +27,7 @@ returns : tie.Need-returns
 returns c =
     let h = recordIn (now (c .before .before .before .before .before .before .before .before .before .args .bytes)) in
     let n = ap (λ (x : Found). x .ok) (sym (c .before .before .before .before .read-any .ensures)) ∙ not-true _ (c .before .before .if1 .taken) in
-    let l = c .before .later-tick-number .ensures in
+    let l = c .before .rows-number-or .ensures in
     (c .pack .ensures ∙ rw l (unheld-tick-answer h n _ _ _), (unheld-tick-bytes h n _ _ _ _, (unheld-memory h n _ _ _ _ _, unheld-memory h n _ _ _ _ _)))
 
 sub-page : tie.Need-sub-page
@@ -75,7 +75,7 @@ yawlspar-tick-spec =
     tie.close
     (tie.spec
     read-any-requires
-    later-tick-number-requires
+    rows-number-or-requires
     pack-requires
     same-length
     returns

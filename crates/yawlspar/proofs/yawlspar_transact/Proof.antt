@@ -8,7 +8,7 @@ use Rattle.record_bytes.specs.declared.Seen.{Seen}
 use Rattle.record_bytes.specs.Read.{recordIn}
 use Rattle.record_bytes.proofs.Back.{held-length}
 use Rattle.yawlspar.proofs.Face.{unheld-answer, unheld-bytes, unheld-output, told-answer, told-bytes, told-output}
-use Rattle.yawlspar.proofs.Laws.{first-few}
+use Rattle.yawlspar.proofs.Laws.{first-packs}
 use Rattle.yawlspar.proofs.Seen.{foundIn, seen-found, seen-sound}
 use Rattle.yawlspar.proofs.yawlspar_transact.Statement.{statement}
 use Rattle.yawlspar.proofs.yawlspar_transact.Tie as tie
@@ -56,7 +56,7 @@ write-change-requires : tie.Need-write-change-requires
 write-change-requires c κs = search needs
 
 pack-requires-2 : tie.Need-pack-requires-2
-pack-requires-2 c κs = rw (c .before .before .before .before .before .before .transact-part .ensures .0) (first-few _ _ _ _ _ _ _ _)
+pack-requires-2 c κs = rw (c .before .before .before .before .before .before .transact-part .ensures .0) (first-packs _ _ _ _ _ _ _ _)
 
 same-length-2 : tie.Need-same-length-2
 same-length-2 c = search needs

@@ -55,9 +55,12 @@ shared-slice-read-t14-2 c = search needs
 shared-slice-read-t12-2 : tie.Need-shared-slice-read-t12-2
 shared-slice-read-t12-2 c = search needs
 
+shared-slice-read-t27 : tie.Need-shared-slice-read-t27
+shared-slice-read-t27 c = search needs
+
 returns : tie.Need-returns
 unfolding partIn
-returns c = let s = c .before .before .before .before .before .before .before .before .before .before .before .before in rw (two-bytes (now (s .args .bytes)) (omega (arith, s .pre)), c .before .before .before .before .stored-in .ensures)
+returns c = let s = c .before .before .before .before .before .before .before .before .before .before .before .before .before in rw (two-bytes (now (s .args .bytes)) (omega (arith, s .pre)), c .before .before .before .before .before .stored-in .ensures)
 
 pub part-in-spec : {M : Type 1} → statement M
 part-in-spec =
@@ -79,4 +82,5 @@ part-in-spec =
     shared-slice-read-t16-2
     shared-slice-read-t14-2
     shared-slice-read-t12-2
+    shared-slice-read-t27
     returns)
