@@ -27,7 +27,7 @@ use Rattle.paper.specs.Registers.{writeOf}
 use Rattle.paper.specs.Phases.{running, halted, phaseOf, workingOn}
 use Rattle.paper.specs.Operations.{ticksInAll, ticksDone, advancedBy, inUnit, nextTouch}
 use Rattle.paper.specs.Soundness.{sound}
-use Rattle.paper.specs.Table.{columns, addressing}
+use Rattle.paper.specs.Table.{columns, addressingOn}
 use Rattle.paper.specs.Commands.{changed, begins, changeBy}
 use Rattle.paper.specs.Numbers.{tickNumber}
 use Rattle.paper.specs.Calls.{ticked}
@@ -136,7 +136,7 @@ module _ (m : Memory) (at : ℕ) where
   call-blank : (c : Call) (p : Record) (x : ℕ) → sound p ≡ true → DoneBlank m at x (p .phase) → DoneBlank m at (byteAfterAll m at (callTouches c p) x) (recordAfterCall c p .phase)
   unfolding ticked
   call-blank (transaction wp i o) p x s h =
-      after-transaction (λ (q : Record). DoneBlank m at x (q .phase)) p wp i h h (λ v. h) (λ k c e. effect-blank (columns k .effect) (addressing (columns k .named) (p .part .bank)) p i x h) (arrayBytes (p .part .blocks)) rowsBytes o
+      after-transaction (λ (q : Record). DoneBlank m at x (q .phase)) p wp i h h (λ v. h) (λ k c e. effect-blank (columns k .effect) (addressingOn (columns k) (p .part)) p i x h) (arrayBytes (p .part .blocks)) rowsBytes o
   call-blank (ticks n) p x s h =
       let k = tickNumber (p .part .blocks) (sound p) (arrayBytes (p .part .blocks)) rowsBytes n in
       called-blank n k p x (eqb k 0) refl s h

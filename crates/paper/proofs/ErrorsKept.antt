@@ -25,7 +25,7 @@ use Rattle.paper.specs.Phases.{running}
 use Rattle.paper.specs.Registers.{liveSet, liveFailed}
 use Rattle.paper.specs.Operations.{ticksInAll, ticksDone, advancedBy}
 use Rattle.paper.specs.Soundness.{sound}
-use Rattle.paper.specs.Table.{columns, addressing}
+use Rattle.paper.specs.Table.{columns, addressingOn}
 use Rattle.paper.specs.Commands.{changed, begun, starts, changeBy, errorsOf, changeBarred, changeIgnored}
 use Rattle.paper.specs.Calls.{transacted, ticked}
 use Rattle.paper.specs.Ticks.{finished, advanced, worked, tickedAt, recordAfter}
@@ -79,7 +79,7 @@ module _ (p : Record) (i : List ℕ) where
   unfolding transacted
   transaction-live a r wp o =
       any-outcome liveBy (p .part) (p .phase) wp i (λ n. as-it-was refl) ignored-live
-      (λ k c e. effect-live (columns k .effect) (addressing (columns k .named) (p .part .bank)) (begun (columns k) (p .part) i)) (sound p) a r o
+      (λ k c e. effect-live (columns k .effect) (addressingOn (columns k) (p .part)) (begun (columns k) (p .part) i)) (sound p) a r o
 
 -- ticks leave it, an 85h's too
 worked-live : (p : Record) (o : Operation) (t : Bool) → cond t (advanced p (advancedBy 1 o)) (finished p o) .part .live ≡ p .part .live

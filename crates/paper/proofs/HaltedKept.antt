@@ -32,7 +32,7 @@ use Rattle.paper.specs.Operations.{ticksInAll, ticksDone, advancedBy}
 use Rattle.paper.specs.Suspend.{suspendable}
 use Rattle.paper.specs.Soundness.{sound}
 use Rattle.paper.specs.Registers.{upperBank}
-use Rattle.paper.specs.Table.{codes, largeCodes, farCodes, decoded, columns, addressing}
+use Rattle.paper.specs.Table.{codes, largeCodes, farCodes, decoded, columns, addressingOn}
 use Rattle.paper.specs.Commands.{changed, begun, starts, changeBy, changeBarred}
 use Rattle.paper.specs.Numbers.{stateOk, transactionRefusal, ignoredNumber}
 use Rattle.paper.specs.Calls.{refused, ignored, executed, outcomeTo, outcomeOf, transacted}
@@ -181,7 +181,7 @@ module _ (p : Record) (i : List ℕ) where
   decoded-releases : (wp : Bool) (o : ℕ) (d : Decoded) → decoded (p .part .blocks) (p .part .bank) (getD i 0 0) ≡ d → letsGoBy d ≡ true → transacted p (arrayBytes (p .part .blocks)) rowsBytes wp i o .number ≡ 0
       → halted (recordAfterCall (transaction wp i o) p .phase) ≡ NoWork
   decoded-releases wp o (Known k) e h z =
-      ap (λ (w : Answer). halted (w .next .phase)) (executed-so p (arrayBytes (p .part .blocks)) rowsBytes wp i o k e z) ∙ effect-releases (columns k .effect) (addressing (columns k .named) (p .part .bank)) (begun (columns k) (p .part) i) h
+      ap (λ (w : Answer). halted (w .next .phase)) (executed-so p (arrayBytes (p .part .blocks)) rowsBytes wp i o k e z) ∙ effect-releases (columns k .effect) (addressingOn (columns k) (p .part)) (begun (columns k) (p .part) i) h
   decoded-releases wp o Unknown e h z = absurd (false≢true h)
 
 -- and so does every call that lets it go

@@ -29,7 +29,7 @@ use Rattle.paper.specs.Phases.{running, workingOn, suspendedIn, resumedI
 use Rattle.paper.specs.Records.{registersIn}
 use Rattle.paper.specs.Operations.{ticksInAll, ticksDone, advancedBy}
 use Rattle.paper.specs.Commands.{changed, begun, starts, changeBy}
-use Rattle.paper.specs.Table.{columns, addressing}
+use Rattle.paper.specs.Table.{columns, addressingOn}
 use Rattle.paper.specs.Ticks.{finished, advanced, worked, tickedAt, recordAfter}
 use Rattle.paper.specs.History.{Call, transaction, ticks, recordAfterCall}
 use Rattle.paper.proofs.Extended.{or-bit}
@@ -112,6 +112,6 @@ run-locked k (suc n) p h = ticked-locked k (recordAfter n p) (run-locked k n p h
 pub call-locked : (c : Call) (k : ℕ) (p : Record) → Locked k p → Locked k (recordAfterCall c p)
 call-locked (transaction wp i o) k p h =
     after-transaction (Locked k) p wp i h h (λ v. h)
-    (λ c d e. effect-locked k p h (columns c .effect) (addressing (columns c .named) (p .part .bank)) (begun (columns c) (p .part) i) i) (arrayBytes (p .part .blocks)) rowsBytes o
+    (λ c d e. effect-locked k p h (columns c .effect) (addressingOn (columns c) (p .part)) (begun (columns c) (p .part) i) i) (arrayBytes (p .part .blocks)) rowsBytes o
 call-locked (ticks n) k p h =
     after-tick-call (Locked k) p n h (run-locked k n p h) (arrayBytes (p .part .blocks)) rowsBytes

@@ -28,7 +28,7 @@ use Rattle.paper.specs.Records.{wip, esus, psus, statusLow, functionLow}
 use Rattle.paper.specs.Registers.{tbs}
 use Rattle.paper.specs.Operations.{ticksInAll, ticksDone, advancedBy}
 use Rattle.paper.specs.Soundness.{bitsOk, sound}
-use Rattle.paper.specs.Table.{decoded, columns, addressing}
+use Rattle.paper.specs.Table.{decoded, columns, addressingOn}
 use Rattle.paper.specs.Commands.{changed, begins, changeBy}
 use Rattle.paper.specs.Numbers.{transactionRefusal, ignoredNumber}
 use Rattle.paper.specs.Calls.{refused, ignored, executed, outcomeTo, outcomeOf, answered, transacted}
@@ -126,10 +126,10 @@ module _ (p : Record) (a r : ℕ) (wp : Bool) (i : List ℕ) (o : ℕ) (k : Comm
 pub program-nests : (p : Record) (e : Operation) (a r : ℕ) (wp : Bool) (i : List ℕ) (o : ℕ) (k : Command) → p .phase ≡ Suspended e → decoded (p .part .blocks) (p .part .bank) (getD i 0 0) ≡ Known k
     → columns k .effect ≡ Programs Array → transacted p a r wp i o .number ≡ 0
     → let q = transacted p a r wp i o .next in
-    let w = addressing (columns k .named) (p .part .bank) in
+    let w = addressingOn (columns k) (p .part) in
     (q .phase ≡ Nested (programOf Array w (p .part .blocks) i) e) × (q .part .wel ≡ true) × (q .page ≡ pageData (dataSent w i))
 program-nests p e a r wp i o k f d c z =
-    let w = addressing (columns k .named) (p .part .bank) in
+    let w = addressingOn (columns k) (p .part) in
     let q = ap (λ (t : Answer). t .next) (executed-so p a r wp i o k d z) ∙ ap (λ (x : Effect). changed (changeBy x w (begins x w (p .part .blocks) i) (p .part) (p .phase) i) i p) c in
     (ap (λ (t : Record). t .phase) q ∙ ap (λ (g : Phase). workingOn g (programOf Array w (p .part .blocks) i)) f, ap (λ (t : Record). t .part .wel) q, ap (λ (t : Record). t .page) q)
 

@@ -18,7 +18,7 @@ use Rattle.words.proofs.Tests.{and-l, and-r, unless-zero, orElse-zero}
 use Rattle.paper.specs.Sizes.{isLarge, sizeOk, arrayBytes, rowsBytes, transactionLimit, tickLimit}
 use Rattle.paper.specs.Registers.{tbs, bankLoaded}
 use Rattle.paper.specs.Phases.{eraseHalted, isBusy, isSuspended}
-use Rattle.paper.specs.Table.{addressing, lengthOk, takenAsleep, takenBusy, takenSuspended}
+use Rattle.paper.specs.Table.{addressingOn, lengthOk, takenAsleep, takenBusy, takenSuspended}
 use Rattle.paper.specs.Soundness.{bitsOk, largeOk}
 use Rattle.paper.specs.Numbers.{sizeNumber, rowsNumber, lengthNumber, outputNumber, soundNumber, ticksNumber, transactionRefusal, tickNumber, stateOk, addressOk, freeOk, commandNumber}
 
@@ -83,7 +83,7 @@ pub record CommandTaken (k : Columns) (w : Work) (p : Part) (f : Phase) (i : Lis
   pub length-ok : lengthOk (k .length) (length i) ≡ true
   pub state-ok : stateOk (k .wanted) p f ≡ true
   pub latch-ok : (not (k .wel) or p .wel) ≡ true
-  pub address-ok : addressOk (k .named) (addressing (k .named) (p .bank)) i ≡ true
+  pub address-ok : addressOk (k .named) (addressingOn k p) i ≡ true
   pub free-ok : freeOk w p f wp ≡ true
 
 pub command-taken : (k : Columns) (w : Work) (p : Part) (f : Phase) (i : List ℕ) (wp : Bool) → commandNumber k w p f i wp ≡ 0 → CommandTaken k w p f i wp

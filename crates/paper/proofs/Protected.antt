@@ -198,8 +198,12 @@ large-inside : (c n : ℕ) (bottom : Bool) → largeBlocks c bottom n .first + l
 unfolding largeBlocks
 large-inside c n bottom = either-side (bottom or eqb c 0) n (largeCount c n) (omega arith)
 
+-- the rule of the large part, or that of the others
+abbrev ruledAs : Bool → ℕ → ℕ → Blocks
+ruledAs t c n = cond t (largeBlocks (c % 16) (leb 16 c) n) (ruleBlocks c n)
+
 by-rule-inside : (c n : ℕ) (t : Bool)
-    → cond t (largeBlocks (c % 16) (leb 16 c) n) (ruleBlocks c n) .first + cond t (largeBlocks (c % 16) (leb 16 c) n) (ruleBlocks c n) .count ≤ n
+    → ruledAs t c n .first + ruledAs t c n .count ≤ n
 by-rule-inside c n true = large-inside (c % 16) n (leb 16 c)
 by-rule-inside c n false = rule-inside c n
 
@@ -243,7 +247,7 @@ unfolding largeBlocks
 large-from-zero c n bottom e = large-end c n bottom (eqb c 0) refl e
 
 by-rule-from-zero : (c n : ℕ) (t : Bool)
-    → cond t (largeBlocks (c % 16) (leb 16 c) n) (ruleBlocks c n) .count ≡ 0 → cond t (largeBlocks (c % 16) (leb 16 c) n) (ruleBlocks c n) .first ≡ 0
+    → ruledAs t c n .count ≡ 0 → ruledAs t c n .first ≡ 0
 by-rule-from-zero c n true = large-from-zero (c % 16) n (leb 16 c)
 by-rule-from-zero c n false = rule-from-zero c n
 
@@ -254,7 +258,7 @@ none-from-zero c n =
 -- BP bits of 0 ask for no block, and have none, whatever TBS is; so has the code 15, but on the large part
 none-asked : (c n : ℕ) (t : Bool)
     → (t ≡ true → largeAsked (c % 16) ≡ 0) → (t ≡ false → blocksAsked c ≡ 0)
-    → cond t (largeBlocks (c % 16) (leb 16 c) n) (ruleBlocks c n) .count ≡ 0
+    → ruledAs t c n .count ≡ 0
 unfolding largeBlocks ruleBlocks
 none-asked c n true l r =
     let z : largeAsked (c % 16) ≡ 0 = l refl in

@@ -47,7 +47,7 @@ taken-erase-suspended = refl
 pub needs-wel : codesOf (λ (k : Columns). k .wel) codes ≡ 0x01 ∷ 0x42 ∷ 0x02 ∷ 0xD7 ∷ 0x20 ∷ 0x52 ∷ 0xD8 ∷ 0xC7 ∷ 0x60 ∷ 0x64 ∷ 0x62 ∷ 0x85 ∷ []
 needs-wel = refl
 
--- Of the large part: the reads are 13h, 0Ch, 16h and C8h, none is taken asleep or busy, the reads alone are while suspended, from an erase too, and those of an erase or a program need WEL
+-- Of the large part: the reads are 13h, 0Ch, 16h and C8h, none is taken asleep or busy, the reads alone are while suspended, from an erase or from a program, and those of an erase or a program need WEL
 pub large-reads : codesOf isRead largeCodes ≡ 0x13 ∷ 0x0C ∷ 0x16 ∷ 0xC8 ∷ []
 large-reads = refl
 
@@ -57,13 +57,17 @@ large-taken-asleep = refl
 pub large-taken-busy : codesOf (λ (k : Columns). takenBusy (k .taken)) largeCodes ≡ []
 large-taken-busy = refl
 
-pub large-taken-suspended : codesOf (λ (k : Columns). takenSuspended (k .taken) true) largeCodes ≡ 0x13 ∷ 0x0C ∷ 0x16 ∷ 0xC8 ∷ []
-large-taken-suspended = refl
+pub large-taken-suspended : (erase : Bool) → codesOf (λ (k : Columns). takenSuspended (k .taken) erase) largeCodes ≡ 0x13 ∷ 0x0C ∷ 0x16 ∷ 0xC8 ∷ []
+large-taken-suspended true = refl
+large-taken-suspended false = refl
 
 pub large-needs-wel : codesOf (λ (k : Columns). k .wel) largeCodes ≡ 0x12 ∷ 0x21 ∷ 0x5C ∷ 0xDC ∷ []
 large-needs-wel = refl
 
 -- the codes of table 8.3 are taken with four address bytes when they are with three, and need WEL so
+pub far-taken-suspended : codesOf (λ (k : Columns). takenSuspended (k .taken) false) farCodes ≡ 0x03 ∷ 0x0B ∷ []
+far-taken-suspended = refl
+
 pub far-taken-erase-suspended : codesOf (λ (k : Columns). takenSuspended (k .taken) true) farCodes ≡ 0x03 ∷ 0x0B ∷ 0x02 ∷ []
 far-taken-erase-suspended = refl
 

@@ -53,7 +53,7 @@ use Rattle.paper.specs.Records.{settled, marked, resting, withLive, with
 use Rattle.paper.specs.Operations.{targetFree, outsideOf}
 use Rattle.paper.specs.Suspend.{suspendable, resumable}
 use Rattle.paper.specs.Soundness.{sleepOk, latchOk, largeOk, pageOk, sound}
-use Rattle.paper.specs.Table.{decoded, line, WEL, columns, addressing}
+use Rattle.paper.specs.Table.{decoded, line, WEL, columns, addressingOn}
 use Rattle.paper.specs.Commands.{changed, begun, starts, changeBy, errorsOf, changeBarred, changeIgnored}
 use Rattle.paper.specs.Numbers.{freeOk, ignoredNumber, transactionRefusal}
 use Rattle.paper.specs.Calls.{refused, ignored, executed, outcomeTo, outcomeOf, transacted}
@@ -136,7 +136,7 @@ module _ (p : Record) (i : List ℕ) where
     transaction-same : SamePart (p .part) (transacted p a r wp i o .next)
     transaction-same =
         after-transaction (SamePart (p .part)) p wp i (refl, refl) (refl, refl) (λ v. (refl, refl))
-        (λ k c e. change-same (columns k .effect) (addressing (columns k .named) (p .part .bank)) (begun (columns k) (p .part) i)) a r o
+        (λ k c e. change-same (columns k .effect) (addressingOn (columns k) (p .part)) (begun (columns k) (p .part) i)) a r o
 
     pub transaction-size : transacted p a r wp i o .next .part .blocks ≡ p .part .blocks
     transaction-size = transaction-same .0

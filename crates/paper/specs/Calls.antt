@@ -20,7 +20,7 @@ use Rattle.types.specs.declared.Ticked.{Ticked}
 use Rattle.words.specs.Logic.{whenZero}
 use Rattle.paper.specs.Records.{fresh}
 use Rattle.paper.specs.Soundness.{sound}
-use Rattle.paper.specs.Table.{decoded, columns, addressing}
+use Rattle.paper.specs.Table.{decoded, columns, addressingOn}
 use Rattle.paper.specs.Reads.{undriven, outputOf, firstDriven}
 use Rattle.paper.specs.Commands.{changed, begun, changeBy, changeIgnored}
 use Rattle.paper.specs.Numbers.{powerUpNumber, transactionRefusal, tickNumber, ignoredNumber}
@@ -55,7 +55,7 @@ ignored d number p n = record { change = changeIgnored d number p; number = numb
 -- 0: executed
 abbrev pub executed : Columns → Part → Phase → List ℕ → Outcome
 executed k p f i =
-    record { change = changeBy (k .effect) (addressing (k .named) (p .bank)) (begun k p i) p f i; number = 0; first = firstDriven k (length i) }
+    record { change = changeBy (k .effect) (addressingOn k p) (begun k p i) p f i; number = 0; first = firstDriven k (length i) }
 
 -- the outcome of a first byte that was decoded
 abbrev pub outcomeTo : Decoded → Part → Phase → Bool → List ℕ → Outcome

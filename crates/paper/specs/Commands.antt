@@ -25,7 +25,7 @@ use Rattle.paper.specs.Records.{settled, freshPart, marked, resting, wit
 use Rattle.paper.specs.Program.{dataSent, pageData, noData, programOf}
 use Rattle.paper.specs.Erase.{eraseOf}
 use Rattle.paper.specs.Registers.{writeOf, E_ERR, P_ERR, PROT_E, liveSet, liveCleared, liveFailed, bankSet, bankTurned}
-use Rattle.paper.specs.Table.{columns, addressing}
+use Rattle.paper.specs.Table.{columns, addressingOn}
 
 -- what becomes of page data g in a call with the input i
 abbrev pub pageAfter : Data → List ℕ → List ℕ → List ℕ
@@ -65,7 +65,7 @@ begins (SetsFar far) g n i = NoWork
 
 -- so a command with these columns on a part
 abbrev pub begun : Columns → Part → List ℕ → Work
-begun k p i = begins (k .effect) (addressing (k .named) (p .bank)) (p .blocks) i
+begun k p i = begins (k .effect) (addressingOn k p) (p .blocks) i
 
 -- every transaction but an executed 66h leaves the part unarmed
 abbrev pub unarmed : Part → Part

@@ -30,7 +30,7 @@ use Rattle.paper.specs.Registers.{bankLoaded}
 use Rattle.paper.specs.Phases.{halted, eraseHalted, isBusy, isSuspended}
 use Rattle.paper.specs.Operations.{targetFree, outsideOf}
 use Rattle.paper.specs.Soundness.{bitsOk, largeOk}
-use Rattle.paper.specs.Table.{columns, addressing, lengthOk, takenAsleep, takenBusy, takenSuspended}
+use Rattle.paper.specs.Table.{columns, addressingOn, lengthOk, takenAsleep, takenBusy, takenSuspended}
 use Rattle.paper.specs.Suspend.{suspendable, resumable}
 use Rattle.paper.specs.Commands.{begun}
 
@@ -118,7 +118,7 @@ commandNumber k w p f i wp =
     orElse unless (lengthOk (k .length) (length i)) 24
     orElse unless (stateOk (k .wanted) p f) 25
     orElse unless (not (k .wel) or p .wel) 26
-    orElse unless (addressOk (k .named) (addressing (k .named) (p .bank)) i) 27
+    orElse unless (addressOk (k .named) (addressingOn k p) i) 27
     orElse unless (freeOk w p f wp) 28
 
 -- 20 to 28: 20 where the first byte is in no row of the command table, even asleep or busy

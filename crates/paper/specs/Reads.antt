@@ -14,7 +14,7 @@ use Rattle.words.specs.Lists.{upTo, round}
 use Rattle.paper.specs.Sizes.{pageBytes}
 use Rattle.paper.specs.Address.{addressIn, rowBase, rowByte, thirdAddressByte}
 use Rattle.paper.specs.Registers.{extendedRead}
-use Rattle.paper.specs.Table.{addressing, isRead}
+use Rattle.paper.specs.Table.{addressingOn, isRead}
 
 -- output places that the part doesn't drive hold FFh
 abbrev pub undrivenByte : ℕ
@@ -55,8 +55,8 @@ sourceStart BankByte g n i = 0
 abbrev pub outputByte : Columns → Part → List ℕ → List ℕ → List ℕ → ℕ → ℕ
 outputByte k p xs rs i j =
     cond (isRead k and leb (k .from) j)
-    (round (sourceBytes (k .source) (addressing (k .named) (p .bank)) p xs rs i)
-    (sourceStart (k .source) (addressing (k .named) (p .bank)) (p .blocks) i)
+    (round (sourceBytes (k .source) (addressingOn k p) p xs rs i)
+    (sourceStart (k .source) (addressingOn k p) (p .blocks) i)
     (j - k .from))
     undrivenByte
 

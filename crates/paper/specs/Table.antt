@@ -23,6 +23,7 @@ use Rattle.types.specs.declared.Named.the-variants.{Bare, Place, Far, InRow}
 use Rattle.types.specs.declared.Wanted.{Wanted}
 use Rattle.types.specs.declared.Wanted.the-variants.{Any, Running, Halted, Armed}
 use Rattle.types.specs.declared.Columns.{Columns}
+use Rattle.types.specs.declared.Part.{Part}
 use Rattle.types.specs.declared.Addressing.{Addressing}
 use Rattle.types.specs.declared.Addressing.the-variants.{Three, Four}
 use Rattle.paper.specs.Sizes.{isLarge}
@@ -137,6 +138,10 @@ addressing Bare bank = Three false
 addressing Place bank = Three (upperBank bank)
 addressing Far bank = Four
 addressing InRow bank = Three false
+
+-- so that of a command with these columns on a part
+abbrev pub addressingOn : Columns → Part → Addressing
+addressingOn k p = addressing (k .named) (p .bank)
 
 -- a command is taken while the part is asleep, busy, or suspended; in this from an erase or from a program
 abbrev pub takenAsleep : Taken → Bool

@@ -19,7 +19,7 @@ use Rattle.types.specs.declared.Decoded.the-variants.{Known}
 use Rattle.words.proofs.Tests.{and-l}
 use Rattle.paper.specs.Sizes.{sizeOk, arrayBytes, rowsBytes}
 use Rattle.paper.specs.Address.{addressSent, rowOk}
-use Rattle.paper.specs.Table.{columns, addressing, drives}
+use Rattle.paper.specs.Table.{columns, addressingOn, drives}
 use Rattle.paper.specs.Reads.{sourceBytes}
 use Rattle.paper.specs.Commands.{begins, begun}
 use Rattle.paper.specs.Numbers.{addressOk, commandNumber, ignoredNumber}
@@ -55,10 +55,10 @@ module _ (p : Part) (xs rs i : List ℕ) (s : sizeOk (p .blocks) ≡ true) (arra
   some ExtendedByte g r d z = omega arith
   some BankByte g r d z = omega arith
 
-  sent : (k : Command) (w : Source) → let g = addressing (columns k .named) (p .bank) in Asked w g i → drives w ≡ true → length (sourceBytes w g p xs rs i) ≡ 0 → ⊥
-  sent k w = some w (addressing (columns k .named) (p .bank))
+  sent : (k : Command) (w : Source) → let g = addressingOn (columns k) p in Asked w g i → drives w ≡ true → length (sourceBytes w g p xs rs i) ≡ 0 → ⊥
+  sent k w = some w (addressingOn (columns k) p)
 
-  pub has-bytes : (k : Command) → addressOk (columns k .named) (addressing (columns k .named) (p .bank)) i ≡ true → HasBytes (columns k) p xs rs i
+  pub has-bytes : (k : Command) → addressOk (columns k .named) (addressingOn (columns k) p) i ≡ true → HasBytes (columns k) p xs rs i
   has-bytes Read h = sent Read ArrayBytes tt
   has-bytes FastRead h = sent FastRead ArrayBytes tt
   has-bytes ReadStatus h = sent ReadStatus StatusByte tt
@@ -101,7 +101,7 @@ module _ (p : Part) (xs rs i : List ℕ) (s : sizeOk (p .blocks) ≡ true) (arra
 
 -- the number that was worked out of a command's columns and of what it begins
 module _ (c : Command) (p : Part) (f : Phase) (i : List ℕ) (wp : Bool) where
-  pub number-told : {k : Columns} {g : Addressing} {w : Work} {x : ℕ} → k ≡ columns c → g ≡ addressing (k .named) (p .bank) → w ≡ begins (k .effect) g (p .blocks) i → x ≡ commandNumber k w p f i wp
+  pub number-told : {k : Columns} {g : Addressing} {w : Work} {x : ℕ} → k ≡ columns c → g ≡ addressingOn k p → w ≡ begins (k .effect) g (p .blocks) i → x ≡ commandNumber k w p f i wp
       → x ≡ ignoredNumber (Known c) p f i wp
   number-told {k} ek eg ew ex =
       ex ∙ ap (λ (y : Work). commandNumber k y p f i wp) (ew ∙ ap (λ (y : Addressing). begins (k .effect) y (p .blocks) i) eg) ∙ ap (λ (y : Columns). commandNumber y (begun y p i) p f i wp) ek

@@ -17,14 +17,14 @@ use Rattle.words.specs.Logic.{_and_}
 use Rattle.words.specs.Lists.{upTo, round}
 use Rattle.words.proofs.Lists.{upTo-const}
 use Rattle.paper.specs.Address.{rowBase}
-use Rattle.paper.specs.Table.{addressing, drives}
+use Rattle.paper.specs.Table.{addressingOn, drives}
 use Rattle.paper.specs.Reads.{undrivenByte, undriven, sourceBytes, sourceStart, outputOf}
 use Rattle.transact.specs.Shown.{shown, HasBytes}
 
 module _ (k : Columns) (p : Part) (xs rs i : List ℕ) where
   -- how the address is sent
   abbrev form : Addressing
-  form = addressing (k .named) (p .bank)
+  form = addressingOn k p
 
   -- the output with what is driven apart
   outputFor : Source → Bool → List ℕ

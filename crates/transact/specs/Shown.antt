@@ -9,7 +9,7 @@ use Rattle.types.specs.declared.Columns.{Columns}
 use Rattle.types.specs.declared.Part.{Part}
 use Rattle.words.specs.Lists.{upTo, round}
 use Rattle.paper.specs.Reads.{undrivenByte, sourceBytes}
-use Rattle.paper.specs.Table.{addressing, isRead}
+use Rattle.paper.specs.Table.{addressingOn, isRead}
 
 -- the places before the first driven one hold FFh
 abbrev pub shown : List ℕ → ℕ → ℕ → ℕ → List ℕ
@@ -17,4 +17,4 @@ shown s at from n = upTo n (λ (j : ℕ). cond (leb from j) (round s at (j - fro
 
 -- a command that drives has something to drive
 abbrev pub HasBytes : Columns → Part → List ℕ → List ℕ → List ℕ → Type 0
-HasBytes k p xs rs i = isRead k ≡ true → length (sourceBytes (k .source) (addressing (k .named) (p .bank)) p xs rs i) ≡ 0 → ⊥
+HasBytes k p xs rs i = isRead k ≡ true → length (sourceBytes (k .source) (addressingOn k p) p xs rs i) ≡ 0 → ⊥
