@@ -1,8 +1,8 @@
 /*
  * Yawlspar for C: the model of an ISSI IS25 serial flash.
  *
- * Link with target/staticlib/libyawlspar.a, the archive that `rt staticlib yawlspar` writes. It is for
- * x86-64 programs. The functions in it were compiled from proved code.
+ * Link with libyawlspar.a, the archive that scripts/archive puts beside this header. It is for x86-64
+ * programs. The functions in it were compiled from proved code.
  *
  * Each function always returns, and is defined for every value of every number: what makes no sense is
  * answered by a number that is named below. All that is asked of a caller is that each pointer is valid
@@ -19,6 +19,39 @@
 #ifdef __cplusplus
 extern "C" {
 #endif
+
+/*
+ * The version: 1000 times the number before its point, and the number behind it. It counts up with each
+ * change of this header, of a record's bytes or of an answer. yawlspar_version gives that of the archive, and
+ * a program asks once whether both are one: if YAWLSPAR_MATCHES() is 0, it was compiled with the header of one
+ * version and linked to the archive of another, and nothing that follows holds.
+ */
+#define YAWLSPAR_VERSION 1005
+uint64_t yawlspar_version(void);
+#define YAWLSPAR_MATCHES() (yawlspar_version() == YAWLSPAR_VERSION)
+
+/*
+ * The numbers that a call answers. 0 is a call that was executed. 1 to 6 are refusals: the call was wrong, and
+ * the part has not seen it. 20 to 28 are the part ignoring a transaction.
+ */
+enum yawlspar_number {
+    YAWLSPAR_EXECUTED = 0,
+    YAWLSPAR_BAD_SIZE = 1,      /* there is no part of that size, or the array is not as long as the part is large */
+    YAWLSPAR_BAD_ROWS = 2,      /* the rows are not 1,024 bytes */
+    YAWLSPAR_BAD_INPUT = 3,     /* no byte is sent, or more than 4,096 */
+    YAWLSPAR_BAD_OUTPUT = 4,    /* the output is not as long as the input */
+    YAWLSPAR_BAD_RECORD = 5,    /* the record is none, or not sound, or a number beside it is out of its range */
+    YAWLSPAR_BAD_TICKS = 6,     /* more ticks than one call runs */
+    YAWLSPAR_UNKNOWN = 20,      /* the first byte is no command of the part */
+    YAWLSPAR_ASLEEP = 21,       /* a sleeping part hears ABh alone */
+    YAWLSPAR_BUSY = 22,         /* a busy part does not take the command */
+    YAWLSPAR_SUSPENDED = 23,    /* a suspended part does not take it */
+    YAWLSPAR_WRONG_LENGTH = 24, /* more or fewer bytes than the command has */
+    YAWLSPAR_OUT_OF_TURN = 25,  /* nothing to suspend, nothing to resume, or 99h without 66h right before it */
+    YAWLSPAR_NOT_ENABLED = 26,  /* WEL is 0: 06h comes first */
+    YAWLSPAR_NO_SUCH_ROW = 27,  /* the address is that of no information row */
+    YAWLSPAR_PROTECTED = 28     /* protected, locked, in the unit of a suspended erase, or barred by WP# */
+};
 
 /*
  * The protection question: which blocks the block protection bits protect. For a code and a size it has one
@@ -94,6 +127,14 @@ uint64_t yawlspar_page_place(uint64_t start, uint64_t index);
  * copies the part. The array, blocks * 65536 bytes, and the four information rows, 1,024 bytes, are the
  * caller's too.
  *
+ * A record of zeros, which was never powered up, is answered 1: it has no size. A record has no checksum:
+ * with a byte changed it may be another sound one, and is then taken for that.
+ *
+ * To cut the power of a part, send ABh, 66h and 99h, each byte as a transaction: the record is then that of a
+ * fresh power-up with the registers that the part has stored, whatever it was at. To keep a part in a file, write
+ * its record, array and rows, and YAWLSPAR_VERSION, whose records these are. After loading them, yawlspar_tick
+ * with 0 ticks changes nothing, and answers 0 exactly where there is a sound record of a part of that size.
+ *
  * The result r of a call is two numbers in one: YAWLSPAR_NUMBER(r), the answer, 0 for a call that was
  * executed, and above it the place or the count that is named at the call. Where several numbers apply,
  * the lowest is the answer. A call that is refused, with 1 to 6, leaves every byte of every buffer as it
@@ -137,6 +178,9 @@ uint64_t yawlspar_power_up(uint8_t *record, size_t record_len, uint64_t blocks, 
  *   wp_high  1 if the pin WP# is high, 0 if it is low
  *   input    1 to 4,096 bytes
  *   output   as many bytes, all of which are written; places that the part does not drive hold FFh
+ *
+ * Input and output are two buffers. In one buffer what is sent would be lost: FFh is written over it, and a 02h
+ * would program FFh.
  *
  * The number is
  *   0  if the command was executed;

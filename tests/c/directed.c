@@ -1226,6 +1226,27 @@ static void during_erase_suspend(uint32_t blocks)
     whole_array_is_as_stored();
 }
 
+/* A record of zeros was never powered up, and has no size: 1. The call is made of the model alone, and the junk is put
+ * back. */
+static void never_powered_up(struct call call)
+{
+    uint8_t junk[YAWLSPAR_RECORD_BYTES];
+    uint64_t got;
+    size_t i;
+
+    memcpy(junk, model.record, sizeof junk);
+    memset(model.record, 0, sizeof junk);
+    prepare(&call);
+    got = call_model(&model, &call);
+    if (got != 1)
+        fail(&call, "the result of a record of zeros", 1, got);
+    for (i = 0; i < sizeof junk; i++)
+        if (model.record[i] != 0)
+            fail(&call, "a byte of a record of zeros", 0, model.record[i]);
+    memcpy(model.record, junk, sizeof junk);
+    same_memory(&call);
+}
+
 static void on_size(uint32_t blocks)
 {
     struct call no_record;
@@ -1236,6 +1257,8 @@ static void on_size(uint32_t blocks)
     number_is(&no_record, 5);
     no_record = fitting(TICK);
     number_is(&no_record, 5);
+    never_powered_up(status_read());
+    never_powered_up(fitting(TICK));
     power_up_numbers(blocks);
     powered(blocks);
     transact_numbers();

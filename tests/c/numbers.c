@@ -1,7 +1,8 @@
 /*
  * Compares the five functions of yawlspar.h that are on numbers alone with their rules, which are
  * written out here in C. Those of the protection question are also compared with the block table,
- * which is worked out by hand, with the reference model, and with one another.
+ * which is worked out by hand, with the reference model, and with one another. And the archive's
+ * version is the header's.
  *
  * It prints the first differences, if there are any, and then one line with the number of
  * comparisons and of differences. The exit status is 0 if there is no difference, and else 1.
@@ -457,8 +458,21 @@ static void places(void)
     }
 }
 
+/* ---- The version. */
+
+static void version(void)
+{
+    comparisons++;
+    if (YAWLSPAR_MATCHES())
+        return;
+    differences++;
+    printf("the archive is of version %llu, the header of %llu\n", (unsigned long long)yawlspar_version(),
+           (unsigned long long)YAWLSPAR_VERSION);
+}
+
 int main(void)
 {
+    version();
     fixed_cases();
     protection();
     protected_blocks();

@@ -9,6 +9,7 @@ ghost use lib.ListN.{length};
 ghost use Rattle.types.specs.declared.Memory.the-variants.{Array, Rows};
 ghost use Rattle.record_bytes.specs.Read.{recordIn};
 ghost use Rattle.yawlspar.specs.Face.{packed, asked, givenNumber, powerUpAnswer, powerUpBytes, transactAnswer, transactBytes, transactOutput, tickAnswer, tickBytes, tickMemory};
+ghost use Rattle.yawlspar.specs.Version.{version};
 use record_bytes::places;
 use types::Identity;
 
@@ -158,4 +159,12 @@ pub extern "C" fn yawlspar_tick(
     let change = waited.change;
     record_bytes::writing::write_after(change, bytes);
     pack(waited.number, waited.done)
+}
+
+// The version that the archive is of, which a program compares with its header's.
+#[no_mangle]
+pub extern "C" fn yawlspar_version() -> u64
+    ensures { λ r. ⌜ r ≡ version ⌝ }
+{
+    1005
 }
