@@ -7,6 +7,7 @@
  * The firmware counts its boots in the first sector, and erases sector 1 in the background. When the program ends, the erase
  * is under way. What three runs print is in keep.out; README.md says what each line shows.
  */
+#include <errno.h>
 #include <stdbool.h>
 #include <stdint.h>
 #include <stdio.h>
@@ -34,7 +35,7 @@ static void load(FILE *from, const char *file)
 {
     char expected[64], line[64] = "";
 
-    snprintf(expected, sizeof expected, "yawlspar %u, %u blocks\n", YAWLSPAR_VERSION, BLOCKS);
+    snprintf(expected, sizeof expected, "yawlspar %u, %u blocks\n", (unsigned)YAWLSPAR_VERSION, BLOCKS);
     if (fgets(line, sizeof line, from) == NULL || strcmp(line, expected) != 0)
         stop(file, "no part of this version and size");
     if (fread(array, 1, sizeof array, from) != sizeof array || fread(rows, 1, sizeof rows, from) != sizeof rows ||
@@ -56,7 +57,7 @@ static void save(const char *file)
     to = fopen(fresh, "wb");
     if (to == NULL)
         stop(fresh, "it cannot be written");
-    good = fprintf(to, "yawlspar %u, %u blocks\n", YAWLSPAR_VERSION, BLOCKS) > 0;
+    good = fprintf(to, "yawlspar %u, %u blocks\n", (unsigned)YAWLSPAR_VERSION, BLOCKS) > 0;
     good = good && fwrite(array, 1, sizeof array, to) == sizeof array;
     good = good && fwrite(rows, 1, sizeof rows, to) == sizeof rows;
     good = good && fwrite(record, 1, sizeof record, to) == sizeof record;
@@ -173,13 +174,15 @@ static void program_byte(uint32_t address, uint8_t byte)
     delay(1);
 }
 
-/* One byte of the sector for each boot: 00h where it was used. */
+/* One byte of the sector for each boot: 00h where it was used. Where all of them are, the count stays. */
 static uint32_t count_boot(void)
 {
     uint32_t boots = 0;
 
     while (boots < SECTOR_BYTES && read_byte(BOOTS + boots) == 0x00)
         boots++;
+    if (boots == SECTOR_BYTES)
+        return boots;
     program_byte(BOOTS + boots, 0x00);
     return boots + 1;
 }
@@ -207,6 +210,8 @@ int main(int argc, char **argv)
     if (!YAWLSPAR_MATCHES())
         stop(argv[0], "the header is of one version and the archive of another");
     from = fopen(argv[1], "rb");
+    if (from == NULL && errno != ENOENT)
+        stop(argv[1], "it cannot be read");
     if (from == NULL) {
         printf("a blank part\n");
         make_blank();
