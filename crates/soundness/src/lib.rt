@@ -5,7 +5,7 @@ ghost use Rattle.types.specs.declared.Phase.the-variants.{Idle};
 ghost use Rattle.words.specs.Logic.{_and_};
 ghost use Rattle.words.specs.Lists.{allZero};
 ghost use Rattle.paper.specs.Sizes.{sizeOk};
-ghost use Rattle.paper.specs.Soundness.{latchOk, nestOk, operationOk, keptIn, partSound, sound};
+ghost use Rattle.paper.specs.Soundness.{latchOk, nestOk, operationOk, bitsOk, largeOk, keptIn, partSound, sound};
 ghost use Rattle.paper.proofs.Soundness.{recordOf};
 ghost use Rattle.soundness.specs.Judged.{workIn, workOk, outerOk, soundTold};
 use types::Operation;
@@ -101,6 +101,16 @@ fn kept_in(phase: Phase) -> usize
     }
 }
 
+// Whether a part's registers can stand in a phase, and on a part of its size.
+fn registers_ok(part: Part, phase: Phase) -> bool
+    ensures { λ r. ⌜ r ≡ (bitsOk phase (part .wel) (part .stored) and largeOk (part .blocks) (part .stored .function) (part .bank)) ⌝ }
+{
+    let stored = part.stored;
+    let bits = record::bits_ok(phase, part.wel, stored);
+    let large = record::large_ok(part.blocks, stored.function, part.bank);
+    words::both(bits, large)
+}
+
 // Whether a part in a phase is sound, whatever its page data, where its size was tested.
 fn is_sound_part(size: bool, part: Part, phase: Phase) -> bool
     requires { ⌜ size ≡ sizeOk (part .blocks) ⌝ }
@@ -112,11 +122,7 @@ fn is_sound_part(size: bool, part: Part, phase: Phase) -> bool
     let outer = outer_ok(phase, part.blocks, stored);
     let work = work_in(phase);
     let own = work_ok(work, phases::is_suspended(phase), part.blocks, stored);
-    let bits = record::bits_ok(phase, part.wel, stored);
-    let registers = words::both(
-        bits,
-        record::large_ok(part.blocks, stored.function, part.bank),
-    );
+    let registers = registers_ok(part, phase);
     let operation = words::both(outer, own);
     words::both(
         size,
@@ -141,12 +147,7 @@ fn is_sound_idle(size: bool, part: Part, empty: bool) -> bool
     requires { ⌜ size ≡ sizeOk (part .blocks) ⌝ }
     ensures { λ r. ⌜ r ≡ (partSound part Idle and empty) ⌝ }
 {
-    let stored = part.stored;
-    let bits = record::bits_ok(Phase::Idle, part.wel, stored);
-    let registers = words::both(
-        bits,
-        record::large_ok(part.blocks, stored.function, part.bank),
-    );
+    let registers = registers_ok(part, Phase::Idle);
     words::both(size, words::both(registers, empty))
 }
 
@@ -177,11 +178,7 @@ pub fn is_sound_any(part: Part, phase: Phase, page: &[u8]) -> bool
     let outer = outer_ok(phase, part.blocks, stored);
     let work = work_in(phase);
     let own = work_ok(work, phases::is_suspended(phase), part.blocks, stored);
-    let bits = record::bits_ok(phase, part.wel, stored);
-    let registers = words::both(
-        bits,
-        record::large_ok(part.blocks, stored.function, part.bank),
-    );
+    let registers = registers_ok(part, phase);
     let operation = words::both(outer, own);
     let whole = words::both(
         size,

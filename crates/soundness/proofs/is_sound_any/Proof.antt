@@ -32,11 +32,8 @@ is-suspended-requires c κs = search needs
 work-ok-requires : tie.Need-work-ok-requires
 work-ok-requires c κs = search needs
 
-bits-ok-requires : tie.Need-bits-ok-requires
-bits-ok-requires c κs = search needs
-
-large-ok-requires : tie.Need-large-ok-requires
-large-ok-requires c κs = search needs
+registers-ok-requires : tie.Need-registers-ok-requires
+registers-ok-requires c κs = search needs
 
 both-requires : tie.Need-both-requires
 both-requires c κs = search needs
@@ -53,23 +50,20 @@ both-requires-4 c κs = search needs
 both-requires-5 : tie.Need-both-requires-5
 both-requires-5 c κs = search needs
 
-both-requires-6 : tie.Need-both-requires-6
-both-requires-6 c κs = search needs
-
 kept-in-requires : tie.Need-kept-in-requires
 kept-in-requires c κs = search needs
 
 is-zero-from-requires : tie.Need-is-zero-from-requires
 is-zero-from-requires c κs = search needs
 
-both-requires-7 : tie.Need-both-requires-7
-both-requires-7 c κs = search needs
+both-requires-6 : tie.Need-both-requires-6
+both-requires-6 c κs = search needs
 
 returns : tie.Need-returns
 unfolding sound partSound pageOk
 returns c =
-    let a = c .before .before .before .before .before .before .before .before .before .before .before .before .before .before .before .before .before .before .before .before .before .before .before .args in
-    rw (c .both7 .ensures, c .before .is-zero-from .ensures, c .before .before .kept-in .ensures, c .before .before .before .both6 .ensures, c .before .before .before .before .both5 .ensures, c .before .before .before .before .before .both4 .ensures, c .before .before .before .before .before .before .both3 .ensures, c .before .before .before .before .before .before .before .both2 .ensures, c .before .before .before .before .before .before .before .before .both .ensures, c .before .before .before .before .before .before .before .before .before .large-ok .ensures, c .before .before .before .before .before .before .before .before .before .before .bits-ok .ensures, c .before .before .before .before .before .before .before .before .before .before .before .work-ok .ensures, c .before .before .before .before .before .before .before .before .before .before .before .before .is-suspended .ensures, c .before .before .before .before .before .before .before .before .before .before .before .before .before .work-in .ensures, c .before .before .before .before .before .before .before .before .before .before .before .before .before .before .outer-ok .ensures, c .before .before .before .before .before .before .before .before .before .before .before .before .before .before .before .latch-ok .ensures, c .before .before .before .before .before .before .before .before .before .before .before .before .before .before .before .before .either .ensures, c .before .before .before .before .before .before .before .before .before .before .before .before .before .before .before .before .before .before .is-idle .ensures, c .before .before .before .before .before .before .before .before .before .before .before .before .before .before .before .before .before .before .before .size-ok .ensures, phase-ok-as (a .phase) (a .part .blocks) (a .part .stored))
+    let a = c .before .before .before .before .before .before .before .before .before .before .before .before .before .before .before .before .before .before .before .before .before .args in
+    rw (c .both6 .ensures, c .before .is-zero-from .ensures, c .before .before .kept-in .ensures, c .before .before .before .both5 .ensures, c .before .before .before .before .both4 .ensures, c .before .before .before .before .before .both3 .ensures, c .before .before .before .before .before .before .both2 .ensures, c .before .before .before .before .before .before .before .both .ensures, c .before .before .before .before .before .before .before .before .registers-ok .ensures, c .before .before .before .before .before .before .before .before .before .work-ok .ensures, c .before .before .before .before .before .before .before .before .before .before .is-suspended .ensures, c .before .before .before .before .before .before .before .before .before .before .before .work-in .ensures, c .before .before .before .before .before .before .before .before .before .before .before .before .outer-ok .ensures, c .before .before .before .before .before .before .before .before .before .before .before .before .before .latch-ok .ensures, c .before .before .before .before .before .before .before .before .before .before .before .before .before .before .either .ensures, c .before .before .before .before .before .before .before .before .before .before .before .before .before .before .before .before .is-idle .ensures, c .before .before .before .before .before .before .before .before .before .before .before .before .before .before .before .before .before .size-ok .ensures, phase-ok-as (a .phase) (a .part .blocks) (a .part .stored))
 
 pub is-sound-any-spec : {M : Type 1} → statement M
 is-sound-any-spec =
@@ -84,15 +78,13 @@ is-sound-any-spec =
     work-in-requires
     is-suspended-requires
     work-ok-requires
-    bits-ok-requires
-    large-ok-requires
+    registers-ok-requires
     both-requires
     both-requires-2
     both-requires-3
     both-requires-4
     both-requires-5
-    both-requires-6
     kept-in-requires
     is-zero-from-requires
-    both-requires-7
+    both-requires-6
     returns)
