@@ -2,6 +2,7 @@
 #include "words.h"
 
 #include <assert.h>
+#include <stdio.h>
 #include <stdlib.h>
 #include <string.h>
 
@@ -17,7 +18,10 @@ size_t words_of(const char *text, char *words[MOST])
     while (*(text += strspn(text, " ")) != '\0') {
         size_t length = strcspn(text, " ");
 
-        assert(count < MOST);
+        if (count == MOST) {
+            fprintf(stderr, "more than %d words\n", MOST);
+            abort();
+        }
         words[count] = malloc(length + 1);
         assert(words[count] != NULL);
         memcpy(words[count], text, length);
