@@ -5,10 +5,10 @@
  * programs. The functions in it were compiled from proved code.
  *
  * Each function always returns, and is defined for every value of every number: what makes no sense is
- * answered by a number that is named below. All that is asked of a caller is that each pointer is valid
- * for the length that is passed with it, and that nothing overlaps a buffer that is written. No function
- * keeps or shares any state, so that each may be called from any thread, on buffers of its own. The same
- * arguments and bytes always have the same result.
+ * answered with a number that is named below. The caller only has to make sure that each pointer is valid
+ * for the length passed with it, and that nothing overlaps a buffer that is written. No function
+ * keeps or shares any state, so each may be called from any thread, on its own buffers. The same
+ * arguments and bytes always give the same result.
  */
 #ifndef YAWLSPAR_H
 #define YAWLSPAR_H
@@ -21,18 +21,18 @@ extern "C" {
 #endif
 
 /*
- * The version: 1000 times the number before its point, and the number behind it. It counts up with each
- * change of this header, of a record's bytes or of an answer. yawlspar_version gives that of the archive, and
- * a program asks once whether both are one: if YAWLSPAR_MATCHES() is 0, it was compiled with the header of one
- * version and linked to the archive of another, and nothing that follows holds.
+ * The version: 1000 times the number before its point, plus the number after it. It goes up with each
+ * change of this header, of a record's bytes or of an answer. yawlspar_version gives the archive's version. A
+ * program should check once that both are the same: if YAWLSPAR_MATCHES() is 0, it was compiled with the header
+ * of one version and linked to the archive of another, and nothing below holds.
  */
 #define YAWLSPAR_VERSION 1005
 uint64_t yawlspar_version(void);
 #define YAWLSPAR_MATCHES() (yawlspar_version() == YAWLSPAR_VERSION)
 
 /*
- * The numbers that a call answers. 0 is a call that was executed. 1 to 6 are refusals: the call was wrong, and
- * the part has not seen it. 20 to 28 are the part ignoring a transaction.
+ * The numbers that a call answers. 0 means that the call was executed. 1 to 6 are refusals: the call was wrong,
+ * and the part has not seen it. 20 to 28 mean that the part ignored a transaction.
  */
 enum yawlspar_number {
     YAWLSPAR_EXECUTED = 0,
@@ -40,37 +40,37 @@ enum yawlspar_number {
     YAWLSPAR_BAD_ROWS = 2,      /* the rows are not 1,024 bytes */
     YAWLSPAR_BAD_INPUT = 3,     /* no byte is sent, or more than 4,096 */
     YAWLSPAR_BAD_OUTPUT = 4,    /* the output is not as long as the input */
-    YAWLSPAR_BAD_RECORD = 5,    /* the record is none, or not sound, or a number beside it is out of its range */
+    YAWLSPAR_BAD_RECORD = 5,    /* no record, or one that is not sound, or another argument is out of range */
     YAWLSPAR_BAD_TICKS = 6,     /* more ticks than one call runs */
-    YAWLSPAR_UNKNOWN = 20,      /* the first byte is no command of the part */
-    YAWLSPAR_ASLEEP = 21,       /* a sleeping part hears ABh alone */
+    YAWLSPAR_UNKNOWN = 20,      /* the first byte is not a command of the part */
+    YAWLSPAR_ASLEEP = 21,       /* a sleeping part takes only ABh */
     YAWLSPAR_BUSY = 22,         /* a busy part does not take the command */
     YAWLSPAR_SUSPENDED = 23,    /* a suspended part does not take it */
     YAWLSPAR_WRONG_LENGTH = 24, /* more or fewer bytes than the command has */
     YAWLSPAR_OUT_OF_TURN = 25,  /* nothing to suspend, nothing to resume, or 99h without 66h right before it */
     YAWLSPAR_NOT_ENABLED = 26,  /* WEL is 0: 06h comes first */
-    YAWLSPAR_NO_SUCH_ROW = 27,  /* the address is that of no information row */
+    YAWLSPAR_NO_SUCH_ROW = 27,  /* the address is not that of an information row */
     YAWLSPAR_PROTECTED = 28     /* protected, locked, in the unit of a suspended erase, or barred by WP# */
 };
 
 /*
- * The protection question: which blocks the block protection bits protect. For a code and a size it has one
+ * The protection question: which blocks do the block protection bits protect? For a code and a size it has one
  * answer, the first protected block and the count of protected blocks from it, and a number that says whether
- * it can be answered. The four functions below read that answer. Their arguments; those that give first and
- * count take no address:
+ * it can be answered. The four functions below read that answer. These are their arguments; the functions that
+ * give first and count take no address:
  *
  *   code     the block protection bits BP3..BP0 of the status register, as a number from 0 to 15,
- *            with BP0 as its lowest bit: (status >> 2) & 15. On 512 blocks it is 16 more where the top or bottom
+ *            with BP0 as its lowest bit: (status >> 2) & 15. On 512 blocks add 16 if the top or bottom
  *            bit TBS, bit 1 of the function register, is 1: a number from 0 to 31,
  *            ((status >> 2) & 15) | ((function & 2) << 3)
  *   blocks   the size of the array in blocks of 65,536 bytes: 1, 4, 8, 16 or 512
  *   address  any number
  *
- * The rule, for an array of N = 1, 4, 8 or 16 blocks, which are numbered from 0:
+ * The rule, for an array of N = 1, 4, 8 or 16 blocks, numbered from 0:
  *   code 0 or 15    no block is protected;
  *   code c, 1..7    the top min(N, 2^(c-1)) blocks are protected;
  *   code c, 8..14   the bottom min(N, 2^(14-c)) blocks are protected.
- * and of 512 blocks:
+ * and for 512 blocks:
  *   code 0 or 16            no block is protected;
  *   code c, 1..9            the top 2^(c-1) blocks are protected;
  *   code 16 + c, c = 1..9   the bottom 2^(c-1) blocks are protected;
@@ -81,20 +81,20 @@ enum yawlspar_number {
  * Says whether the question can be answered. The address does not matter to it. The result is
  *   0  if it can;
  *   1  if blocks is not 1, 4, 8, 16 or 512;
- *   5  if blocks is one of these and code is above 15, of 512 blocks above 31.
- * The size is judged first: where both are wrong, the result is 1.
+ *   5  if blocks is one of these and code is above 15, on 512 blocks above 31.
+ * The size is checked first: if both are wrong, the result is 1.
  */
 uint64_t yawlspar_protection_number(uint64_t code, uint64_t blocks, uint64_t address);
 
 /*
  * Give the first protected block, and how many blocks are protected from it on: block b is protected exactly
- * where first <= b and b < first + count. Both are 0 where no block is protected, and where
+ * if first <= b and b < first + count. Both are 0 if no block is protected, and if
  * yawlspar_protection_number is not 0.
  *
- * first + count is at most blocks, and a count of 0 goes with a first of 0. A program, or an erase of a sector or
+ * first + count is at most blocks, and if count is 0, first is 0. A program, or an erase of a sector or
  * of a block of 32 or 64 Kbyte, whose address lies in one of these blocks is ignored, with 28 if no lower number
- * applies. A chip erase goes by BP3..BP0, which have to be 0: of 1 to 16 blocks code 15 protects none, and a chip erase
- * is ignored under it all the same.
+ * applies. A chip erase goes by BP3..BP0, which have to be 0: on 1 to 16 blocks code 15 protects no block, but a
+ * chip erase is still ignored.
  */
 uint64_t yawlspar_protected_first(uint64_t code, uint64_t blocks);
 uint64_t yawlspar_protected_count(uint64_t code, uint64_t blocks);
@@ -104,7 +104,7 @@ uint64_t yawlspar_protected_count(uint64_t code, uint64_t blocks);
  * is blocks * 65536 bytes.
  *
  * The result is 1 if its block, address % (blocks * 65536) / 65536, is one of the protected blocks, and 0 if it
- * is not. It is 0 as well where the question cannot be answered; yawlspar_protection_number tells the two
+ * is not. It is also 0 if the question cannot be answered; yawlspar_protection_number tells the two
  * cases apart.
  */
 uint64_t yawlspar_protected(uint64_t code, uint64_t blocks, uint64_t address);
@@ -112,33 +112,34 @@ uint64_t yawlspar_protected(uint64_t code, uint64_t blocks, uint64_t address);
 /*
  * Gives the place in its 256-byte page where a page program puts one of the bytes that were sent.
  *
- *   start  the place in the page at which the program starts, from 0 to 255: the lowest byte of the
+ *   start  the place in the page where the program starts, from 0 to 255: the lowest byte of the
  *          address that was sent
  *   index  the number of the sent data byte, counted from 0: below 4,092
  *
  * The result is (start + index) modulo 256: after the page's last byte comes its first. For a start
- * of 256 or more, or an index of 4,092 or more, the result is 256, which is no place in a page.
+ * of 256 or more, or an index of 4,092 or more, the result is 256, which is not a place in a page.
  */
 uint64_t yawlspar_page_place(uint64_t start, uint64_t index);
 
 /*
  * The three calls. A part's state is a record of YAWLSPAR_RECORD_BYTES bytes that the caller keeps;
  * yawlspar_power_up makes it, and the other two read it and write the next one back. Copying the bytes
- * copies the part. The array, blocks * 65536 bytes, and the four information rows, 1,024 bytes, are the
- * caller's too.
+ * copies the part. The array, blocks * 65536 bytes, and the four information rows, 1,024 bytes, also belong to
+ * the caller.
  *
- * A record of zeros, which was never powered up, is answered 1: it has no size. A record has no checksum:
- * with a byte changed it may be another sound one, and is then taken for that.
+ * With a record of zeros, which was never powered up, the answer is 1: it has no size. A record has no checksum:
+ * with a byte changed it may be another sound record, and is then used as such.
  *
  * To cut the power of a part, send ABh, 66h and 99h, each byte as a transaction: the record is then that of a
- * fresh power-up with the registers that the part has stored, whatever it was at. To keep a part in a file, write
- * its record, array and rows, and YAWLSPAR_VERSION, whose records these are. After loading them, yawlspar_tick
- * with 0 ticks changes nothing, and answers 0 exactly where there is a sound record of a part of that size.
+ * fresh power-up with the registers that the part has stored, whatever it was doing. To keep a part in a file,
+ * write its record, array and rows, and YAWLSPAR_VERSION, the version that the record is for. After loading them,
+ * yawlspar_tick with 0 ticks changes nothing, and answers 0 exactly if there is a sound record of a part of that
+ * size.
  *
  * The result r of a call is two numbers in one: YAWLSPAR_NUMBER(r), the answer, 0 for a call that was
- * executed, and above it the place or the count that is named at the call. Where several numbers apply,
+ * executed, and above it the place or the count that is described at the call. If several numbers apply,
  * the lowest is the answer. A call that is refused, with 1 to 6, leaves every byte of every buffer as it
- * was, and the number above is 0.
+ * was, and the bits above the number are 0.
  */
 #define YAWLSPAR_RECORD_BYTES 334
 #define YAWLSPAR_NUMBER(r) ((r) & 255)
@@ -152,18 +153,18 @@ uint64_t yawlspar_page_place(uint64_t start, uint64_t index);
  *   blocks                          the size of the array in blocks: 1, 4, 8, 16 or 512
  *   maker, type, capacity, device   the identity bytes
  *   status, function, extended      the stored registers; status bits 1..0, function bits 3..0 and bits 4..0 of
- *                                   the extended read register are zero, but that of 512 blocks function bit 1
- *                                   is TBS: 0 for top, 1 for bottom. No command changes it
+ *                                   the extended read register must be zero, except that on 512 blocks function
+ *                                   bit 1 is TBS: 0 for top, 1 for bottom. No command changes it
  *
  * The live byte of the extended read register, which 81h reads and 83h sets, is loaded from the stored one, with
- * E_ERR, P_ERR and PROT_E 0. The bank address register, which a part of 512 blocks has, is 00h: three address bytes,
- * and the lower 16 Mbyte.
+ * E_ERR, P_ERR and PROT_E 0. The bank address register, which only a part of 512 blocks has, is 00h: three address
+ * bytes, and the lower 16 Mbyte.
  *
  * The number is
  *   0  if the record was written;
  *   1  if blocks is not 1, 4, 8, 16 or 512;
  *   5  if record_len is not YAWLSPAR_RECORD_BYTES, if one of the seven other numbers is above 255, or
- *      if a register bit is set that has to be zero.
+ *      if a register bit that must be zero is set.
  */
 uint64_t yawlspar_power_up(uint8_t *record, size_t record_len, uint64_t blocks, uint64_t maker,
                            uint64_t type, uint64_t capacity, uint64_t device, uint64_t status,
@@ -177,43 +178,43 @@ uint64_t yawlspar_power_up(uint8_t *record, size_t record_len, uint64_t blocks, 
  *   rows     the four information rows
  *   wp_high  1 if the pin WP# is high, 0 if it is low
  *   input    1 to 4,096 bytes
- *   output   as many bytes, all of which are written; places that the part does not drive hold FFh
+ *   output   the same number of bytes, all of which are written; places that the part does not drive hold FFh
  *
- * Input and output are two buffers. In one buffer what is sent would be lost: FFh is written over it, and a 02h
+ * Input and output are two buffers. In one buffer, what is sent would be lost: FFh is written over it, and a 02h
  * would program FFh.
  *
  * The number is
  *   0  if the command was executed;
- *   1  if the array's length is not that of the record's size, or that size is none;
+ *   1  if the array's length is not that of the record's size, or that size is not valid;
  *   2  if rows_len is not 1,024;
  *   3  if input_len is 0 or above 4,096;
  *   4  if output_len is not input_len;
  *   5  if the bytes hold no record, the record is not sound, or wp_high is neither 0 nor 1;
- *   20 to 28  if the part ignored the transaction: the output is FFh all over. With 28 an erase sets E_ERR and
- *             PROT_E, a program P_ERR and PROT_E in the extended read register, which 81h reads. 28 is also the
- *             number of a program into the unit of a suspended erase.
- * Where the bytes hold no record there is no size to judge: the number is then 2, 3, 4 or 5.
- * YAWLSPAR_PLACE is the first driven place of the output, or input_len where nothing is driven.
+ *   20 to 28  if the part ignored the transaction: the output is all FFh. With 28 an erase sets E_ERR and
+ *             PROT_E, and a program P_ERR and PROT_E, in the extended read register, which 81h reads. 28 is also
+ *             the number of a program into the unit of a suspended erase.
+ * If the bytes hold no record, there is no size to check: the number is then 2, 3, 4 or 5.
+ * YAWLSPAR_PLACE is the first driven place of the output, or input_len if nothing is driven.
  */
 uint64_t yawlspar_transact(uint8_t *record, size_t record_len, const uint8_t *array, size_t array_len,
                            const uint8_t *rows, size_t rows_len, uint64_t wp_high, const uint8_t *input,
                            size_t input_len, uint8_t *output, size_t output_len);
 
 /*
- * Time passes: so many ticks of a running program, erase or register write.
+ * Time passes: the given number of ticks of a running program, erase or register write.
  *
  *   record   the part's record; the next one is written over it
  *   array    the part's array, which an operation may write
  *   rows     the four information rows, which an operation may write
- *   ticks    0 to 4,096; of a part of 512 blocks 0 to 131,072
+ *   ticks    0 to 4,096; on a part of 512 blocks 0 to 131,072
  *
  * The number is
  *   0  if the ticks were run;
- *   1  if the array's length is not that of the record's size, or that size is none;
+ *   1  if the array's length is not that of the record's size, or that size is not valid;
  *   2  if rows_len is not 1,024;
  *   5  if the bytes hold no record, or the record is not sound;
- *   6  if ticks is above 4,096, of a part of 512 blocks above 131,072.
- * Where the bytes hold no record there is no size to judge: the number is then 2 or 5. YAWLSPAR_TICKS is
+ *   6  if ticks is above 4,096, on a part of 512 blocks above 131,072.
+ * If the bytes hold no record, there is no size to check: the number is then 2 or 5. YAWLSPAR_TICKS is
  * how many of the ticks did work.
  */
 uint64_t yawlspar_tick(uint8_t *record, size_t record_len, uint8_t *array, size_t array_len,
