@@ -138,9 +138,9 @@ pub fn command_number(
     let named = k.named;
     let awake = words::either(table::taken_asleep(taken), !part.asleep);
     let at_rest = words::either(table::taken_busy(taken), !phases::is_busy(phase));
+    let whole = suspended_ok(taken, phase);
     let long = table::length_ok(length, input.len());
     let state = state_ok(wanted, part, phase);
-    let whole = suspended_ok(taken, phase);
     let latch = words::either(!k.wel, part.wel);
     let form = table::addressing(named, part.bank);
     let address = address_ok(named, form, input);

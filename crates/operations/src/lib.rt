@@ -126,15 +126,12 @@ fn whole_code(stored: Stored) -> u8
 }
 
 // Whether a place of a memory is unprotected or unlocked: the block of an array's place is none of those that the
-// protection question answers. BP bits of 0 protect none, and most parts have these.
+// protection question answers.
 fn is_free(memory: Memory, base: usize, blocks: u16, stored: Stored) -> bool
     ensures { λ r. ⌜ r ≡ free memory base blocks stored ⌝ }
 {
     match memory {
         Memory::Array => {
-            if code_of(stored.status) == 0 {
-                return true;
-            }
             let code = whole_code(stored);
             let shut = protection::protected_blocks(code as u64, blocks as u64);
             !protection::is_among(shut, base / types::BLOCK_BYTES)
@@ -228,19 +225,19 @@ pub fn outside_of(halted: Work, blocks: u16, op: Operation) -> bool
     }
 }
 
-// Whether it can be at an erase of a unit. The pages are asked for twice: so the compiler keeps the unit's size as a
-// number of each arm, and does not divide by it.
+// Whether it can be at an erase of a unit.
 fn erase_ok(unit: EraseUnit, base: usize, done: usize, blocks: u16, stored: Stored) -> bool
     ensures { λ r. ⌜ r ≡ operationOk (Erase unit base done) blocks stored ⌝ }
 {
+    let pages = pages::unit_pages(unit, blocks);
     let begins = pages::unit_base(unit, blocks, base) == base;
     let within = ends_within(
         base,
-        pages::unit_pages(unit, blocks) * types::PAGE_BYTES,
+        pages * types::PAGE_BYTES,
         memory_bytes(pages::unit_memory(unit), blocks),
     );
     let open = is_unit_free(unit, base, blocks, stored);
-    let going = done < pages::unit_pages(unit, blocks);
+    let going = done < pages;
     words::both(begins, words::both(within, words::both(open, going)))
 }
 

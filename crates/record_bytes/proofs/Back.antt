@@ -23,9 +23,8 @@ use Rattle.address.proofs.Bytes.{number-back}
 use Rattle.cells.specs.declared.Cells.{Cells}
 use Rattle.cells.specs.Operations.{workCells, workOf}
 use Rattle.cells.proofs.Back.{work-back, same-cells}
-use Rattle.record_bytes.specs.declared.Found.{Found}
 use Rattle.record_bytes.specs.Layout.{runningAt, haltedAt, headerLength, recordLength, partBytes, operationBytes, worksBytes, header, recordBytes, written}
-use Rattle.record_bytes.specs.Read.{cellsIn, workAt, partIn, phaseIn, fieldsIn, holds, Held, nothing, held, recordIn, found, Fitting, Fits}
+use Rattle.record_bytes.specs.Read.{cellsIn, workAt, partIn, phaseIn, fieldsIn, holds, Held, nothing, held, recordIn, Fitting, Fits}
 use Rattle.record_bytes.proofs.Laws.{header-length}
 use Rattle.record_bytes.proofs.Same.{same-bytes, one-list}
 
@@ -91,12 +90,6 @@ written-in p bs l = rw (eq-eqb _ _ l)
 pub read-back : (p : Record) → Fits p → recordIn (recordBytes p) ≡ held p
 unfolding recordIn
 read-back p h = rw (holds-back p h, fields-back p h)
-
--- part and phase as they are found in a record's bytes, with the page data behind the header, are the record
-pub found-back : (p : Record) (bs g : List ℕ) (x : Found) → Fits p → bs ≡ recordBytes p → x ≡ found (recordIn bs) → g ≡ drop headerLength bs → recordOf (x .part) (x .phase) g ≡ p
-found-back p bs g x h eb ex eg =
-    let k : x ≡ found (held p) = ex ∙ rw (eb, read-back p h) in
-    rw (k, eg, eb, page-back p)
 
 pub taken : (bs : List ℕ) → holds bs ≡ true → recordIn bs ≡ held (fieldsIn bs)
 unfolding recordIn

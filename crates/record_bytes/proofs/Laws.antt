@@ -68,10 +68,6 @@ pub operation-length : (s : Cells) → length (operationBytes s) ≡ operationLe
 unfolding operationBytes
 operation-length s = refl
 
-pub phase-length : (f : Phase) → length (phaseBytes f) ≡ phaseLength
-unfolding worksBytes operationBytes
-phase-length f = refl
-
 pub header-length : (p : Part) (f : Phase) → length (header p f) ≡ headerLength
 unfolding partBytes worksBytes operationBytes
 header-length p f = refl
@@ -217,41 +213,3 @@ module _ (s : Cells) (z : List ℕ) (ez : z ≡ replicate operationLength 0) whe
       pub cells-laid : (d : List ℕ) → d ≡ highFirstBytes 8 (s .done) → more doneAt 8 (more countAt 8 (more baseAt 8 first b) k) d ≡ operationBytes s
       unfolding operationBytes
       cells-laid d ed = rw (ez, eb, ek, ed)
-
--- bytes with what runs written over the first of them, then what is suspended, and then the zeros
-module _ (z : List ℕ) (l : length z ≡ phaseLength) (w h : Work) (a : List ℕ) (ea : a ≡ operationBytes (workCells w)) where
-  abbrev ran : List ℕ
-  ran = more 0 operationLength z a
-
-  a-length : length a ≡ operationLength
-  a-length = ap length ea ∙ operation-length (workCells w)
-
-  module _ (b : List ℕ) (eb : b ≡ operationBytes (workCells h)) where
-    b-length : length b ≡ operationLength
-    b-length = ap length eb ∙ operation-length (workCells h)
-
-    abbrev stood : List ℕ
-    stood = more operationLength operationLength ran b
-
-    stood-as : stood ≡ (a ++ b) ++ drop (operationLength + operationLength) z
-    stood-as = laid z a operationLength operationLength ran a-length refl (omega arith) b b refl
-
-    both-length : length (a ++ b) ≡ operationLength + operationLength
-    both-length = length-append a b ∙ simp (a-length, b-length) refl
-
-    pub stood-length : length stood ≡ phaseLength
-    stood-length = ap length stood-as ∙ simp (length-append, length-drop) (omega (arith, a-length, b-length))
-
-    pub spare-room : length (take spareLength (drop (operationLength + operationLength) stood)) ≡ spareLength
-    spare-room = simp (length-take, length-drop) (omega (arith, stood-length))
-
-    pub works-laid : (s : List ℕ) → s ≡ replicate spareLength 0 → more (operationLength + operationLength) spareLength stood s ≡ worksBytes w h
-    unfolding worksBytes
-    works-laid s es =
-        let m : length z ≤ phaseLength = omega arith in
-        let n : drop phaseLength z ≡ [] = drop-of-length-le z m in
-        laid z (a ++ b) (operationLength + operationLength) spareLength stood both-length stood-as (omega arith) s s refl
-        ∙ ap (λ (t : List ℕ). ((a ++ b) ++ s) ++ t) n
-        ∙ append-nil ((a ++ b) ++ s)
-        ∙ append-assoc a b s
-        ∙ rw (ea, eb, es)

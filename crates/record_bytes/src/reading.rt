@@ -2,9 +2,8 @@
 ghost use mathlib.Core.Path.{_≡_};
 ghost use lib.ListN.{length, getD};
 ghost use Rattle.paper.specs.Calls.{zeroRecord};
-ghost use Rattle.cells.specs.Operations.{workCells};
 ghost use Rattle.record_bytes.specs.Layout.{operationLength, recordLength};
-ghost use Rattle.record_bytes.specs.Read.{sameCells, marksIn, cellsIn, storedOf, partIn, nothing, recordIn, found, seen, Fitting, Fits};
+ghost use Rattle.record_bytes.specs.Read.{sameCells, marksIn, cellsIn, storedOf, partIn, nothing, recordIn, found, seen};
 use crate::Found;
 use crate::Seen;
 use crate::places;
@@ -12,9 +11,7 @@ use cells::Cells;
 use types::Identity;
 use types::Part;
 use types::Phase;
-use types::Record;
 use types::Stored;
-use types::Work;
 
 // The cells of an operation in its bytes, whatever stands there.
 fn cells_in(bytes: &[u8]) -> Cells
@@ -285,44 +282,4 @@ pub fn read_any(bytes: &[u8]) -> Found
         };
     }
     none_found()
-}
-
-// What the type of an operation says of its cells: those of none are 0.
-fn fitting(work: Work)
-    ensures { λ _. ⌜ Fitting (workCells work) ⌝ }
-{
-    match work {
-        Work::NoWork => {}
-        Work::At(op) => {
-            let cells = cells::cells_of(op);
-        }
-    }
-}
-
-// What the type of a record says of its numbers.
-fn fits(state: Record)
-    ensures { λ _. ⌜ Fits state ⌝ }
-{
-    let phase = state.phase;
-    fitting(phases::running(phase));
-    fitting(phases::halted(phase));
-}
-
-// A record that is written and read back is that record, whatever it is.
-pub fn read_back(state: Record) -> Record
-    ensures { λ r. ⌜ r ≡ state ⌝ }
-{
-    let mut bytes = [0u8; places::END];
-    fits(state);
-    crate::writing::write_record(state, &mut bytes);
-    let found = read_any(&bytes);
-    let part = found.part;
-    let phase = found.phase;
-    let mut page = record::no_data();
-    bytes::copy(&bytes[places::PAGE..places::END], &mut page);
-    Record {
-        part: part,
-        phase: phase,
-        page: page,
-    }
 }

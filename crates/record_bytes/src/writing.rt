@@ -1,6 +1,6 @@
-// A record, and what a call makes of it, written as bytes.
+// What power-up gives, and what a call makes of a record, written as bytes.
 ghost use mathlib.Core.Path.{_≡_};
-ghost use mathlib.Core.List.{[], _++_};
+ghost use mathlib.Core.List.{_++_};
 ghost use lib.ListN.{length, drop};
 ghost use Rattle.types.specs.declared.Phase.the-variants.{Idle};
 ghost use Rattle.paper.specs.Sizes.{pageBytes};
@@ -9,14 +9,12 @@ ghost use Rattle.paper.specs.Commands.{pageAfter};
 ghost use Rattle.paper.proofs.Soundness.{recordOf};
 ghost use Rattle.address.specs.Bytes.{highFirstBytes};
 ghost use Rattle.cells.specs.Operations.{cellsOf, workCells};
-ghost use Rattle.record_bytes.specs.Layout.{partLength, operationLength, phaseLength, headerLength, recordLength, partBytes, operationBytes, phaseBytes, header, headerRunning, written, worksLaid, bytesHalted, bytesResumed, bytesCleared, changeWritten};
+ghost use Rattle.record_bytes.specs.Layout.{partLength, operationLength, headerLength, recordLength, partBytes, operationBytes, headerRunning, written, worksLaid, bytesHalted, bytesResumed, bytesCleared, changeWritten};
 use crate::places;
 use types::Change;
 use types::Data;
 use types::Operation;
 use types::Part;
-use types::Phase;
-use types::Record;
 use types::Work;
 
 // What a part is, in bytes.
@@ -45,13 +43,6 @@ fn part_bytes(part: Part) -> [u8; places::RUNNING]
         part.bank,
     ]
 }
-
-// Where what is suspended stands among the bytes of a phase, and where the zeros do.
-const HALTED: usize = places::HALTED - places::RUNNING;
-
-const SPARE: usize = places::SPARE - places::RUNNING;
-
-const END: usize = places::PAGE - places::RUNNING;
 
 // What a part is, written over the first of a record's bytes.
 fn write_part(part: Part, bytes: &mut [u8])
@@ -98,25 +89,6 @@ fn write_work(work: Work, bytes: &mut [u8])
         Work::NoWork => runs::fill(bytes, 0),
         Work::At(op) => write_operation(op, bytes),
     }
-}
-
-// What a part does, written where it stands in a header.
-fn write_phase(phase: Phase, bytes: &mut [u8])
-    requires { ⌜ length (now bytes) ≡ phaseLength ⌝ }
-    ensures { λ _. ⌜ now (bytes .exit) ≡ phaseBytes phase ⌝ }
-{
-    write_work(phases::running(phase), &mut bytes[0..HALTED]);
-    write_work(phases::halted(phase), &mut bytes[HALTED..SPARE]);
-    runs::fill(&mut bytes[SPARE..END], 0);
-}
-
-// The header of a part in a phase, written over a record's.
-fn write_header(part: Part, phase: Phase, bytes: &mut [u8])
-    requires { ⌜ length (now bytes) ≡ recordLength ⌝ }
-    ensures { λ _. ⌜ now (bytes .exit) ≡ header part phase ++ drop headerLength (now (bytes .entry)) ⌝ }
-{
-    write_phase(phase, &mut bytes[places::RUNNING..places::PAGE]);
-    write_part(part, bytes);
 }
 
 // The header of a part with other work running: what is suspended stays.
@@ -194,20 +166,6 @@ pub fn write_idle(part: Part, bytes: &mut [u8])
     write_cleared(part, bytes);
 }
 
-// A record written as its bytes. A buffer of another length is left as it is.
-pub fn write_record(state: Record, bytes: &mut [u8])
-    ensures { λ _. ⌜ now (bytes .exit) ≡ written state (now (bytes .entry)) ⌝ }
-{
-    if bytes.len() != places::END {
-        return;
-    }
-    let part = state.part;
-    let phase = state.phase;
-    let page = state.page;
-    write_header(part, phase, bytes);
-    bytes::copy(&page, &mut bytes[places::PAGE..places::END]);
-}
-
 // Page data after a call with an input, where it stands.
 fn write_page(becomes: Data, input: &[u8], page: &mut [u8])
     requires { ⌜ length (now page) ≡ pageBytes ⌝ }
@@ -216,14 +174,13 @@ fn write_page(becomes: Data, input: &[u8], page: &mut [u8])
     match becomes {
         Data::Kept => {}
         Data::Sent(form) => {
-            let kept = sent::page_data(form, input);
-            bytes::copy(&kept, page);
+            sent::write_page_data(form, input, page);
         }
         Data::Zero => runs::fill(page, 0),
     }
 }
 
-// What a transaction makes of a record, written over the record's bytes. A buffer of another length is left as it is.
+// What a call with an input makes of a record, written over the record's bytes. A buffer of another length is left as it is.
 pub fn write_change(change: Change, input: &[u8], bytes: &mut [u8])
     ensures { λ _. ⌜ now (bytes .exit) ≡ changeWritten change (now (input .entry)) (now (bytes .entry)) ⌝ }
 {
@@ -243,36 +200,6 @@ pub fn write_change(change: Change, input: &[u8], bytes: &mut [u8])
         Change::Runs(part, becomes, work) => {
             write_running(part, work, bytes);
             write_page(becomes, input, &mut bytes[places::PAGE..places::END]);
-        }
-        Change::Halts(part) => write_halted(part, bytes),
-        Change::GoesOn(part) => write_resumed(part, bytes),
-        Change::Clears(part) => write_cleared(part, bytes),
-    }
-}
-
-// What ticks make of a record, which send nothing, written so. Each of the two has one caller in the archive for C, so
-// that it is compiled in place there.
-pub fn write_after(change: Change, bytes: &mut [u8])
-    ensures { λ _. ⌜ now (bytes .exit) ≡ changeWritten change [] (now (bytes .entry)) ⌝ }
-{
-    let n = bytes.len();
-    if n != places::END {
-        return;
-    }
-    match change {
-        Change::Same => {}
-        Change::Marked(mark) => {
-            bytes[places::ARMED] = words::bit_of(mark);
-        }
-        Change::Live(byte) => {
-            bytes[places::ARMED] = 0;
-            bytes[places::LIVE] = byte;
-        }
-        Change::Anew(part) => write_part(part, bytes),
-        Change::Runs(part, page, work) => {
-            write_running(part, work, bytes);
-            let none_sent = [0u8; 0];
-            write_page(page, &none_sent, &mut bytes[places::PAGE..places::END]);
         }
         Change::Halts(part) => write_halted(part, bytes),
         Change::GoesOn(part) => write_resumed(part, bytes),

@@ -1,7 +1,10 @@
 // What a transaction names, and the operation that it begins.
 ghost use mathlib.Core.Path.{_≡_};
+ghost use mathlib.Core.Bool.{cond};
 ghost use Prim.Native.Nat.{_+_, _-_, _%_};
-ghost use lib.ListN.{getD};
+ghost use lib.Dec.{eqb};
+ghost use lib.ListN.{length, getD};
+ghost use Rattle.paper.specs.Sizes.{pageBytes};
 ghost use Rattle.paper.specs.Address.{addressCount, addressSent, addressIn, rowOk, rowBase, rowByte, placeIn};
 ghost use Rattle.paper.specs.Program.{dataSent, keptCount, passedCount, pageData, programOf};
 ghost use Rattle.paper.specs.Erase.{eraseOf};
@@ -115,16 +118,28 @@ fn passed_count(form: Addressing, input: &[u8]) -> usize
     n - first - kept_count(form, input)
 }
 
-// The page data of a program: the kept bytes in order of arrival, zeros after them.
-pub fn page_data(form: Addressing, input: &[u8]) -> [u8; 256]
-    ensures { λ r. ⌜ r ≡ pageData (dataSent form (now (input .entry))) ⌝ }
+// The page data of a program, written over a page: the kept bytes in order of arrival, zeros after them. Bytes of another
+// length than a page's are left as they are.
+pub fn write_page_data(form: Addressing, input: &[u8], page: &mut [u8])
+    ensures { λ _. ⌜ now (page .exit) ≡ cond (eqb (length (now (page .entry))) pageBytes) (pageData (dataSent form (now (input .entry)))) (now (page .entry)) ⌝ }
 {
-    let mut page = [0u8; 256];
+    if page.len() != types::PAGE_BYTES {
+        return;
+    }
+    runs::fill(page, 0);
     let first = words::lesser(data_place(form), input.len());
     let passed = passed_count(form, input);
     let from = first + passed;
     let end = from + kept_count(form, input);
-    bytes::copy(&input[from..end], &mut page);
+    bytes::copy(&input[from..end], page);
+}
+
+// The same, as a page of its own.
+pub fn page_data(form: Addressing, input: &[u8]) -> [u8; 256]
+    ensures { λ r. ⌜ r ≡ pageData (dataSent form (now (input .entry))) ⌝ }
+{
+    let mut page = [0u8; 256];
+    write_page_data(form, input, &mut page);
     page
 }
 

@@ -157,7 +157,8 @@ pub extern "C" fn yawlspar_tick(
     let page = &bytes[places::PAGE..places::END];
     let waited = ticks::tick_part(part, phase, page, array, rows, count as usize);
     let change = waited.change;
-    record_bytes::writing::write_after(change, bytes);
+    let none_sent = [0u8; 0];
+    record_bytes::writing::write_change(change, &none_sent, bytes);
     pack(waited.number, waited.done)
 }
 

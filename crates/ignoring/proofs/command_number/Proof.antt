@@ -21,14 +21,14 @@ is-busy-requires c κs = search needs
 either-requires-2 : tie.Need-either-requires-2
 either-requires-2 c κs = search needs
 
+suspended-ok-requires : tie.Need-suspended-ok-requires
+suspended-ok-requires c κs = search needs
+
 length-ok-requires : tie.Need-length-ok-requires
 length-ok-requires c κs = search needs
 
 state-ok-requires : tie.Need-state-ok-requires
 state-ok-requires c κs = search needs
-
-suspended-ok-requires : tie.Need-suspended-ok-requires
-suspended-ok-requires c κs = search needs
 
 either-requires-3 : tie.Need-either-requires-3
 either-requires-3 c κs = search needs
@@ -82,9 +82,9 @@ returns c =
       c .before .before .before .before .before .before .before .before .before .address-ok .ensures,
       c .before .before .before .before .before .before .before .before .before .before .addressing .ensures,
       c .before .before .before .before .before .before .before .before .before .before .before .either3 .ensures,
-      c .before .before .before .before .before .before .before .before .before .before .before .before .before .suspended-ok .ensures,
-      c .before .before .before .before .before .before .before .before .before .before .before .before .before .before .state-ok .ensures,
-      c .before .before .before .before .before .before .before .before .before .before .before .before .before .before .before .length-ok .ensures,
+      c .before .before .before .before .before .before .before .before .before .before .before .before .before .state-ok .ensures,
+      c .before .before .before .before .before .before .before .before .before .before .before .before .before .before .length-ok .ensures,
+      c .before .before .before .before .before .before .before .before .before .before .before .before .before .before .before .suspended-ok .ensures,
       c .before .before .before .before .before .before .before .before .before .before .before .before .before .before .before .before .either2 .ensures,
       c .before .before .before .before .before .before .before .before .before .before .before .before .before .before .before .before .before .is-busy .ensures,
       c .before .before .before .before .before .before .before .before .before .before .before .before .before .before .before .before .before .before .taken-busy .ensures,
@@ -101,9 +101,9 @@ command-number-spec =
     taken-busy-requires
     is-busy-requires
     either-requires-2
+    suspended-ok-requires
     length-ok-requires
     state-ok-requires
-    suspended-ok-requires
     either-requires-3
     addressing-requires
     address-ok-requires

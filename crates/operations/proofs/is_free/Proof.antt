@@ -1,23 +1,10 @@
--- `operations::is_free` meets its contract: each arm is a clause of the definition, BP bits of 0 protect no block, and the blocks asked are those that the protection question answers.
-use Prim.Native.Nat.{_/_}
-use mathlib.Core.Path.{sym, _∙_}
-use Rattle.paper.specs.Sizes.{blockBytes}
-use Rattle.paper.specs.Protection.{wholeCode}
-use Rattle.paper.proofs.Protected.{none-protected, none-counted}
+-- `operations::is_free` meets its contract: each arm is a clause of the definition, and the blocks asked are those that the protection question answers.
 use borrow.Author.Needs.{needs}
 use Rattle.operations.proofs.is_free.Statement.{statement}
 use Rattle.operations.proofs.is_free.Tie as tie
 
 enum-told : tie.Need-enum-told
 enum-told c = search needs
-
-code-of-requires : tie.Need-code-of-requires
-code-of-requires c κs = search needs
-
-returns : tie.Need-returns
-returns c =
-    let a = c .before .before .before .before .args in
-    rw (c .before .before .enum-told .given .1, none-protected (wholeCode (a .stored)) (a .blocks) (a .base / blockBytes) (none-counted (a .blocks) (a .stored) (sym (c .before .code-of .ensures) ∙ c .if1 .taken)))
 
 whole-code-requires : tie.Need-whole-code-requires
 whole-code-requires c κs = search needs
@@ -37,25 +24,23 @@ enum-told-2 c = search needs
 is-locked-requires : tie.Need-is-locked-requires
 is-locked-requires c κs = search needs
 
-returns-2 : tie.Need-returns-2
-returns-2 c =
-    rw (c .before .before .before .before .before .enum-told .given .1, c .is-among .ensures, c .before .protected-blocks .ensures, c .before .before .whole-code .ensures)
+returns : tie.Need-returns
+returns c =
+    rw (c .before .before .before .enum-told .given .1, c .is-among .ensures, c .before .protected-blocks .ensures, c .before .before .whole-code .ensures)
 
-returns-3 : tie.Need-returns-3
-returns-3 c = rw (c .before .enum-told2 .given .1, c .is-locked .ensures)
+returns-2 : tie.Need-returns-2
+returns-2 c = rw (c .before .enum-told2 .given .1, c .is-locked .ensures)
 
 pub is-free-spec : {M : Type 1} → statement M
 is-free-spec =
     tie.close
     (tie.spec
     enum-told
-    code-of-requires
-    returns
     whole-code-requires
     cast-protected-blocks
     protected-blocks-requires
     is-among-requires
     enum-told-2
     is-locked-requires
-    returns-2
-    returns-3)
+    returns
+    returns-2)

@@ -1,71 +1,16 @@
--- `sent::page_data` meets its contract: the bytes after those passed over are copied over zeros.
-use Prim.Native.Nat.{_+_}
-use mathlib.Core.Path.{_∙_}
-use lib.ListN.{length-drop}
-use denote.Ref.{now}
-use Rattle.paper.specs.Address.{addressCount}
-use Rattle.paper.specs.Program.{noData}
-use Rattle.sent.proofs.PageCopied.{page-copied}
+-- `sent::page_data` meets its contract: it is written over a page of zeros.
 use borrow.Author.Needs.{needs}
-use native.Mathlib.Omega.{arith}
 use Rattle.sent.proofs.page_data.Statement.{statement}
 use Rattle.sent.proofs.page_data.Tie as tie
 
-data-place-requires : tie.Need-data-place-requires
-data-place-requires c κs = search needs
+slice-aggregate-write-page-data : tie.Need-slice-aggregate-write-page-data
+slice-aggregate-write-page-data c = search needs
 
-lesser-requires : tie.Need-lesser-requires
-lesser-requires c κs = search needs
-
-passed-count-requires : tie.Need-passed-count-requires
-passed-count-requires c κs = search needs
-
-add-from : tie.Need-add-from
-add-from c = omega (arith, c .before .before .data-place .ensures, c .before .lesser .ensures, simp length-drop at (c .passed-count .ensures))
-
-kept-count-requires : tie.Need-kept-count-requires
-kept-count-requires c κs = search needs
-
-add-end : tie.Need-add-end
-add-end c =
-    omega (arith, c .before .before .before .data-place .ensures, c .before .before .lesser .ensures, simp length-drop at (c .before .passed-count .ensures), simp length-drop at (c .kept-count .ensures))
-
-sub-copy : tie.Need-sub-copy
-sub-copy c = search needs
-
-part-copy-start : tie.Need-part-copy-start
-part-copy-start c = search needs
-
-part-copy-end : tie.Need-part-copy-end
-part-copy-end c =
-    omega (arith, c .before .before .before .data-place .ensures, c .before .before .lesser .ensures, simp length-drop at (c .before .passed-count .ensures), simp length-drop at (c .kept-count .ensures))
-
-slice-aggregate-copy : tie.Need-slice-aggregate-copy
-slice-aggregate-copy c = search needs
-
-copy-requires : tie.Need-copy-requires
-copy-requires c κs = search needs
+write-page-data-requires : tie.Need-write-page-data-requires
+write-page-data-requires c κs = search needs
 
 returns : tie.Need-returns
-unfolding noData
-returns c =
-    let a = c .before .before .before .before .before .before .before .before .before .args in
-    c .before .copy .ensures .1
-    ∙ page-copied (1 + addressCount (a .form)) (now (a .input)) _ _ _ (c .before .before .before .before .before .before .lesser .ensures ∙ rw (c .before .before .before .before .before .before .before .data-place .ensures)) (c .before .before .before .before .before .passed-count .ensures) (c .before .before .before .before .kept-count .ensures)
+returns c = c .before .write-page-data .ensures
 
 pub page-data-spec : {M : Type 1} → statement M
-page-data-spec =
-    tie.close
-    (tie.spec
-    data-place-requires
-    lesser-requires
-    passed-count-requires
-    add-from
-    kept-count-requires
-    add-end
-    sub-copy
-    part-copy-start
-    part-copy-end
-    slice-aggregate-copy
-    copy-requires
-    returns)
+page-data-spec = tie.close (tie.spec slice-aggregate-write-page-data write-page-data-requires returns)

@@ -44,14 +44,17 @@ part-page-end c =
 tick-part-requires : tie.Need-tick-part-requires
 tick-part-requires c κs = search needs
 
-write-after-requires : tie.Need-write-after-requires
-write-after-requires c κs = search needs
+slice-aggregate-write-change : tie.Need-slice-aggregate-write-change
+slice-aggregate-write-change c = search needs
+
+write-change-requires : tie.Need-write-change-requires
+write-change-requires c κs = search needs
 
 pack-requires-2 : tie.Need-pack-requires-2
 pack-requires-2 c κs =
-    let f = c .before .before .before .before .before .before .before .before .before .before .before .before .before .before .before .before .read-any in
-    let e = ap (λ (x : Found). x .ok) (sym (f .ensures)) ∙ not-false _ (c .before .before .before .before .before .before .before .before .before .before .before .before .before .before .if1 .left) in
-    told-done (now (c .before .before .before .before .before .before .before .before .before .before .before .before .before .before .before .before .before .before .before .before .before .args .bytes)) e (f .result) (f .ensures) _ _ _ _ (c .before .before .before .before .before .before .before .before .tick-part .ensures .0)
+    let f = c .before .before .before .before .before .before .before .before .before .before .before .before .before .before .before .before .before .read-any in
+    let e = ap (λ (x : Found). x .ok) (sym (f .ensures)) ∙ not-false _ (c .before .before .before .before .before .before .before .before .before .before .before .before .before .before .before .if1 .left) in
+    told-done (now (c .before .before .before .before .before .before .before .before .before .before .before .before .before .before .before .before .before .before .before .before .before .before .args .bytes)) e (f .result) (f .ensures) _ _ _ _ (c .before .before .before .before .before .before .before .before .before .tick-part .ensures .0)
 
 same-length-2 : tie.Need-same-length-2
 same-length-2 c = search needs
@@ -64,11 +67,11 @@ same-length-4 c = search needs
 
 returns-2 : tie.Need-returns-2
 returns-2 c =
-    let bs = now (c .before .before .before .before .before .before .before .before .before .before .before .before .before .before .before .before .before .before .before .before .before .before .args .bytes) in
-    let f = c .before .before .before .before .before .before .before .before .before .before .before .before .before .before .before .before .before .read-any in
-    let e = ap (λ (x : Found). x .ok) (sym (f .ensures)) ∙ not-false _ (c .before .before .before .before .before .before .before .before .before .before .before .before .before .before .before .if1 .left) in
-    let u = c .before .before .before .before .before .before .before .before .before .tick-part .ensures in
-    (c .pack2 .ensures ∙ tick-answer bs e (f .result) (f .ensures) _ _ _ _ (u .0), (c .before .before .before .write-after .ensures ∙ tick-bytes bs e (f .result) (f .ensures) _ _ _ _ (u .0), (tick-memory bs e (f .result) (f .ensures) _ _ _ _ _ _ (u .1 .0), tick-memory bs e (f .result) (f .ensures) _ _ _ _ _ _ (u .1 .1))))
+    let bs = now (c .before .before .before .before .before .before .before .before .before .before .before .before .before .before .before .before .before .before .before .before .before .before .before .args .bytes) in
+    let f = c .before .before .before .before .before .before .before .before .before .before .before .before .before .before .before .before .before .before .read-any in
+    let e = ap (λ (x : Found). x .ok) (sym (f .ensures)) ∙ not-false _ (c .before .before .before .before .before .before .before .before .before .before .before .before .before .before .before .before .if1 .left) in
+    let u = c .before .before .before .before .before .before .before .before .before .before .tick-part .ensures in
+    (c .pack2 .ensures ∙ tick-answer bs e (f .result) (f .ensures) _ _ _ _ (u .0), (c .before .before .before .write-change .ensures ∙ tick-bytes bs e (f .result) (f .ensures) _ _ _ _ (u .0), (tick-memory bs e (f .result) (f .ensures) _ _ _ _ _ _ (u .1 .0), tick-memory bs e (f .result) (f .ensures) _ _ _ _ _ _ (u .1 .1))))
 
 pub yawlspar-tick-spec : {M : Type 1} → statement M
 yawlspar-tick-spec =
@@ -83,7 +86,8 @@ yawlspar-tick-spec =
     part-page-start
     part-page-end
     tick-part-requires
-    write-after-requires
+    slice-aggregate-write-change
+    write-change-requires
     pack-requires-2
     same-length-2
     same-length-3

@@ -1,11 +1,8 @@
--- `record_bytes::writing::write_page` meets its contract: an arm for each; what is copied or filled has a page's length.
-use mathlib.Core.Path.{_≡_, _∙_}
-use lib.ListN.{length}
-use native.Mathlib.Omega.{arith}
-use denote.Ref.{now}
+-- `record_bytes::writing::write_page` meets its contract: an arm for each; what is filled has a page's length.
+use mathlib.Core.Path.{_∙_}
+use borrow.Author.Tests.{eq-eqb}
 use borrow.Author.Needs.{needs}
 use Rattle.paper.specs.Program.{noData}
-use Rattle.runs.proofs.Laws.{copied-whole}
 use Rattle.record_bytes.proofs.writing.write_page.Statement.{statement}
 use Rattle.record_bytes.proofs.writing.write_page.Tie as tie
 
@@ -15,14 +12,8 @@ enum-told c = search needs
 enum-known-becomes : tie.Need-enum-known-becomes
 enum-known-becomes c = search needs
 
-page-data-requires : tie.Need-page-data-requires
-page-data-requires c κs = search needs
-
-slice-aggregate-copy : tie.Need-slice-aggregate-copy
-slice-aggregate-copy c = search needs
-
-copy-requires : tie.Need-copy-requires
-copy-requires c κs = search needs
+write-page-data-requires : tie.Need-write-page-data-requires
+write-page-data-requires c κs = search needs
 
 enum-told-2 : tie.Need-enum-told-2
 enum-told-2 c = search needs
@@ -37,10 +28,7 @@ same-length : tie.Need-same-length
 same-length c = search needs
 
 returns-2 : tie.Need-returns-2
-returns-2 c =
-    let d = c .before .before .before .before .before .page-data in
-    let l : length (d .result) ≡ 256 = search needs in
-    rw (c .before .before .before .before .before .before .before .becomes .given .1, ← d .ensures) (c .before .before .copy .ensures .1 ∙ copied-whole (d .result) (now (c .before .before .before .before .before .before .before .before .before .before .before .args .page)) (omega (arith, l, c .before .before .before .before .before .before .before .before .before .before .before .pre)))
+returns-2 c = rw (c .before .before .before .before .before .becomes .given .1) (c .before .before .write-page-data .ensures ∙ rw (eq-eqb _ _ (c .before .before .before .before .before .before .before .before .before .pre)))
 
 same-length-2 : tie.Need-same-length-2
 same-length-2 c = search needs
@@ -55,9 +43,7 @@ write-page-spec =
     (tie.spec
     enum-told
     enum-known-becomes
-    page-data-requires
-    slice-aggregate-copy
-    copy-requires
+    write-page-data-requires
     enum-told-2
     fill-requires
     returns
