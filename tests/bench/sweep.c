@@ -154,14 +154,16 @@ static void play_with(const char *words, uint8_t given)
         bool low = *words == 'L', is_wait = *words == '+';
 
         for (words += low || is_wait; *words != 0 && *words != ' '; words++) {
-            if (is_wait)
+            if (is_wait) {
                 ticks = ticks * 10 + nibble(*words);
-            else if (*words == '$')
+            } else if (*words == '$') {
                 bytes[count++] = given;
-            else if (*words != '@')
-                bytes[count++] = (uint8_t)(nibble(*words) * 16 + nibble(words[1])), words++;
-            else if ((parts[0].bank & EXTADD) != 0)
+            } else if (*words != '@') {
+                bytes[count++] = (uint8_t)(nibble(words[0]) * 16 + nibble(words[1]));
+                words++;
+            } else if ((parts[0].bank & EXTADD) != 0) {
                 bytes[count++] = 0;
+            }
         }
         if (is_wait)
             wait(ticks);
@@ -238,7 +240,7 @@ static void enter(const char *state, uint8_t bank)
     save();
 }
 
-/* On 512 blocks, which have all codes. */
+/* Does a part of 512 blocks, which has all codes, know the code? */
 static bool is_known(uint8_t code)
 {
     struct part part;
@@ -326,7 +328,7 @@ static void addressed(uint8_t code, size_t address_bytes, uint32_t address, size
     for (i = address_bytes; i > 0; i--)
         message[used++] = (uint8_t)(address >> (8 * (i - 1)));
     for (i = 0; i < count && used < form->message_most; i++)
-        message[used++] = (uint8_t)(i * 7 + address / 256);
+        message[used++] = (uint8_t)(i * 7 + address / 256 + 0x5A); /* at no border FFh, which programs nothing */
     send(true, message, used);
 }
 

@@ -202,7 +202,7 @@ static void same_codes(void)
         bool known = commands[EVERY][code].line != 0 || commands[ON_LARGE][code].line != 0;
 
         if (known != (taken[code][0] != NULL) || (known && left_out[code]))
-            wrong("%02Xh should be in a table of commands and in that of the states, or in neither and be left out", code);
+            wrong("%02Xh should be in a table of commands and in that of the states, and not be left out; or in neither", code);
     }
 }
 
