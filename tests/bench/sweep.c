@@ -253,6 +253,7 @@ static bool is_known(uint8_t code)
 /* A code of no table is sent with one length, each other with each. */
 static void each_code(const char *state, uint8_t bank)
 {
+    static const uint8_t at_length[] = {0x05, 0x81, 0x9F, 0xC8, 0x06, 0xC5};
     uint8_t message[] = {0x00, 0x00, 0x10, 0x00, 0x01, 0x00, 0x3C, 0xC3, 0x5A};
     uint32_t code;
 
@@ -279,7 +280,11 @@ static void each_code(const char *state, uint8_t bank)
             enter(state, bank);
     }
     wait(ref_ticks_most(form->sizes[0]) + 1);
-    play("6801000000 6800010000 66 05 99 66 9F 99 66 00 99 66 66 9900 99 66 06 99 66 75 99");
+    play("6801000000 6800010000");
+    for (code = 0; code < COUNT(at_length); code++)
+        play_with("$000000000000000000000000", at_length[code]);
+    play("66 05 99 66 8100 99 66 9F 99 66 00 99 66 66 9900 99 66 06 99 66 04 99 66 04 99 66 02@00300055 99 66 75 99");
+    play("06 66 02@0030005566 99 66 0500 99");
 }
 
 static bool state_chapters(void)
@@ -309,13 +314,13 @@ static uint32_t ways(void)
     return is_large() ? WAYS : 1;
 }
 
-/* Sets the bank address register for an address. */
+/* Sets the bank address register for an address: the bank bit for three bytes, else any value that does. */
 static void choose(enum way way, uint32_t address)
 {
-    static const uint8_t register_of[WAYS][2] = {{0x00, 0x01}, {0x80, 0x81}, {0x01, 0x80}};
+    uint32_t value = way == THREE ? address / BANK % 2 : way == EXTENDED ? 2 + address % 2 : (address / REF_BLOCK + address) % 4;
 
     if (is_large())
-        play_with("17$", register_of[way][way == THREE ? address / BANK % 2 : address % 2]);
+        play_with("17$", banks[value]);
 }
 
 /* A code with its address and so many bytes behind it, as many as may be. */
@@ -486,11 +491,13 @@ static bool protection_chapters(void)
                 barred_at(way, block_of(code, i) * REF_BLOCK + REF_BLOCK - 1, i + 1);
             }
             for (i = 0; i < 4; i++) {
+                play("AB 66 99");
+                choose(way, 0);
                 play("06 66");
-                at(way, PROGRAM + i, 0, 1 - (i + 3) / 4);
-                play("99 8100 AB 66 99");
+                at(way, PROGRAM + i, 0, i == 0 ? 1 : 0);
+                play("99 8100");
             }
-            play("82 06 C7 8100 60 8100 83E0 02@00000000 D8@000000 8100 0140 8100 66 99");
+            play("AB 66 99 06 C7 8100 60 8100 83E0 02@00000000 D8@000000 8100 0140 8100 66 99");
             play_with("06 85$ 8100 +1 8100 66 99 8100", (uint8_t)(code << 4));
         }
     return false;
