@@ -1,7 +1,6 @@
 -- Chained calls from C are made of calls: what the contracts of yawlspar_transact, yawlspar_tick and yawlspar_power_up allow are their steps and their start.
-use Prim.Native.Nat.{ℕ}
-use mathlib.Core.Path.{_≡_}
-use mathlib.Core.List.{List, _∷_}
+use mathlib.Core.Path.{_≡_, refl}
+use mathlib.Core.List.{List, [], _∷_}
 use lib.ListN.{length}
 use denote.Ref.{now}
 use Rattle.words.proofs.Allowed.{Follows}
@@ -9,19 +8,23 @@ use Rattle.yawlspar.specs.Face.{asked, powerUpAnswer, powerUpBytes}
 use Rattle.yawlspar.proofs.yawlspar_power_up.Reads as yawlspar-power-up
 use Rattle.yawlspar.proofs.yawlspar_transact.Reads as yawlspar-transact
 use Rattle.yawlspar.proofs.yawlspar_tick.Reads as yawlspar-tick
-use Rattle.driver.specs.Driven.{CCall, transact, tick, Driven, transacts, passes}
+use Rattle.driver.specs.Driven.{Lent, lent, CCall, transact, tick, Driven, calls}
 
 -- bytes, array, rows, level, input and output are a call's arguments
 pub transact-drives : Follows yawlspar-transact.Learnt (λ κ a x s.
-    (ds : List CCall) (cs ys ts : List ℕ) → Driven (now (s .0)) (now (a .1 .0)) (now (a .1 .1 .0)) ds cs ys ts
-    → Driven (now (a .0)) (now (a .1 .0)) (now (a .1 .1 .0)) (transact (a .1 .1 .1 .0) (now (a .1 .1 .1 .1 .0)) (now (a .1 .1 .1 .1 .1 .0)) ∷ ds) cs ys ts)
-transact-drives κ a x s l ds cs ys ts r = transacts x (now (s .1 .1 .1 .1 .1 .0)) (l .0) (l .1 .0) (l .1 .1) r
+    (cs : List CCall) (m : Lent) → Driven (lent (now (s .0)) (now (a .1 .0)) (now (a .1 .1 .0))) cs m
+    → Driven (lent (now (a .0)) (now (a .1 .0)) (now (a .1 .1 .0))) (transact (a .1 .1 .1 .0) (now (a .1 .1 .1 .1 .0)) (now (a .1 .1 .1 .1 .1 .0)) ∷ cs) m)
+transact-drives κ a x s l cs m r =
+    calls {l = lent (now (a .0)) (now (a .1 .0)) (now (a .1 .1 .0))} {c = transact (a .1 .1 .1 .0) (now (a .1 .1 .1 .1 .0)) (now (a .1 .1 .1 .1 .1 .0))} (record { answer = x; buffers = now (s .1 .1 .1 .1 .1 .0) ∷ []; left = lent (now (s .0)) (now (a .1 .0)) (now (a .1 .1 .0)) })
+    (rw (l .0, l .1 .0, l .1 .1) refl) r
 
 -- bytes, array, rows and ticks are
 pub tick-drives : Follows yawlspar-tick.Learnt (λ κ a x s.
-    (ds : List CCall) (cs ys ts : List ℕ) → Driven (now (s .0)) (now (s .1 .0)) (now (s .1 .1 .0)) ds cs ys ts
-    → Driven (now (a .0)) (now (a .1 .0)) (now (a .1 .1 .0)) (tick (a .1 .1 .1 .0) ∷ ds) cs ys ts)
-tick-drives κ a x s l ds cs ys ts r = passes x (l .0) (l .1 .0) (l .1 .1 .0) (l .1 .1 .1) r
+    (cs : List CCall) (m : Lent) → Driven (lent (now (s .0)) (now (s .1 .0)) (now (s .1 .1 .0))) cs m
+    → Driven (lent (now (a .0)) (now (a .1 .0)) (now (a .1 .1 .0))) (tick (a .1 .1 .1 .0) ∷ cs) m)
+tick-drives κ a x s l cs m r =
+    calls {l = lent (now (a .0)) (now (a .1 .0)) (now (a .1 .1 .0))} {c = tick (a .1 .1 .1 .0)} (record { answer = x; buffers = []; left = lent (now (s .0)) (now (s .1 .0)) (now (s .1 .1 .0)) })
+    (rw (l .0, l .1 .0, l .1 .1 .0, l .1 .1 .1) refl) r
 
 -- bytes, blocks, maker, kind, capacity, device, status, function and extended are
 pub power-up-drives : Follows yawlspar-power-up.Learnt (λ κ a x s.

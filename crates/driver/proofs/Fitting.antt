@@ -2,7 +2,7 @@
 use Prim.Native.Nat.{ℕ, zero, suc, _+_, _-_, _^_, _≤_}
 use mathlib.Core.Path.{_≡_, refl, _∙_}
 use mathlib.Core.Bool.{Bool, true, false, cond}
-use mathlib.Core.List.{List}
+use mathlib.Core.List.{List, [], _∷_}
 use native.Mathlib.Omega.{arith}
 use lib.Dec.{ltb}
 use lib.ListN.{length, drop, replicate, length-append, length-drop, length-replicate}
@@ -20,7 +20,7 @@ use Rattle.types.specs.declared.Change.{Change}
 use Rattle.types.specs.declared.Change.the-variants.{Same, Marked, Live, Anew, Runs, Halts, GoesOn, Clears}
 use Rattle.types.specs.declared.Record.{Record}
 use Rattle.words.proofs.Tests.{and-l, and-r}
-use Rattle.paper.specs.Sizes.{memoryBytes, pageBytes}
+use Rattle.paper.specs.Sizes.{arrayBytes, rowsBytes, memoryBytes, pageBytes}
 use Rattle.paper.specs.Program.{dataSent, keptCount, passedCount, pageData, noData}
 use Rattle.paper.specs.Erase.{memoryOf, unitBytes}
 use Rattle.paper.specs.Phases.{running, halted}
@@ -28,8 +28,11 @@ use Rattle.paper.specs.Operations.{ticksInAll, ticksDone, advancedBy}
 use Rattle.paper.specs.Soundness.{sound}
 use Rattle.paper.specs.Commands.{pageAfter, changed}
 use Rattle.paper.specs.Ticks.{finished, advanced, worked, tickedAt, recordAfter}
+use Rattle.paper.specs.Calls.{outcomeOf, transacted}
+use Rattle.paper.specs.History.{Call, transaction, ticks, recordAfterCall, recordAfterCalls}
 use Rattle.paper.proofs.Sizes.{size-range}
 use Rattle.paper.proofs.Pages.{unit-pages-le}
+use Rattle.paper.proofs.CallKept.{after-tick-call}
 use Rattle.paper.proofs.Soundness.{InOrder, sound-parts, running-in-order, halted-in-order}
 use Rattle.cells.specs.Operations.{cellsOf, workCells}
 use Rattle.record_bytes.specs.Read.{Fitting, Fits}
@@ -80,7 +83,7 @@ after-page Kept i g h = h
 after-page (Sent a) i g h = data-page (dataSent a i)
 after-page Zero i g h = none-page
 
-pub changed-page : (c : Change) (i : List ℕ) (p : Record) → Page p → Page (changed c i p)
+changed-page : (c : Change) (i : List ℕ) (p : Record) → Page p → Page (changed c i p)
 changed-page Same i p h = h
 changed-page (Marked armed) i p h = h
 changed-page (Live v) i p h = h
@@ -100,6 +103,17 @@ unfolding worked
 ticked-page p NoWork h = h
 ticked-page p (At o) h = worked-page p o (ltb (ticksDone o + 1) (ticksInAll o (p .part .blocks))) h
 
-pub run-page : (n : ℕ) (p : Record) → Page p → Page (recordAfter n p)
+run-page : (n : ℕ) (p : Record) → Page p → Page (recordAfter n p)
 run-page zero p h = h
 run-page (suc n) p h = ticked-page (recordAfter n p) (running (recordAfter n p .phase)) (run-page n p h)
+
+-- and so a call, and a list of calls
+call-page : (c : Call) (p : Record) → Page p → Page (recordAfterCall c p)
+unfolding transacted
+call-page (transaction wp i o) p h =
+    changed-page (outcomeOf (p .part) (p .phase) (sound p) (arrayBytes (p .part .blocks)) rowsBytes wp i o .change) i p h
+call-page (ticks n) p h = after-tick-call Page p n h (run-page n p h) (arrayBytes (p .part .blocks)) rowsBytes
+
+pub calls-page : (cs : List Call) (p : Record) → Page p → Page (recordAfterCalls cs p)
+calls-page [] p h = h
+calls-page (c ∷ cs) p h = calls-page cs (recordAfterCall c p) (call-page c p h)

@@ -16,10 +16,10 @@ use Rattle.history.specs.Run.{Run}
 use Rattle.history.specs.Course.{course}
 use Rattle.history.proofs.Course.{course-told}
 use Rattle.history.proofs.FromPowerUp.{FromPowerUp, history-told}
-use Rattle.driver.specs.Driven.{CCall, callsOf, Driven, heard, packedSteps}
+use Rattle.driver.specs.Driven.{Lent, lent, CCall, callsOf, Driven, heard, packedSteps}
 use Rattle.driver.proofs.Fitting.{Page, none-page}
-use Rattle.driver.proofs.Holding.{Holding, own-bytes-hold}
-use Rattle.driver.proofs.Runs.{driven-run, driven-heard}
+use Rattle.driver.proofs.Holding.{Holding, in-bytes}
+use Rattle.driver.proofs.Runs.{driven-run}
 
 -- the numbers that yawlspar_power_up was given, and the buffer that it was lent
 module _ (q : Asked) (bs : List ℕ) where
@@ -42,23 +42,22 @@ module _ (q : Asked) (bs : List ℕ) where
     up-page = ap (λ (p : Record). length (p .page)) (powered-fresh (q .blocks) (identityOf q) (registersOf q) up-unrefused) ∙ none-page
 
     -- the buffer holds the record that power-up gives
-    pub up-holds : (xs rs : List ℕ) → length xs ≡ arrayBytes (q .blocks) → length rs ≡ rowsBytes → Holding (powerUpBytes q bs) xs rs start
+    pub up-holds : (xs rs : List ℕ) → length xs ≡ arrayBytes (q .blocks) → length rs ≡ rowsBytes → Holding (lent (powerUpBytes q bs) xs rs) start
     up-holds xs rs lx lr =
-        let s = power-up-sound (q .blocks) (identityOf q) (registersOf q) in
-        record { in-bytes = own-bytes-hold start (powerUpBytes q bs) up-bytes s up-page; is-sound = s; page = up-page; array = lx ∙ sym (ap (λ (p : Record). arrayBytes (p .part .blocks)) (powered-fresh (q .blocks) (identityOf q) (registersOf q) up-unrefused)); rows = lr }
+        record { bytes = up-bytes; is-sound = power-up-sound (q .blocks) (identityOf q) (registersOf q); page = up-page; array = lx ∙ sym (ap (λ (p : Record). arrayBytes (p .part .blocks)) (powered-fresh (q .blocks) (identityOf q) (registersOf q) up-unrefused)); rows = lr }
 
-  -- what calls from C leave of a part that was powered up, unrefused: the bytes hold a record, to which a run of the calls led; every stored byte is what the history says; and C heard what the part answered
-  pub record FromC {ds : List CCall} {xs rs cs ys ts : List ℕ} (chain : Driven (powerUpBytes q bs) xs rs ds cs ys ts) : Type 0 where
+  -- what calls from C leave of a part that was powered up, unrefused: the bytes are those of a record, and hold it; a run of the calls led to it; every stored byte is what the history says; and C heard what the part answered
+  pub record FromC {ds : List CCall} {xs rs : List ℕ} {m : Lent} (chain : Driven (lent (powerUpBytes q bs) xs rs) ds m) : Type 0 where
     pub unrefused : upOf q .number ≡ 0
     pub next : Record
-    pub in-bytes : recordIn cs ≡ held next
-    pub run : Run start xs rs (callsOf ds) next ys ts
-    pub told : FromPowerUp (q .blocks) (identityOf q) (registersOf q) (callsOf ds) xs rs next ys ts
+    pub bytes : m .bytes ≡ recordBytes next
+    pub in-bytes : recordIn (m .bytes) ≡ held next
+    pub run : Run start xs rs (callsOf ds start) next (m .array) (m .rows)
+    pub told : FromPowerUp (q .blocks) (identityOf q) (registersOf q) (callsOf ds start) xs rs next (m .array) (m .rows)
     pub answers : heard chain ≡ packedSteps (course run)
 
-  pub driven-told : {ds : List CCall} {xs rs cs ys ts : List ℕ} → powerUpAnswer (length bs) q ≡ 0 → length xs ≡ arrayBytes (q .blocks) → length rs ≡ rowsBytes
-      → (chain : Driven (powerUpBytes q bs) xs rs ds cs ys ts) → FromC chain
-  driven-told {ds} {xs} {rs} {cs} {ys} {ts} z lx lr chain =
-      let h = up-holds z xs rs lx lr in
-      let l = driven-run chain start h in
-      record { unrefused = up-unrefused z; next = l .next; in-bytes = l .in-bytes; run = l .run; told = history-told (q .blocks) (identityOf q) (registersOf q) (up-unrefused z) lx lr (l .run); answers = driven-heard chain start h ∙ ap packedSteps (sym (course-told (l .run))) }
+  pub driven-told : {ds : List CCall} {xs rs : List ℕ} {m : Lent} → powerUpAnswer (length bs) q ≡ 0 → length xs ≡ arrayBytes (q .blocks) → length rs ≡ rowsBytes
+      → (chain : Driven (lent (powerUpBytes q bs) xs rs) ds m) → FromC chain
+  driven-told {ds} {xs} {rs} {m} z lx lr chain =
+      let l = driven-run chain start (up-holds z xs rs lx lr) in
+      record { unrefused = up-unrefused z; next = l .next; bytes = l .holding .bytes; in-bytes = in-bytes (l .holding); run = l .run; told = history-told (q .blocks) (identityOf q) (registersOf q) (up-unrefused z) lx lr (l .run); answers = l .answers ∙ ap packedSteps (sym (course-told (l .run))) }

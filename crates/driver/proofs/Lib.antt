@@ -1,5 +1,7 @@
 pub mod Fitting
+pub mod Held
 pub mod Holding
+pub mod Stands
 pub mod Chains
 pub mod Runs
 pub mod FromC

@@ -1,6 +1,6 @@
 -- Runs are there, and are put together of runs: every list of calls has a run, and one outcome; a run of some calls and then others is a run of the first and then one of the others.
 use Prim.Native.Nat.{ℕ}
-use mathlib.Core.Path.{_≡_, refl, subst}
+use mathlib.Core.Path.{_≡_, refl, sym, ap, subst, _∙_}
 use mathlib.Core.List.{List, [], _∷_, _++_}
 use lib.ListN.{length}
 use Rattle.types.specs.declared.Memory.the-variants.{Array, Rows}
@@ -9,8 +9,10 @@ use Rattle.types.specs.declared.Answer.{Answer}
 use Rattle.types.specs.declared.Ticked.{Ticked}
 use Rattle.words.proofs.Allowed.{agree}
 use Rattle.paper.specs.Calls.{transacted, ticked, tickedMemory}
-use Rattle.paper.specs.History.{Call, transaction, ticks}
+use Rattle.paper.specs.History.{Call, transaction, ticks, reachedBy}
 use Rattle.history.specs.Run.{Run, done, sends, waits}
+use Rattle.history.specs.Course.{Step, sent, waited, course, courseOf}
+use Rattle.history.proofs.Course.{course-told}
 
 -- where calls lead from a record, an array and rows
 pub record Leads (p : Record) (xs rs : List ℕ) (cs : List Call) : Type 0 where
@@ -59,3 +61,26 @@ run-parted (transaction wp i o ∷ cs) ds (sends a h run) =
 run-parted (ticks n ∷ cs) ds (waits t h hx hr run) =
     let l = run-parted cs ds run in
     record { between = l .between; array = l .array; rows = l .rows; before = waits t h hx hr (l .before); after = l .after }
+
+-- two runs one after the other are one
+pub run-joined : {cs ds : List Call} {p q u : Record} {xs rs ys ts zs vs : List ℕ} → Run p xs rs cs q ys ts → Run q ys ts ds u zs vs → Run p xs rs (cs ++ ds) u zs vs
+run-joined done g = g
+run-joined (sends a h f) g = sends a h (run-joined f g)
+run-joined (waits t h hx hr f) g = waits t h hx hr (run-joined f g)
+
+-- and so are their courses
+steps-joined : {cs ds : List Call} {p q u : Record} {xs rs ys ts zs vs : List ℕ} (f : Run p xs rs cs q ys ts) (g : Run q ys ts ds u zs vs) → course (run-joined f g) ≡ course f ++ course g
+unfolding run-joined
+steps-joined done g = refl
+steps-joined (sends a h f) g = ap (λ (ss : List Step). sent a ∷ ss) (steps-joined f g)
+steps-joined (waits {p} {n = n} t h hx hr f) g =
+    ap (λ (ss : List Step). waited t (reachedBy (t .number) n p) ∷ ss) (steps-joined f g)
+
+-- what calls tell after a run, told with it
+pub course-joined : {cs : List Call} {p q : Record} {xs rs ys ts : List ℕ} (run : Run p xs rs cs q ys ts) (ds : List Call) → courseOf (cs ++ ds) p (length xs) (length rs) ≡ courseOf cs p (length xs) (length rs) ++ courseOf ds q (length ys) (length ts)
+course-joined {cs} {p} {q} {xs} {rs} {ys} {ts} run ds =
+    let l = run-exists ds q ys ts in
+    sym (course-told (run-joined run (l .run)))
+    ∙ steps-joined run (l .run)
+    ∙ ap (λ (ss : List Step). ss ++ course (l .run)) (course-told run)
+    ∙ ap (λ (ss : List Step). courseOf cs p (length xs) (length rs) ++ ss) (course-told (l .run))

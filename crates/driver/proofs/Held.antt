@@ -1,0 +1,76 @@
+-- What calls from C give on what holds a record, with a level of WP# that is none, and on what holds no record. All that is proved from C rests on the functions' definitions through these laws alone.
+use Prim.Native.Nat.{ℕ}
+use mathlib.Core.Path.{_≡_, refl, sym, ap, _∙_}
+use mathlib.Core.Bool.{true, false, false≢true}
+use mathlib.Core.List.{List, [], _∷_}
+use lib.Dec.{eqb, leb}
+use lib.ListN.{length}
+use Rattle.types.specs.declared.Memory.the-variants.{Array, Rows}
+use Rattle.types.specs.declared.Record.{Record}
+use Rattle.types.specs.declared.Answer.{Answer}
+use Rattle.types.specs.declared.Ticked.{Ticked}
+use Rattle.words.proofs.Tests.{and-r, and-true}
+use Rattle.paper.specs.Soundness.{sound}
+use Rattle.paper.specs.Calls.{transacted, transactedOutput, ticked, tickedMemory}
+use Rattle.paper.proofs.Numbers.{transaction-taken}
+use Rattle.record_bytes.specs.Layout.{recordBytes}
+use Rattle.record_bytes.specs.Read.{held, recordIn}
+use Rattle.yawlspar.specs.Face.{packed, transactAnswer, transactBytes, transactOutput, tickAnswer, tickBytes, tickMemory}
+use Rattle.yawlspar.proofs.Face.{unheld-bytes, unheld-tick-bytes, unheld-memory}
+use Rattle.yawlspar.proofs.Refused.{refused-bytes}
+use Rattle.driver.specs.Driven.{Lent, lent, CCall, transact, tick, gives}
+
+-- the bytes hold the record p
+module _ (l : Lent) (p : Record) (e : recordIn (l .bytes) ≡ held p) where
+  -- a transaction whose level of WP# is one
+  module _ (wp : ℕ) (i o : List ℕ) (level : leb wp 1 ≡ true) where
+    abbrev answered : Answer
+    answered = transacted p (length (l .array)) (length (l .rows)) (eqb wp 1) i (length o)
+
+    pub held-answer : gives (transact wp i o) l .answer ≡ packed (answered .number) (answered .first)
+    unfolding transactAnswer transacted
+    held-answer = rw (e, level, and-true (sound p)) refl
+
+    pub held-transacted : gives (transact wp i o) l .left .bytes ≡ recordBytes (answered .next)
+    unfolding transactBytes transacted
+    held-transacted = rw (e, level, and-true (sound p)) refl
+
+    pub held-output : gives (transact wp i o) l .buffers ≡ transactedOutput p (l .array) (l .rows) (eqb wp 1) i o ∷ []
+    unfolding transactOutput
+    held-output = rw (e, level, and-true (sound p)) refl
+
+  -- ticks
+  module _ (n : ℕ) where
+    abbrev ran : Ticked
+    ran = ticked p (length (l .array)) (length (l .rows)) n
+
+    pub held-ticks-answer : gives (tick n) l .answer ≡ packed (ran .number) (ran .done)
+    unfolding tickAnswer
+    held-ticks-answer = rw e refl
+
+    pub held-ticked : gives (tick n) l .left .bytes ≡ recordBytes (ran .next)
+    unfolding tickBytes
+    held-ticked = rw e refl
+
+    pub held-array : gives (tick n) l .left .array ≡ tickedMemory Array p (length (l .array)) (length (l .rows)) n (l .array)
+    unfolding tickMemory
+    held-array = rw e refl
+
+    pub held-rows : gives (tick n) l .left .rows ≡ tickedMemory Rows p (length (l .array)) (length (l .rows)) n (l .rows)
+    unfolding tickMemory
+    held-rows = rw e refl
+
+-- a transaction whose level is none changes nothing
+pub no-level : (l : Lent) (wp : ℕ) (i o : List ℕ) → leb wp 1 ≡ false → gives (transact wp i o) l .left .bytes ≡ l .bytes
+no-level l wp i o e =
+    refused-bytes (l .bytes) (length (l .array)) (length (l .rows)) wp i (length o) (λ z. false≢true (sym e ∙ and-r _ _ (transaction-taken _ _ _ _ _ _ z .is-sound)))
+
+-- where the bytes hold no record, no call changes anything
+pub unheld-left : (c : CCall) (l : Lent) → recordIn (l .bytes) .ok ≡ false → gives c l .left ≡ l
+unheld-left (transact wp i o) l e =
+    ap (λ (bs : List ℕ). lent bs (l .array) (l .rows)) (sym (unheld-bytes (recordIn (l .bytes)) e (length (l .array)) (length (l .rows)) wp i (length o) (l .bytes)))
+unheld-left (tick n) l e =
+    let h = recordIn (l .bytes) in
+    let a = length (l .array) in
+    let r = length (l .rows) in
+    rw (← unheld-tick-bytes h e a r n (l .bytes), ← unheld-memory h e Array a r n (l .array), ← unheld-memory h e Rows a r n (l .rows)) refl
