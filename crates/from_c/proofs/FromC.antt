@@ -16,10 +16,10 @@ use Rattle.history.specs.Run.{Run}
 use Rattle.history.specs.Course.{course}
 use Rattle.history.proofs.Course.{course-told}
 use Rattle.history.proofs.FromPowerUp.{FromPowerUp, history-told}
-use Rattle.driver.specs.Driven.{Lent, lent, CCall, callsOf, Driven, heard, packedSteps}
-use Rattle.driver.proofs.Fitting.{Page, none-page}
-use Rattle.driver.proofs.Holding.{Holding, in-bytes}
-use Rattle.driver.proofs.Runs.{driven-run}
+use Rattle.from_c.specs.Driven.{Lent, lent, CCall, callsOf, Driven, heard, packedSteps}
+use Rattle.from_c.proofs.Fitting.{Page, none-page}
+use Rattle.from_c.proofs.Holding.{Holding, in-bytes}
+use Rattle.from_c.proofs.Runs.{driven-run}
 
 -- the numbers that yawlspar_power_up was given, and the buffer that it was lent
 module _ (q : Asked) (bs : List ℕ) where

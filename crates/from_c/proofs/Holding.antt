@@ -12,8 +12,8 @@ use Rattle.record_bytes.specs.Read.{held, recordIn}
 use Rattle.record_bytes.proofs.Back.{read-back}
 use Rattle.history.specs.Run.{Run}
 use Rattle.history.proofs.Told.{run-told}
-use Rattle.driver.specs.Driven.{Lent}
-use Rattle.driver.proofs.Fitting.{Page, sound-fits, calls-page}
+use Rattle.from_c.specs.Driven.{Lent}
+use Rattle.from_c.proofs.Fitting.{Page, sound-fits, calls-page}
 
 -- the bytes of a sound record, and memory of its lengths
 pub record Holding (l : Lent) (p : Record) : Type 0 where

@@ -10,9 +10,9 @@ use Rattle.paper.specs.Calls.{transacted, ticked}
 use Rattle.record_bytes.specs.Layout.{recordBytes}
 use Rattle.history.specs.Run.{Run, done, sends, waits}
 use Rattle.history.specs.Course.{courseOf}
-use Rattle.driver.specs.Driven.{Lent, CCall, transact, tick, Given, gives, callOf, heardOf, packedSteps}
-use Rattle.driver.proofs.Held.{held-answer, held-transacted, held-ticks-answer, held-ticked, held-array, held-rows, no-level}
-use Rattle.driver.proofs.Holding.{Holding, in-bytes}
+use Rattle.from_c.specs.Driven.{Lent, CCall, transact, tick, Given, gives, callOf, heardOf, packedSteps}
+use Rattle.from_c.proofs.Held.{held-answer, held-transacted, held-ticks-answer, held-ticked, held-array, held-rows, no-level}
+use Rattle.from_c.proofs.Holding.{Holding, in-bytes}
 
 -- the call c, lent l on a part with the record p, gave g
 pub record StandsFor (c : CCall) (l : Lent) (p : Record) (g : Given) : Type 0 where

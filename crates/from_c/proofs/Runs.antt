@@ -10,9 +10,9 @@ use Rattle.history.specs.Run.{Run, done}
 use Rattle.history.specs.Course.{Step, sent, waited, courseOf}
 use Rattle.history.proofs.Told.{run-told}
 use Rattle.history.proofs.Joined.{run-joined, course-joined}
-use Rattle.driver.specs.Driven.{Lent, CCall, callOf, callsOf, Driven, ended, calls, heard, packedSteps}
-use Rattle.driver.proofs.Holding.{Holding, run-holding}
-use Rattle.driver.proofs.Stands.{stands}
+use Rattle.from_c.specs.Driven.{Lent, CCall, callOf, callsOf, Driven, ended, calls, heard, packedSteps}
+use Rattle.from_c.proofs.Holding.{Holding, run-holding}
+use Rattle.from_c.proofs.Stands.{stands}
 
 pub packed-append : (ss ts : List Step) → packedSteps (ss ++ ts) ≡ packedSteps ss ++ packedSteps ts
 packed-append [] ts = refl

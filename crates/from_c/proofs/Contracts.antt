@@ -8,7 +8,7 @@ use Rattle.yawlspar.specs.Face.{asked, powerUpAnswer, powerUpBytes}
 use Rattle.yawlspar.proofs.yawlspar_power_up.Reads as yawlspar-power-up
 use Rattle.yawlspar.proofs.yawlspar_transact.Reads as yawlspar-transact
 use Rattle.yawlspar.proofs.yawlspar_tick.Reads as yawlspar-tick
-use Rattle.driver.specs.Driven.{Lent, lent, CCall, transact, tick, Driven, calls}
+use Rattle.from_c.specs.Driven.{Lent, lent, CCall, transact, tick, Driven, calls}
 
 -- bytes, array, rows, level, input and output are a call's arguments
 pub transact-drives : Follows yawlspar-transact.Learnt (λ κ a x s.

@@ -3,8 +3,8 @@ use mathlib.Core.Path.{_≡_, refl, ap, _∙_}
 use mathlib.Core.Bool.{false}
 use mathlib.Core.List.{List, [], _∷_}
 use Rattle.record_bytes.specs.Read.{recordIn}
-use Rattle.driver.specs.Driven.{Lent, CCall, Given, gives, Driven, ended, calls}
-use Rattle.driver.proofs.Held.{unheld-left}
+use Rattle.from_c.specs.Driven.{Lent, CCall, Given, gives, Driven, ended, calls}
+use Rattle.from_c.proofs.Held.{unheld-left}
 
 -- every list of calls from C can be made, whatever is lent
 pub record Drives (l : Lent) (cs : List CCall) : Type 0 where

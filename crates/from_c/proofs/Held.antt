@@ -18,7 +18,7 @@ use Rattle.record_bytes.specs.Read.{held, recordIn}
 use Rattle.yawlspar.specs.Face.{packed, transactAnswer, transactBytes, transactOutput, tickAnswer, tickBytes, tickMemory}
 use Rattle.yawlspar.proofs.Face.{unheld-bytes, unheld-tick-bytes, unheld-memory}
 use Rattle.yawlspar.proofs.Refused.{refused-bytes}
-use Rattle.driver.specs.Driven.{Lent, lent, CCall, transact, tick, gives}
+use Rattle.from_c.specs.Driven.{Lent, lent, CCall, transact, tick, gives}
 
 -- the bytes hold the record p
 module _ (l : Lent) (p : Record) (e : recordIn (l .bytes) ≡ held p) where

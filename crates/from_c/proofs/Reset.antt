@@ -20,9 +20,9 @@ use Rattle.history.proofs.Course.{course-told, course-append, run-ends}
 use Rattle.history.proofs.FromPowerUp.{history-told}
 use Rattle.reset.specs.Closing.{wake, arm, reset, allAside, untilArmed, untilReset, closing, poweredAs}
 use Rattle.reset.proofs.Run.{FreshRun, reset-last, reset-after-run}
-use Rattle.driver.specs.Driven.{Lent, lent, CCall, transact, callOf, callsOf, Driven, heard, packedSteps, closingFromC}
-use Rattle.driver.proofs.Runs.{packed-append}
-use Rattle.driver.proofs.FromC.{FromC, driven-told}
+use Rattle.from_c.specs.Driven.{Lent, lent, CCall, transact, callOf, callsOf, Driven, heard, packedSteps, closingFromC}
+use Rattle.from_c.proofs.Runs.{packed-append}
+use Rattle.from_c.proofs.FromC.{FromC, driven-told}
 
 -- some calls from C, then others
 calls-of-append : (a b : List CCall) (p : Record) → callsOf (a ++ b) p ≡ callsOf a p ++ callsOf b (recordAfterCalls (callsOf a p) p)
