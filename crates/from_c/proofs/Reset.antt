@@ -11,11 +11,11 @@ use Rattle.types.specs.declared.Record.{Record}
 use Rattle.paper.specs.Sizes.{arrayBytes, rowsBytes}
 use Rattle.paper.specs.Calls.{transacted}
 use Rattle.paper.specs.History.{Call, transaction, recordAfterCall, recordAfterCalls}
-use Rattle.paper.proofs.Histories.{calls-append}
 use Rattle.record_bytes.specs.Layout.{recordBytes}
 use Rattle.yawlspar.specs.Face.{packed, Asked, identityOf, registersOf, upOf, powerUpAnswer, powerUpBytes}
 use Rattle.history.specs.Run.{Run}
 use Rattle.history.specs.Course.{sent, courseOf, endOf}
+use Rattle.history.proofs.Calls.{calls-append}
 use Rattle.history.proofs.Course.{course-told, course-append, run-ends}
 use Rattle.history.proofs.FromPowerUp.{history-told}
 use Rattle.reset.specs.Closing.{wake, arm, reset, allAside, untilArmed, untilReset, closing, poweredAs}

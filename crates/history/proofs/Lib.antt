@@ -1,3 +1,4 @@
+pub mod Calls
 pub mod Touches
 pub mod Told
 pub mod Shielded

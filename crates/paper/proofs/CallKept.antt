@@ -1,8 +1,7 @@
 -- What every call keeps, whether it is refused, ignored or executed: a sound record stays sound, and a part keeps its size.
 use Prim.Native.Nat.{ℕ, _≤_}
-use mathlib.Core.Path.{_≡_, refl, _∙_}
+use mathlib.Core.Path.{_≡_, refl}
 use mathlib.Core.Bool.{Bool, true, false, cond}
-use mathlib.Core.List.{List, [], _∷_}
 use native.Mathlib.Omega.{arith}
 use lib.Dec.{eqb}
 use borrow.Author.Tests.{eqb-true}
@@ -13,7 +12,7 @@ use Rattle.paper.specs.Soundness.{sound}
 use Rattle.paper.specs.Numbers.{tickNumber}
 use Rattle.paper.specs.Ticks.{recordAfter, workingTicks}
 use Rattle.paper.specs.Calls.{ticked}
-use Rattle.paper.specs.History.{Call, transaction, ticks, recordAfterCall, recordAfterCalls}
+use Rattle.paper.specs.History.{Call, transaction, ticks, recordAfterCall}
 use Rattle.paper.proofs.Numbers.{ticks-taken}
 use Rattle.paper.proofs.Kept.{works-at-most, run-sound, run-size}
 use Rattle.paper.proofs.TransactionKept.{transaction-sound, transaction-size}
@@ -53,12 +52,3 @@ pub call-size : (c : Call) (p : Record) → recordAfterCall c p .part .blocks �
 call-size (transaction wp i o) p = transaction-size p i (arrayBytes (p .part .blocks)) rowsBytes wp o
 call-size (ticks n) p =
     after-tick-call (λ (q : Record). q .part .blocks ≡ p .part .blocks) p n refl (run-size n p) (arrayBytes (p .part .blocks)) rowsBytes
-
--- and a list of calls
-pub calls-sound : (cs : List Call) (p : Record) → sound p ≡ true → sound (recordAfterCalls cs p) ≡ true
-calls-sound [] p s = s
-calls-sound (c ∷ cs) p s = calls-sound cs (recordAfterCall c p) (call-sound c p s)
-
-pub calls-size : (cs : List Call) (p : Record) → recordAfterCalls cs p .part .blocks ≡ p .part .blocks
-calls-size [] p = refl
-calls-size (c ∷ cs) p = calls-size cs (recordAfterCall c p) ∙ call-size c p

@@ -22,8 +22,4 @@ pub mod LocksKept
 pub mod ErrorsKept
 pub mod Histories
 pub mod Nested
-pub mod HaltedKept
-pub mod NestedBytes
 pub mod EraseBytes
-pub mod ErasedPages
-pub mod EraseResumed

@@ -1,8 +1,7 @@
--- A suspended operation over calls: which calls let it go, and what the pages hold that an erase has done.
-use Prim.Native.Nat.{ℕ, _+_, _*_}
+-- A suspended operation: which calls let it go, and what the pages hold that an erase has done.
+use Prim.Native.Nat.{ℕ, _*_}
 use mathlib.Core.Path.{_≡_}
-use mathlib.Core.Bool.{Bool, true, false, not}
-use mathlib.Core.List.{List, [], _∷_, _++_}
+use mathlib.Core.Bool.{Bool, true, false}
 use lib.ListN.{getD}
 use lib.Dec.{eqb}
 use Rattle.types.specs.declared.Memory.{Memory}
@@ -22,7 +21,7 @@ use Rattle.paper.specs.Erase.{memoryOf, erasedByte}
 use Rattle.paper.specs.Phases.{running, halted}
 use Rattle.paper.specs.Table.{decoded, columns}
 use Rattle.paper.specs.Calls.{transacted}
-use Rattle.paper.specs.History.{Call, transaction, ticks, recordAfterCall}
+use Rattle.paper.specs.History.{Call, transaction, ticks}
 
 -- what a command does lets a suspended operation go: resume goes on with it, reset drops it
 abbrev pub letsGo : Effect → Bool
@@ -53,19 +52,6 @@ abbrev pub releases : Call → Record → Bool
 releases (transaction wp i o) p =
     eqb (transacted p (arrayBytes (p .part .blocks)) rowsBytes wp i o .number) 0 and letsGoBy (decoded (p .part .blocks) (p .part .bank) (getD i 0 0))
 releases (ticks n) p = false
-
--- no call of a list does
-abbrev pub noneReleases : List Call → Record → Bool
-noneReleases [] p = true
-noneReleases (c ∷ cs) p = not (releases c p) and noneReleases cs (recordAfterCall c p)
-
--- a transaction of one byte, at a level of the pin
-abbrev pub oneByte : Bool → ℕ → Call
-oneByte wp c = transaction wp (c ∷ []) 1
-
--- d ticks, a suspend, calls, and a resume
-abbrev pub interrupted : ℕ → Call → List Call → Call → List Call
-interrupted d suspend cs resume = ticks d ∷ suspend ∷ (cs ++ (resume ∷ []))
 
 -- a place lies in the pages that an operation has done, if it is an erase
 abbrev pub inDone : Operation → Memory → ℕ → Bool

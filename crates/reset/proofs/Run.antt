@@ -11,9 +11,8 @@ use Rattle.paper.specs.Sizes.{arrayBytes, rowsBytes}
 use Rattle.paper.specs.Calls.{poweredUp, transacted}
 use Rattle.paper.specs.History.{Call, recordAfterCall, recordAfterCalls}
 use Rattle.paper.proofs.Kept.{powered-fresh}
-use Rattle.paper.proofs.CallKept.{calls-size}
-use Rattle.paper.proofs.Histories.{calls-append}
 use Rattle.history.specs.Run.{Run, done, sends}
+use Rattle.history.proofs.Calls.{calls-size, calls-append}
 use Rattle.history.proofs.FromPowerUp.{FromPowerUp, history-told}
 use Rattle.history.proofs.Joined.{run-parted}
 use Rattle.reset.specs.Closing.{wake, arm, reset, allAside, untilArmed, untilReset, closing, poweredAs, answerToReset}

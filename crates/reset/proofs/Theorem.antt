@@ -15,8 +15,7 @@ use Rattle.paper.specs.Calls.{poweredUp}
 use Rattle.paper.specs.History.{Call, recordAfterCall, recordAfterCalls, history}
 use Rattle.paper.proofs.Soundness.{recordOf, sound-parts}
 use Rattle.paper.proofs.Kept.{unbanked, power-up-sound, powered-fresh}
-use Rattle.paper.proofs.CallKept.{calls-sound, calls-size}
-use Rattle.paper.proofs.Histories.{calls-append, history-append}
+use Rattle.history.proofs.Calls.{calls-sound, calls-size, calls-append, history-append}
 use Rattle.reset.specs.Closing.{wake, arm, reset, allAside, untilArmed, untilReset, closing, poweredAs, answerToReset, FreshAfter}
 use Rattle.reset.proofs.Aside.{calls-identity, all-aside-alike}
 use Rattle.reset.proofs.Steps.{woken, armed-now, reset-now, powered-as}

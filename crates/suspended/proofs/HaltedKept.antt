@@ -26,24 +26,25 @@ use Rattle.types.specs.declared.Data.the-variants.{Kept, Sent}
 use Rattle.types.specs.declared.Change.the-variants.{Marked}
 use Rattle.words.specs.Logic.{_and_}
 use Rattle.words.proofs.Tests.{and-l, and-r}
 use Rattle.paper.specs.Sizes.{arrayBytes, rowsBytes}
 use Rattle.paper.specs.Phases.{running, halted, workIs, anyOperation}
 use Rattle.paper.specs.Operations.{ticksInAll, ticksDone, advancedBy}
 use Rattle.paper.specs.Suspend.{suspendable}
 use Rattle.paper.specs.Soundness.{sound}
 use Rattle.paper.specs.Registers.{upperBank}
 use Rattle.paper.specs.Table.{codes, largeCodes, farCodes, decoded, columns, addressingOn}
 use Rattle.paper.specs.Commands.{changed, begun, starts, changeBy, changeBarred}
 use Rattle.paper.specs.Numbers.{stateOk, transactionRefusal, ignoredNumber}
 use Rattle.paper.specs.Calls.{refused, ignored, executed, outcomeTo, outcomeOf, transacted}
 use Rattle.paper.specs.Ticks.{finished, advanced, worked, tickedAt, recordAfter}
 use Rattle.paper.specs.History.{Call, transaction, ticks, recordAfterCall, recordAfterCalls}
-use Rattle.paper.specs.Halted.{letsGo, letsGoBy, releases, noneReleases}
+use Rattle.paper.specs.Halted.{letsGo, letsGoBy, releases}
 use Rattle.paper.proofs.Phases.{phase-halts, other-halts}
 use Rattle.paper.proofs.Table.{codesOf}
 use Rattle.paper.proofs.CallKept.{after-tick-call}
 use Rattle.paper.proofs.Numbers.{command-taken}
 use Rattle.paper.proofs.Nested.{executed-so}
+use Rattle.suspended.specs.Interrupted.{noneReleases}
 
 -- what is suspended stays so where something goes on, and when it ends
 worked-halted : (p : Record) (o : Operation) (t : Bool) → halted (cond t (advanced p (advancedBy 1 o)) (finished p o) .phase) ≡ halted (p .phase)

@@ -20,28 +20,29 @@ use Rattle.types.specs.declared.Effect.the-variants.{Looks, Enables, Disables, 
 use Rattle.types.specs.declared.Record.{Record}
 use Rattle.types.specs.declared.Ticked.{Ticked}
 use Rattle.words.proofs.Tests.{and-l, and-r, and-in}
 use Rattle.paper.specs.Sizes.{arrayBytes, rowsBytes, sameMemory, pageBytes, tickLimit}
 use Rattle.paper.specs.Program.{programOf}
 use Rattle.paper.specs.Erase.{memoryOf, unitPages, unitBytes, erasedByte, eraseOf}
 use Rattle.paper.specs.Registers.{writeOf}
 use Rattle.paper.specs.Phases.{running, halted, phaseOf, workingOn}
 use Rattle.paper.specs.Operations.{ticksInAll, ticksDone, advancedBy, inUnit, nextTouch}
 use Rattle.paper.specs.Soundness.{sound}
 use Rattle.paper.specs.Table.{columns, addressingOn}
 use Rattle.paper.specs.Commands.{changed, begins, changeBy}
 use Rattle.paper.specs.Numbers.{tickNumber}
 use Rattle.paper.specs.Calls.{ticked}
 use Rattle.paper.specs.Ticks.{finished, advanced, worked, tickedAt, tickOnce, recordAfter, touchAt, touchOf, workingTicks}
 use Rattle.paper.specs.History.{Call, transaction, ticks, recordAfterCall, recordAfterCalls, tickTouches, reachedBy, callTouches, history, byteAfter, byteAfterAll}
 use Rattle.paper.specs.Halted.{inDone, BlankIn, DoneBlank}
 use Rattle.paper.proofs.Phases.{phase-runs, phase-halts}
 use Rattle.paper.proofs.Soundness.{halted-in-order}
 use Rattle.paper.proofs.Kept.{run-sound}
 use Rattle.paper.proofs.TransactionKept.{after-transaction}
-use Rattle.paper.proofs.CallKept.{call-sound, calls-sound, calls-size}
-use Rattle.paper.proofs.Histories.{bytes-append, bytes-joined}
+use Rattle.paper.proofs.CallKept.{call-sound}
+use Rattle.paper.proofs.Histories.{bytes-append}
 use Rattle.paper.proofs.EraseBytes.{blank-sets, erase-fills}
-use Rattle.paper.proofs.NestedBytes.{halted-spares}
+use Rattle.history.proofs.Calls.{calls-sound, calls-size, bytes-joined}
+use Rattle.suspended.proofs.NestedBytes.{halted-spares}
 
 module _ (m : Memory) (at : ℕ) where
   -- an operation that begins has done no page

@@ -19,27 +19,28 @@ use Rattle.types.specs.declared.Record.{Record}
 use Rattle.types.specs.declared.Answer.{Answer}
 use Rattle.types.specs.declared.Ticked.{Ticked}
 use Rattle.words.specs.Logic.{_and_, _or_, unless, _orElse_}
 use Rattle.paper.specs.Sizes.{tickLimit}
 use Rattle.paper.specs.Erase.{unitPages, erasedByte}
 use Rattle.paper.specs.Phases.{running, halted, isBusy, workingOn, suspendedIn, resumedIn}
 use Rattle.paper.specs.Records.{settled}
 use Rattle.paper.specs.Operations.{unitSuspends, canSuspend, inUnit}
 use Rattle.paper.specs.Soundness.{sound}
 use Rattle.paper.specs.Table.{columns}
 use Rattle.paper.specs.Commands.{unarmed}
 use Rattle.paper.specs.Numbers.{commandNumber, ignoredNumber}
 use Rattle.paper.specs.History.{Call, ticks, recordAfterCall, recordAfterCalls, history, byteAfterAll}
-use Rattle.paper.specs.Halted.{noneReleases, oneByte, interrupted, inDone, DoneBlank}
+use Rattle.paper.specs.Halted.{inDone, DoneBlank}
 use Rattle.paper.proofs.Phases.{no-work-at, at-same}
 use Rattle.paper.proofs.Soundness.{recordOf, sound-parts, sound-in}
 use Rattle.paper.proofs.Table.{Always, known}
 use Rattle.paper.proofs.Runs.{run-record}
 use Rattle.paper.proofs.Answers.{executes, ticks-run}
-use Rattle.paper.proofs.CallKept.{call-sound, calls-sound, calls-size}
-use Rattle.paper.proofs.Histories.{calls-append}
-use Rattle.paper.proofs.HaltedKept.{calls-halted}
+use Rattle.paper.proofs.CallKept.{call-sound}
 use Rattle.paper.proofs.EraseBytes.{pages-few, erase-ends}
-use Rattle.paper.proofs.ErasedPages.{begun-blank, erase-whole}
+use Rattle.history.proofs.Calls.{calls-sound, calls-size, calls-append}
+use Rattle.suspended.specs.Interrupted.{noneReleases, oneByte, interrupted}
+use Rattle.suspended.proofs.HaltedKept.{calls-halted}
+use Rattle.suspended.proofs.ErasedPages.{begun-blank, erase-whole}
 
 -- 75h and B0h are suspends, 7Ah and 30h resumes
 pub suspend-codes : Always 0x75 Suspend × Always 0xB0 Suspend

@@ -20,22 +20,22 @@ use Rattle.types.specs.declared.Stored.{Stored}
 use Rattle.types.specs.declared.Record.{Record}
 use Rattle.words.specs.Logic.{_and_}
 use Rattle.words.proofs.Tests.{and-l, and-r, and-in, fails}
 use Rattle.paper.specs.Sizes.{arrayBytes, rowsBytes, sameMemory, pageBytes}
 use Rattle.paper.specs.Program.{pageBase, pagePlace, narrowedByte}
 use Rattle.paper.specs.Erase.{memoryOf, unitBytes, unitBase}
 use Rattle.paper.specs.Phases.{running, halted}
 use Rattle.paper.specs.Operations.{unitSuspends, inUnit, nextTouch}
 use Rattle.paper.specs.Soundness.{sound}
 use Rattle.paper.specs.Ticks.{recordAfter, touchAt, touchOf}
 use Rattle.paper.specs.Calls.{ticked}
 use Rattle.paper.specs.History.{Call, transaction, ticks, recordAfterCall, tickTouches, callTouches, history, byteAfter, byteAfterAll}
-use Rattle.paper.specs.Halted.{noneReleases}
 use Rattle.paper.proofs.Phases.{no-work-at, at-same}
 use Rattle.paper.proofs.Soundness.{InOrder, in-order, InNest, in-nest, sound-in}
 use Rattle.paper.proofs.Kept.{run-sound, run-size}
 use Rattle.paper.proofs.CallKept.{call-sound, call-size}
 use Rattle.paper.proofs.Histories.{bytes-append}
-use Rattle.paper.proofs.HaltedKept.{run-halted, call-halted}
+use Rattle.suspended.specs.Interrupted.{noneReleases}
+use Rattle.suspended.proofs.HaltedKept.{run-halted, call-halted}
 
 -- a unit that can be suspended begins where a page does, so that it holds a page whole, or no place of it
 page-within : (u : EraseUnit) (n b c at : ℕ) → unitSuspends u ≡ true → unitBase u n b ≡ b → pageBase c ≡ c → c ≤ at → at < c + pageBytes

@@ -1,0 +1,4 @@
+pub mod HaltedKept
+pub mod NestedBytes
+pub mod ErasedPages
+pub mod EraseResumed
