@@ -31,7 +31,8 @@ use Rattle.paper.specs.History.{Call, transaction, ticks}
 use Rattle.history.specs.Run.{Run, done, sends, waits}
 use Rattle.history.specs.Course.{Step, sent, waited, course}
 use Rattle.reset.specs.Closing.{closing}
-use Rattle.reset.proofs.Run.{FreshRun, reset-after-run}
+use Rattle.reset.specs.Demand3.{FreshRun}
+use Rattle.reset.proofs.Demand3.{reset-after-run}
 use Rattle.cases.proofs.Paper.{filled}
 use Rattle.cases.proofs.Parts.{did, filled-length, filled-at}
 use Rattle.cases.proofs.Everywhere.{over-FF}
@@ -169,5 +170,5 @@ worked-whole =
       up = powered-up;
       run = whole;
       answers = answered-so;
-      fresh-again = reset-after-run 1 identity noStored calls true true true [] [] (ap (λ (u : PoweredUp). u .number) powered-up) array-length rows-length refl refl from-power-up;
+      fresh-again = reset-after-run 1 identity noStored calls true true true [] [] (record { unrefused = ap (λ (u : PoweredUp). u .number) powered-up; own-array = array-length; own-rows = rows-length; run = from-power-up }) (record { between = refl; armed = refl });
     }

@@ -10,13 +10,12 @@ use Rattle.words.proofs.Tests.{orElse-zero}
 use Rattle.paper.specs.Sizes.{arrayBytes, rowsBytes}
 use Rattle.paper.proofs.Kept.{power-up-sound, powered-fresh}
 use Rattle.record_bytes.specs.Layout.{recordBytes}
-use Rattle.record_bytes.specs.Read.{held, recordIn}
 use Rattle.yawlspar.specs.Face.{Asked, identityOf, registersOf, upOf, upNumber, powerUpAnswer, powerUpBytes}
-use Rattle.history.specs.Run.{Run}
-use Rattle.history.specs.Course.{course}
 use Rattle.history.proofs.Course.{course-told}
-use Rattle.history.proofs.FromPowerUp.{FromPowerUp, history-told}
-use Rattle.from_c.specs.Driven.{Lent, lent, CCall, callsOf, Driven, heard, packedSteps}
+use Rattle.reset.specs.Demand3.{PoweredAndSent}
+use Rattle.reset.proofs.Demand3.{history-told}
+use Rattle.from_c.specs.Driven.{Lent, lent, CCall, callsOf, Driven, packedSteps}
+use Rattle.from_c.specs.FromC.{FromC}
 use Rattle.from_c.proofs.Fitting.{Page, none-page}
 use Rattle.from_c.proofs.Holding.{Holding, in-bytes}
 use Rattle.from_c.proofs.Runs.{driven-run}
@@ -46,18 +45,9 @@ module _ (q : Asked) (bs : List ℕ) where
     up-holds xs rs lx lr =
         record { bytes = up-bytes; is-sound = power-up-sound (q .blocks) (identityOf q) (registersOf q); page = up-page; array = lx ∙ sym (ap (λ (p : Record). arrayBytes (p .part .blocks)) (powered-fresh (q .blocks) (identityOf q) (registersOf q) up-unrefused)); rows = lr }
 
-  -- what calls from C leave of a part that was powered up, unrefused: the bytes are those of a record, and hold it; a run of the calls led to it; every stored byte is what the history says; and C heard what the part answered
-  pub record FromC {ds : List CCall} {xs rs : List ℕ} {m : Lent} (chain : Driven (lent (powerUpBytes q bs) xs rs) ds m) : Type 0 where
-    pub unrefused : upOf q .number ≡ 0
-    pub next : Record
-    pub bytes : m .bytes ≡ recordBytes next
-    pub in-bytes : recordIn (m .bytes) ≡ held next
-    pub run : Run start xs rs (callsOf ds start) next (m .array) (m .rows)
-    pub told : FromPowerUp (q .blocks) (identityOf q) (registersOf q) (callsOf ds start) xs rs next (m .array) (m .rows)
-    pub answers : heard chain ≡ packedSteps (course run)
-
   pub driven-told : {ds : List CCall} {xs rs : List ℕ} {m : Lent} → powerUpAnswer (length bs) q ≡ 0 → length xs ≡ arrayBytes (q .blocks) → length rs ≡ rowsBytes
-      → (chain : Driven (lent (powerUpBytes q bs) xs rs) ds m) → FromC chain
+      → (chain : Driven (lent (powerUpBytes q bs) xs rs) ds m) → FromC q bs chain
   driven-told {ds} {xs} {rs} {m} z lx lr chain =
       let l = driven-run chain start (up-holds z xs rs lx lr) in
-      record { unrefused = up-unrefused z; next = l .next; bytes = l .holding .bytes; in-bytes = in-bytes (l .holding); run = l .run; told = history-told (q .blocks) (identityOf q) (registersOf q) (up-unrefused z) lx lr (l .run); answers = l .answers ∙ ap packedSteps (sym (course-told (l .run))) }
+      let sent : PoweredAndSent (q .blocks) (identityOf q) (registersOf q) (callsOf ds start) xs rs (l .next) (m .array) (m .rows) = record { unrefused = up-unrefused z; own-array = lx; own-rows = lr; run = l .run } in
+      record { next = l .next; bytes = l .holding .bytes; in-bytes = in-bytes (l .holding); sent = sent; told = history-told (q .blocks) (identityOf q) (registersOf q) sent; answers = l .answers ∙ ap packedSteps (sym (course-told (l .run))) }

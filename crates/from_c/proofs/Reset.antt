@@ -1,7 +1,7 @@
 -- Demand 3's last sentences from C: a part that was powered up, driven by any calls, woken, armed and reset is one freshly powered, and 99h answers 0.
 use Prim.Native.Nat.{ℕ, _≤_}
 use mathlib.Core.Path.{_≡_, refl, sym, ap, subst, _∙_}
-use mathlib.Core.Bool.{Bool, true}
+use mathlib.Core.Bool.{Bool}
 use mathlib.Core.List.{List, [], _∷_, _++_, append-assoc}
 use lib.Dec.{eqb}
 use lib.ListN.{length}
@@ -17,12 +17,13 @@ use Rattle.history.specs.Run.{Run}
 use Rattle.history.specs.Course.{sent, courseOf, endOf}
 use Rattle.history.proofs.Calls.{calls-append}
 use Rattle.history.proofs.Course.{course-told, course-append, run-ends}
-use Rattle.history.proofs.FromPowerUp.{history-told}
-use Rattle.reset.specs.Closing.{wake, arm, reset, allAside, untilArmed, untilReset, closing, poweredAs}
-use Rattle.reset.proofs.Run.{FreshRun, reset-last, reset-after-run}
+use Rattle.reset.specs.Closing.{wake, arm, reset, untilReset, closing}
+use Rattle.reset.specs.Demand3.{PoweredAndSent, Closes}
+use Rattle.reset.proofs.Demand3.{reset-last, history-told, reset-after-run}
 use Rattle.from_c.specs.Driven.{Lent, lent, CCall, transact, callOf, callsOf, Driven, heard, packedSteps, closingFromC}
+use Rattle.from_c.specs.FromC.{EndsExecuted, FreshFromC, afterWake, afterArm, Demand3FromC}
 use Rattle.from_c.proofs.Runs.{packed-append}
-use Rattle.from_c.proofs.FromC.{FromC, driven-told}
+use Rattle.from_c.proofs.FromC.{driven-told}
 
 -- some calls from C, then others
 calls-of-append : (a b : List CCall) (p : Record) → callsOf (a ++ b) p ≡ callsOf a p ++ callsOf b (recordAfterCalls (callsOf a p) p)
@@ -36,13 +37,6 @@ calls-of-append (c ∷ cs) b p =
 -- a one-byte transaction with a level that is one, and calls from C after it
 sent-of : (wp code x : ℕ) (cs : List CCall) (p : Record) → wp ≤ 1 → let c = transaction (eqb wp 1) (code ∷ []) 1 in callsOf (transact wp (code ∷ []) (x ∷ []) ∷ cs) p ≡ c ∷ callsOf cs (recordAfterCall c p)
 sent-of wp code x cs p h = rw (le-leb wp 1 h) refl
-
--- the calls that b stands for after ABh, and those that c stands for after 66h, on a part that has the record p before them
-abbrev afterWake : ℕ → List CCall → Record → List Call
-afterWake l1 b p = callsOf b (recordAfterCall (wake (eqb l1 1)) p)
-
-abbrev afterArm : ℕ → ℕ → List CCall → List CCall → Record → List Call
-afterArm l1 l2 b c p = callsOf c (recordAfterCalls (untilArmed (eqb l1 1) (eqb l2 1) (afterWake l1 b p)) p)
 
 -- the calls that close stand for those that close
 closing-of : (l1 l2 l3 x y z : ℕ) (b c : List CCall) → l1 ≤ 1 → l2 ≤ 1 → l3 ≤ 1 → (p : Record)
@@ -58,12 +52,6 @@ closing-of l1 l2 l3 x y z b c h1 h2 h3 p =
     ∙ ap (λ (ds : List Call). arm (eqb l2 1) ∷ ds) (calls-of-append c last armed
     ∙ ap (λ (ds : List Call). callsOf c armed ++ ds) (sent-of l3 0x99 z [] (recordAfterCalls (callsOf c armed) armed) h3)
     ∙ ap (λ (q : Record). callsOf c q ++ (reset (eqb l3 1) ∷ [])) (sym (calls-append (afterWake l1 b p) (arm (eqb l2 1) ∷ []) woken)))))
-
--- answers of which the last is that of an executed transaction
-pub record EndsExecuted (answers : List ℕ) : Type 0 where
-  pub earlier : List ℕ
-  pub first : ℕ
-  pub last : answers ≡ earlier ++ (packed 0 first ∷ [])
 
 -- where 99h comes last and is executed
 module _ (cs : List Call) (wp : Bool) (p : Record) (a r : ℕ) where
@@ -84,13 +72,6 @@ module _ (cs : List Call) (wp : Bool) (p : Record) (a r : ℕ) where
 module _ (q : Asked) (bs : List ℕ) where
   abbrev start : Record
   start = upOf q .next
-
-  -- what any calls from C, then ABh, calls, 66h, calls and 99h leave: what calls from C do; 99h, the last, answers 0; and the bytes are those of the record that power-up gives for the same size, identity and stored registers
-  pub record FreshFromC (a : List Call) (w1 w2 w3 : Bool) (b c : List Call) {ds : List CCall} {xs rs : List ℕ} {m : Lent} (chain : Driven (lent (powerUpBytes q bs) xs rs) ds m) : Type 0 where
-    pub from-c : FromC q bs chain
-    pub fresh-run : FreshRun (q .blocks) (identityOf q) (registersOf q) a w1 w2 w3 b c xs rs (from-c .next) (m .array) (m .rows)
-    pub bytes : m .bytes ≡ recordBytes (poweredAs (q .blocks) (identityOf q) (fresh-run .before) .next)
-    pub executed : EndsExecuted (heard chain)
 
   module _ (a : List CCall) (l1 l2 l3 x y w : ℕ) (b c : List CCall) (h1 : l1 ≤ 1) (h2 : l2 ≤ 1) (h3 : l3 ≤ 1) where
     -- the calls that they stand for
@@ -114,13 +95,14 @@ module _ (q : Asked) (bs : List ℕ) where
         calls-of-append a (closingFromC l1 l2 l3 x y w b c) start ∙ ap (λ (ds : List Call). early ++ ds) (closing-of l1 l2 l3 x y w b c h1 h2 h3 atWake)
 
     pub reset-from-c : {xs rs : List ℕ} {m : Lent} → powerUpAnswer (length bs) q ≡ 0 → length xs ≡ arrayBytes (q .blocks) → length rs ≡ rowsBytes
-        → allAside woken (recordAfterCall (wake (eqb l1 1)) atWake) ≡ true → allAside armed (recordAfterCalls (untilArmed (eqb l1 1) (eqb l2 1) woken) atWake) ≡ true
+        → Closes (q .blocks) (identityOf q) (registersOf q) early (eqb l1 1) (eqb l2 1) woken armed
         → (chain : Driven (lent (powerUpBytes q bs) xs rs) (a ++ closingFromC l1 l2 l3 x y w b c) m)
-        → FreshFromC early (eqb l1 1) (eqb l2 1) (eqb l3 1) woken armed chain
-    reset-from-c {xs} {rs} {m} z lx lr hb hc chain =
+        → FreshFromC q bs early (eqb l1 1) (eqb l2 1) (eqb l3 1) woken armed chain
+    reset-from-c {xs} {rs} {m} z lx lr closes chain =
         let l = driven-told q bs z lx lr chain in
-        let f = reset-after-run (q .blocks) (identityOf q) (registersOf q) early (eqb l1 1) (eqb l2 1) (eqb l3 1) woken armed (l .unrefused) lx lr hb hc (subst (λ (ds : List Call). Run start xs rs ds (l .next) (m .array) (m .rows)) stand-for (l .run)) in
-        let u = history-told (q .blocks) (identityOf q) (registersOf q) (l .unrefused) lx lr (f .until-reset) in
+        let at : (cs : List Call) (p : Record) (ys ts : List ℕ) → Run start xs rs cs p ys ts → PoweredAndSent (q .blocks) (identityOf q) (registersOf q) cs xs rs p ys ts = λ cs p ys ts run. record { unrefused = l .sent .unrefused; own-array = lx; own-rows = lr; run = run } in
+        let f = reset-after-run (q .blocks) (identityOf q) (registersOf q) early (eqb l1 1) (eqb l2 1) (eqb l3 1) woken armed (at _ _ _ _ (subst (λ (ds : List Call). Run start xs rs ds (l .next) (m .array) (m .rows)) stand-for (l .sent .run))) closes in
+        let u = history-told (q .blocks) (identityOf q) (registersOf q) (at _ _ _ _ (f .until-reset)) in
         let e : callsOf (a ++ closingFromC l1 l2 l3 x y w b c) start ≡ until-last ++ (reset (eqb l3 1) ∷ []) = stand-for ∙ reset-last early (eqb l1 1) (eqb l2 1) (eqb l3 1) woken armed in
         let g : f .before ≡ endOf start (courseOf until-last start (length xs) (length rs)) = run-ends (f .until-reset) ∙ ap (endOf start) (course-told (f .until-reset)) in
         record {
@@ -128,6 +110,9 @@ module _ (q : Asked) (bs : List ℕ) where
           fresh-run = f;
           bytes = l .bytes ∙ ap recordBytes (f .equal);
           executed = ends-executed until-last (eqb l3 1) start (length xs) (length rs) (heard chain)
-              (l .answers ∙ ap packedSteps (course-told (l .run) ∙ ap (λ (ds : List Call). courseOf ds start (length xs) (length rs)) e))
+              (l .answers ∙ ap packedSteps (course-told (l .sent .run) ∙ ap (λ (ds : List Call). courseOf ds start (length xs) (length rs)) e))
               (ap (λ (q : Record). transacted q (length xs) (length rs) (eqb l3 1) (0x99 ∷ []) 1 .number) (sym g) ∙ rw (← u .array-length, ← u .rows-length) (f .executed));
         }
+
+pub demand-3-from-c : Demand3FromC
+demand-3-from-c = record { told = driven-told; fresh = reset-from-c }

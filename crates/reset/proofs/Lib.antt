@@ -1,4 +1,4 @@
 pub mod Aside
 pub mod Steps
 pub mod Theorem
-pub mod Run
+pub mod Demand3
