@@ -50,4 +50,4 @@ module _ (q : Asked) (bs : List ℕ) where
   driven-told {ds} {xs} {rs} {m} z lx lr chain =
       let l = driven-run chain start (up-holds z xs rs lx lr) in
       let sent : PoweredAndSent (q .blocks) (identityOf q) (registersOf q) (callsOf ds start) xs rs (l .next) (m .array) (m .rows) = record { unrefused = up-unrefused z; own-array = lx; own-rows = lr; run = l .run } in
-      record { next = l .next; bytes = l .holding .bytes; in-bytes = in-bytes (l .holding); sent = sent; told = history-told (q .blocks) (identityOf q) (registersOf q) sent; answers = l .answers ∙ ap packedSteps (sym (course-told (l .run))) }
+      record { next = l .next; bytes = l .holding .bytes; in-bytes = in-bytes (l .holding); sent = sent; told = history-told (q .blocks) (identityOf q) (registersOf q) sent; answers = l .heard ∙ ap packedSteps (sym (course-told (l .run))) }

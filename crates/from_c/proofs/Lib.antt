@@ -1,6 +1,7 @@
 pub mod Fitting
 pub mod Held
 pub mod Holding
+pub mod Leads
 pub mod Stands
 pub mod Chains
 pub mod Runs

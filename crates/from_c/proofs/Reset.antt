@@ -22,7 +22,7 @@ use Rattle.reset.specs.Demand3.{PoweredAndSent, Closes}
 use Rattle.reset.proofs.Demand3.{reset-last, history-told, reset-after-run}
 use Rattle.from_c.specs.Driven.{Lent, lent, CCall, transact, callOf, callsOf, Driven, heard, packedSteps, closingFromC}
 use Rattle.from_c.specs.FromC.{EndsExecuted, FreshFromC, afterWake, afterArm, Demand3FromC}
-use Rattle.from_c.proofs.Runs.{packed-append}
+use Rattle.from_c.proofs.Leads.{packed-append}
 use Rattle.from_c.proofs.FromC.{driven-told}
 
 -- some calls from C, then others
