@@ -30,6 +30,10 @@ copied s o ys here there r m n em en hs ho q =
 pub copied-whole : (s d : List ℕ) → length d ≤ length s → take (length s) s ++ drop (length s) d ≡ s
 copied-whole s d h = rw (take-length, drop-of-length-le d h) (append-nil s)
 
+-- bytes that were copied over others, taken from there again
+pub taken-back : (s d : List ℕ) (k : ℕ) → k ≡ length s → take k (take (length s) s ++ drop (length s) d) ≡ s
+taken-back s d k e = rw (e, take-length) (take-at s (drop (length s) d) (length s) refl)
+
 -- bytes of a source laid over the first i of as many others
 module _ (s o : List ℕ) (l : length o ≡ length s) where
   abbrev over : ℕ → List ℕ
@@ -51,13 +55,3 @@ module _ (s o : List ℕ) (l : length o ≡ length s) where
 
   pub over-length : (i : ℕ) → i ≤ length s → length (over i) ≡ length s
   over-length i h = length-append (take i s) (drop i o) ∙ simp (length-take, length-drop) (omega arith)
-
-  -- what is left of them, copied behind
-  pub rest-over : (x ys : List ℕ) (i : ℕ) → i ≤ length s → length x ≡ length s → x ≡ over i
-      → ys ≡ take (length (take (length s - i) (drop i s))) (take (length s - i) (drop i s)) ++ drop (length (take (length s - i) (drop i s))) (take (length s - i) (drop i x))
-      → take i x ++ (ys ++ drop (length s - i) (drop i x)) ≡ s
-  rest-over x ys i h lx ex ey =
-      let r : i + (length s - i) ≤ length s = omega arith in
-      let q : i + (length s - i) ≤ length x = omega arith in
-      let y : ys ≡ take (length s - i) (drop i s) = copied s x ys i i (length s - i) _ _ refl refl r q ey in
-      more-over x ys i (length s - i) _ _ refl refl r ex y ∙ all-over (i + (length s - i)) (omega arith)

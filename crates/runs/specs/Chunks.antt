@@ -1,5 +1,5 @@
--- Bytes that are copied at once.
+-- The most bytes that are copied at once.
 use Prim.Native.Nat.{ℕ}
 
 abbrev pub chunk : ℕ
-chunk = 128
+chunk = 4096

@@ -1,5 +1,6 @@
 // Bytes in runs: set to one value all over, written from a source that is read round and round, or scanned.
 ghost use mathlib.Core.Path.{_≡_};
+ghost use Prim.Native.Nat.{_≤_};
 ghost use lib.ListN.{length, drop, replicate};
 ghost use Rattle.runs.specs.Chunks.{chunk};
 ghost use Rattle.words.specs.Lists.{driven, allZero};
@@ -22,32 +23,33 @@ pub fn blank(bytes: &mut [u8])
     fill(bytes, 255);
 }
 
-// Bytes that are copied at once.
-const CHUNK: usize = 128;
+// The most bytes that are copied at once.
+const CHUNK: usize = 4096;
 
-// A chunk copied by way of bytes of its own: it is read whole before any of it is written, whatever the two are, and so
-// is compiled to a few wide moves and no loop.
+// The source copied over as many bytes by way of bytes of its own: it is read whole before any of it is written,
+// whatever the two are. The compiler makes one memmove of the two.
 fn copy_chunk(source: &[u8], output: &mut [u8])
-    requires { ⌜ (length (now source) ≡ chunk) × (length (now output) ≡ chunk) ⌝ }
+    requires { ⌜ (length (now source) ≤ chunk) × (length (now output) ≡ length (now source)) ⌝ }
     ensures { λ _. ⌜ now (output .exit) ≡ now (source .entry) ⌝ }
 {
+    let n = source.len();
     let mut held = [0u8; CHUNK];
     bytes::copy(source, &mut held);
-    bytes::copy(&held, output);
+    bytes::copy(&held[0..n], output);
 }
 
-// The source copied over as many bytes, in chunks and what is left.
+// The source copied over as many bytes, in chunks.
 fn copy(source: &[u8], output: &mut [u8])
     requires { ⌜ length (now output) ≡ length (now source) ⌝ }
     ensures { λ _. ⌜ now (output .exit) ≡ now (source .entry) ⌝ }
 {
     let n = source.len();
     let mut i = 0;
-    while CHUNK <= n - i {
-        copy_chunk(&source[i..i + CHUNK], &mut output[i..i + CHUNK]);
-        i += CHUNK;
+    while i < n {
+        let some = words::lesser(CHUNK, n - i);
+        copy_chunk(&source[i..i + some], &mut output[i..i + some]);
+        i += some;
     }
-    bytes::copy(&source[i..n], &mut output[i..n]);
 }
 
 // The source, read from its place at on and past its end from its start again, into the output from
