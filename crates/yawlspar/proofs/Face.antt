@@ -35,7 +35,14 @@ use Rattle.record_bytes.specs.Layout.{headerLength, recordLength, recordBytes, 
 use Rattle.record_bytes.specs.Read.{Held, recordIn, found}
 use Rattle.record_bytes.proofs.Back.{held-length, held-state}
 use Rattle.record_bytes.proofs.Changed.{held-changed}
-use Rattle.yawlspar.specs.Face.{packed, Asked, givenNumber, identityOf, registersOf, upOf, upNumber, powerUpBytes, heldOutcome, transactAnswer, transactBytes, transactOutput, tickAnswer, tickBytes, tickMemory}
+use Rattle.yawlspar.specs.Face.{packed, Asked, givenNumber, identityOf, registersOf, upOf, upNumber, powerUpBytes, onHeld, heldOutcome, transactAnswer, transactBytes, transactOutput, tickAnswer, tickBytes, tickMemory}
+
+-- what a call makes of bytes that hold no record, and of bytes that hold one
+pub on-none : {A : Type 0} (h : Held) (call : Record → A) (none : A) → h .ok ≡ false → onHeld h call none ≡ none
+on-none h call none e = rw e refl
+
+pub on-held : {A : Type 0} (h : Held) (call : Record → A) (none : A) → h .ok ≡ true → onHeld h call none ≡ call (h .state)
+on-held h call none e = rw e refl
 
 -- no record held
 module _ (h : Held) (e : h .ok ≡ false) where

@@ -80,37 +80,33 @@ powerUpAnswer l q = packed (upNumber l q) 0
 abbrev pub powerUpBytes : Asked → List ℕ → List ℕ
 powerUpBytes q bs = whenZero (upNumber (length bs) q) (recordBytes (upOf q .next)) bs
 
--- the record's bytes after a call: the next record's; where none was held, as they were
-abbrev pub bytesAfter : Held → Record → List ℕ → List ℕ
-bytesAfter h next bs = cond (h .ok) (recordBytes next) bs
+-- what a call makes of bytes that hold a record, and of bytes that hold none
+abbrev pub onHeld : {A : Type 0} → Held → (Record → A) → A → A
+onHeld h call none = cond (h .ok) (call (h .state)) none
 
 -- a transaction on what bytes hold, with WP# low for 0 and high for 1; another level counts as an unsound record does. Where they hold no record there is no size for 1 to judge, and it is 2, 3, 4 or 5
 abbrev pub heldOutcome : Held → ℕ → ℕ → ℕ → List ℕ → ℕ → Outcome
 heldOutcome h a r wp i o =
-    cond (h .ok)
-    (outcomeOf (h .state .part) (h .state .phase) (sound (h .state) and leb wp 1) a r (eqb wp 1) i o)
+    onHeld h (λ p. outcomeOf (p .part) (p .phase) (sound p and leb wp 1) a r (eqb wp 1) i o)
     (refused (laterRefusal false r (length i) o))
 
 -- its number and first driven place
 unfoldable pub transactAnswer : Held → ℕ → ℕ → ℕ → List ℕ → ℕ → ℕ
 transactAnswer h a r wp i o = packed (heldOutcome h a r wp i o .number) (heldOutcome h a r wp i o .first)
 
--- the record's bytes after it
+-- the record's bytes after it: the next record's; where none was held, as they were
 unfoldable pub transactBytes : Held → ℕ → ℕ → ℕ → List ℕ → ℕ → List ℕ → List ℕ
-transactBytes h a r wp i o bs = bytesAfter h (changed (heldOutcome h a r wp i o .change) i (h .state)) bs
+transactBytes h a r wp i o bs = onHeld h (λ p. recordBytes (changed (heldOutcome h a r wp i o .change) i p)) bs
 
 -- its output: a refusal writes nothing
 unfoldable pub transactOutput : Held → List ℕ → List ℕ → ℕ → List ℕ → List ℕ → List ℕ
 transactOutput h xs rs wp i o =
-    cond (h .ok)
-    (outputAfter (h .state .part) (h .state .phase) (sound (h .state) and leb wp 1) xs rs (eqb wp 1) i o)
-    o
+    onHeld h (λ p. outputAfter (p .part) (p .phase) (sound p and leb wp 1) xs rs (eqb wp 1) i o) o
 
--- so many ticks on what bytes hold: where they hold no record, 2 or 5
+-- ticks on what bytes hold: where they hold no record, 2 or 5
 abbrev pub heldTicks : Held → ℕ → ℕ → ℕ → Ticked
 heldTicks h a r n =
-    cond (h .ok)
-    (ticked (h .state) a r n)
+    onHeld h (λ p. ticked p a r n)
     (record { next = h .state; number = rowsNumber r orElse soundNumber false; done = 0 })
 
 -- their number, and how many did work
@@ -119,8 +115,8 @@ tickAnswer h a r n = packed (heldTicks h a r n .number) (heldTicks h a r n .done
 
 -- the record's bytes after them
 unfoldable pub tickBytes : Held → ℕ → ℕ → ℕ → List ℕ → List ℕ
-tickBytes h a r n bs = bytesAfter h (heldTicks h a r n .next) bs
+tickBytes h a r n bs = onHeld h (λ p. recordBytes (heldTicks h a r n .next)) bs
 
 -- a memory's bytes after them: a refusal writes nothing
 unfoldable pub tickMemory : Memory → Held → ℕ → ℕ → ℕ → List ℕ → List ℕ
-tickMemory m h a r n xs = cond (h .ok) (tickedMemory m (h .state) a r n xs) xs
+tickMemory m h a r n xs = onHeld h (λ p. tickedMemory m p a r n xs) xs
