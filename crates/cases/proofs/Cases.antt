@@ -15,9 +15,9 @@ use Rattle.types.specs.declared.Record.{Record}
 use Rattle.words.specs.Logic.{_and_, _or_, unless, _orElse_}
 use Rattle.words.proofs.Tests.{fails}
 use Rattle.paper.specs.Sizes.{sizeOk, blockBytes, arrayBytes}
-use Rattle.paper.specs.Registers.{tbs, bankLoaded}
-use Rattle.paper.specs.Soundness.{bitsOk, largeOk}
-use Rattle.paper.specs.Numbers.{powerUpNumber}
+use Rattle.paper.specs.Registers.{bitAt, bitsAt, TBS, bankLoaded}
+use Rattle.paper.specs.Soundness.{largeOk}
+use Rattle.paper.specs.Numbers.{givenOk, powerUpNumber}
 use Rattle.paper.specs.Calls.{noStored, poweredUp}
 use Rattle.paper.specs.Address.{addressIn}
 use Rattle.paper.specs.Records.{fresh}
@@ -30,19 +30,20 @@ use Rattle.cases.proofs.Parts.{turned, enabled, enabled-ready, filled-l
 use Rattle.cases.proofs.Everywhere.{everywhere}
 
 -- registers with IRL bits have TBS 0
-no-tbs : (k : ℕ) → tbs (k * 16) ≡ 0
+no-tbs : (k : ℕ) → TBS (k * 16) ≡ 0
 no-tbs k = omega arith
 
 -- a power-up of 16 blocks with a BP code and IRL bits is not refused
 powered-up : (id : Identity) (c k : ℕ) → poweredUp 16 id (coded c k) ≡ record { next = fresh 16 id (coded c k); number = 0 }
-unfolding poweredUp powerUpNumber sizeOk bitsOk largeOk _and_ _or_ unless _orElse_
+unfolding poweredUp powerUpNumber givenOk sizeOk _and_ _or_ unless _orElse_
 powered-up id c k =
-    let s : c * 4 % 4 ≡ 0 = omega arith in
-    let f : k * 16 % 16 ≡ 0 = omega arith in
-    rw (s, f, no-tbs k)
+    let s : bitsAt 1 0 (c * 4) ≡ 0 = omega arith in
+    let f : bitsAt 3 2 (k * 16) ≡ 0 = omega arith in
+    let z : bitAt 0 (k * 16) ≡ 0 = omega arith in
+    rw (s, f, no-tbs k, z)
 
 fresh-large : (k : ℕ) → largeOk 16 (k * 16) bankLoaded ≡ true
-unfolding largeOk _and_
+unfolding largeOk _and_ _or_
 fresh-large k = rw (no-tbs k)
 
 fresh-ready : (id : Identity) (c k : ℕ) → Ready (fresh 16 id (coded c k))

@@ -21,7 +21,7 @@ use Rattle.paper.specs.Registers.{withBytes}
 use Rattle.paper.specs.Program.{noData, pageData, pagePlace, programOf, narrowed}
 use Rattle.paper.specs.Operations.{narrow}
 use Rattle.paper.specs.Soundness.{operationOk, bitsOk, largeOk, pageOk, partSound, sound}
-use Rattle.paper.specs.Numbers.{sizeNumber, rowsNumber, lengthNumber, outputNumber, soundNumber, ticksNumber, powerUpNumber, transactionRefusal, tickNumber, commandNumber}
+use Rattle.paper.specs.Numbers.{sizeNumber, rowsNumber, lengthNumber, outputNumber, soundNumber, ticksNumber, givenOk, powerUpNumber, transactionRefusal, tickNumber, commandNumber}
 use Rattle.paper.specs.Reads.{undriven, outputOf}
 use Rattle.paper.specs.Table.{decoded}
 use Rattle.paper.specs.Ticks.{worked}
@@ -111,7 +111,7 @@ pub record LargeRun : Type 0 where
       → transactedOutput (idle 0x00) (programmed xs) rs true nearRead o ≡ 0xFF ∷ 0xFF ∷ 0xFF ∷ 0xFF ∷ getD xs 0x000010 0 ∷ []
 
 powered-up : poweredUp 512 identity noStored ≡ record { next = idle 0x00; number = 0 }
-unfolding poweredUp powerUpNumber sizeOk bitsOk largeOk _and_ _or_ unless _orElse_
+unfolding poweredUp powerUpNumber givenOk sizeOk _and_ _or_ unless _orElse_
 powered-up = refl
 
 -- the answers on an array of a and rows of r bytes

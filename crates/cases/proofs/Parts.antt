@@ -19,7 +19,7 @@ use Rattle.words.specs.Logic.{_or_, unless, _orElse_}
 use Rattle.words.proofs.Tests.{and-l, and-r}
 use Rattle.paper.specs.Sizes.{tickLimit}
 use Rattle.paper.specs.Protection.{codeOf, wholeCode, protectedAt}
-use Rattle.paper.specs.Registers.{tbs}
+use Rattle.paper.specs.Registers.{TBS}
 use Rattle.paper.specs.Records.{marked, settled}
 use Rattle.paper.specs.Soundness.{sound, latchOk, phaseOk, largeOk, keptIn}
 use Rattle.paper.specs.Numbers.{commandNumber, ignoredNumber}
@@ -44,11 +44,11 @@ did q n = record { next = q; number = 0; first = n }
 
 module _ (p : Record) (r : Ready p) where
   -- the large part alone has TBS and a bank register
-  without : (tbs (p .part .stored .function) ≡ 0) × (p .part .bank ≡ 0)
-  unfolding largeOk
+  without : (TBS (p .part .stored .function) ≡ 0) × (p .part .bank ≡ 0)
+  unfolding largeOk _or_
   without =
       let h = rw (r .listed) at (sound-parts p (r .is-sound) .large) in
-      (eqb-true _ _ (and-l _ _ h), eqb-true _ _ (and-r _ _ h))
+      (eqb-true _ _ (and-l _ _ h), eqb-true _ _ (and-r _ _ (and-r _ _ h)))
 
   pub no-bank : p .part .bank ≡ 0
   no-bank = without .1

@@ -22,7 +22,7 @@ use Rattle.paper.specs.Program.{noData, pageData, pagePlace, programOf, narrowe
 use Rattle.paper.specs.Erase.{eraseOf, pageErased}
 use Rattle.paper.specs.Operations.{blank, narrow}
 use Rattle.paper.specs.Soundness.{operationOk, bitsOk, largeOk, pageOk, partSound, sound}
-use Rattle.paper.specs.Numbers.{sizeNumber, rowsNumber, lengthNumber, outputNumber, soundNumber, ticksNumber, powerUpNumber, transactionRefusal, tickNumber, commandNumber}
+use Rattle.paper.specs.Numbers.{sizeNumber, rowsNumber, lengthNumber, outputNumber, soundNumber, ticksNumber, givenOk, powerUpNumber, transactionRefusal, tickNumber, commandNumber}
 use Rattle.paper.specs.Table.{decoded}
 use Rattle.paper.specs.Ticks.{worked}
 use Rattle.paper.specs.Calls.{noStored, poweredUp, outcomeOf, transacted, ticked, tickedMemory}
@@ -115,7 +115,7 @@ pub record WithinErase : Type 0 where
   pub answers : (xs rs : List ℕ) (a : length xs ≡ arrayBytes 16) (r : length rs ≡ rowsBytes) → course (run xs rs a r) ≡ steps
 
 powered-up : poweredUp 16 identity noStored ≡ record { next = idle; number = 0 }
-unfolding poweredUp powerUpNumber sizeOk bitsOk largeOk _and_ _or_ unless _orElse_
+unfolding poweredUp powerUpNumber givenOk sizeOk _and_ _or_ unless _orElse_
 powered-up = refl
 
 -- the answers on an array of a and rows of r bytes

@@ -23,7 +23,7 @@ use Rattle.paper.specs.Registers.{withBytes}
 use Rattle.paper.specs.Program.{noData, pageData, pagePlace, programOf, narrowed}
 use Rattle.paper.specs.Operations.{narrow}
 use Rattle.paper.specs.Soundness.{operationOk, bitsOk, largeOk, pageOk, partSound, sound}
-use Rattle.paper.specs.Numbers.{sizeNumber, rowsNumber, lengthNumber, outputNumber, soundNumber, ticksNumber, powerUpNumber, transactionRefusal, tickNumber, commandNumber}
+use Rattle.paper.specs.Numbers.{sizeNumber, rowsNumber, lengthNumber, outputNumber, soundNumber, ticksNumber, givenOk, powerUpNumber, transactionRefusal, tickNumber, commandNumber}
 use Rattle.paper.specs.Table.{decoded}
 use Rattle.paper.specs.Ticks.{worked}
 use Rattle.paper.specs.Calls.{noStored, poweredUp, outcomeOf, transacted, ticked, tickedMemory}
@@ -106,7 +106,7 @@ pub record Worked : Type 0 where
   pub fresh-again : FreshRun 1 identity noStored calls true true true [] [] blankArray blankRows idle arrayAfter blankRows
 
 powered-up : poweredUp 1 identity noStored ≡ record { next = idle; number = 0 }
-unfolding poweredUp powerUpNumber sizeOk bitsOk largeOk _and_ _or_ unless _orElse_
+unfolding poweredUp powerUpNumber givenOk sizeOk _and_ _or_ unless _orElse_
 powered-up = refl
 
 -- the answers on an array of a and rows of r bytes

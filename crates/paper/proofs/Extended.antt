@@ -4,7 +4,6 @@ use mathlib.Core.Path.{_≡_, refl, ap, _∙_}
 use mathlib.Core.Bool.{Bool, true}
 use native.Mathlib.Omega.{arith}
 use lib.Bits.{bitOr, or-step, or-shr, or-zero-r}
-use borrow.Author.Tests.{eqb-true}
 use Rattle.types.specs.declared.Memory.{Memory}
 use Rattle.types.specs.declared.EraseUnit.{EraseUnit}
 use Rattle.types.specs.declared.Register.{Register}
@@ -14,14 +13,15 @@ use Rattle.types.specs.declared.Phase.{Phase}
 use Rattle.types.specs.declared.Stored.{Stored}
 use Rattle.types.specs.declared.Part.{Part}
 use Rattle.types.specs.declared.Record.{Record}
-use Rattle.words.proofs.Tests.{and-l, bit-le}
+use Rattle.words.proofs.Tests.{bit-le}
 use Rattle.paper.specs.Registers.{liveLoaded, liveSet, liveCleared, liveFailed, extendedRead}
 use Rattle.paper.specs.Phases.{isBusy}
-use Rattle.paper.specs.Records.{wip, statusLow}
-use Rattle.paper.specs.Soundness.{bitsOk, sound}
+use Rattle.paper.specs.Records.{wip}
+use Rattle.paper.specs.Soundness.{sound}
 use Rattle.paper.specs.Commands.{errorsOf}
 use Rattle.paper.specs.Numbers.{freeOk}
 use Rattle.paper.proofs.Soundness.{sound-parts}
+use Rattle.paper.proofs.Bits.{bits-parts}
 
 -- what 81h shows: bits 7..5 of the live byte, bit 4 1, the error bits 3 E_ERR, 2 P_ERR and 1 PROT_E of the live byte, bit 0 that of status
 pub record Shown (live status x : ℕ) : Type 0 where
@@ -38,10 +38,9 @@ read-shows live status =
 
 -- and in a sound record that is WIP
 pub read-wip : (p : Record) → sound p ≡ true → extendedRead (p .part .live) (p .part .stored .status) % 2 ≡ wip (p .phase)
-unfolding bitsOk
 read-wip p s =
-    let e : p .part .stored .status % 4 ≡ statusLow (p .phase) (p .part .wel) = eqb-true _ _ (and-l _ _ (sound-parts p s .bits)) in
-    omega (arith, bit-le (isBusy (p .phase)))
+    let e = bits-parts (p .phase) (p .part .wel) (p .part .stored) (sound-parts p s .bits) .wip-bit in
+    omega (arith, e, bit-le (isBusy (p .phase)))
 
 -- 83h sets bits 7..5 and keeps the error bits; 82h keeps bits 7..5 and clears the error bits; power-up and reset load bits 7..5 from the stored byte, with the error bits 0
 pub set-bits : (b live : ℕ) → (liveSet b live / 32 ≡ b / 32) × (liveSet b live % 32 ≡ live % 32)

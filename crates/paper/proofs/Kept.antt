@@ -1,6 +1,6 @@
 -- What power-up and ticks keep: the record that power-up gives is sound and, not refused, as asked; ticks keep a record sound and its size; at most as many ticks do work as are asked.
 use Prim.Native.Nat.{ℕ, zero, suc, _+_, _*_, _/_, _≤_, _<_}
-use mathlib.Core.Path.{_≡_, refl, ap, _∙_, subst}
+use mathlib.Core.Path.{_≡_, refl, sym, ap, _∙_, subst}
 use mathlib.Core.Bool.{Bool, true, false, cond, false≢true}
 use mathlib.Core.List.{List}
 use native.Mathlib.Omega.{arith}
@@ -23,27 +23,24 @@ use Rattle.types.specs.declared.Record.{Record}
 use Rattle.words.specs.Logic.{_and_, _or_}
 use Rattle.words.specs.Lists.{allZero}
 use Rattle.words.proofs.Tests.{and-l, and-r, and-in, or-true, unless-zero, orElse-zero, bit-le}
-use Rattle.paper.specs.Sizes.{isLarge, sizeOk}
+use Rattle.paper.specs.Sizes.{sizeOk}
 use Rattle.paper.specs.Program.{noData}
 use Rattle.paper.specs.Phases.{running, isProgram, isErase, isBusy, workingOn}
 use Rattle.paper.specs.Records.{made, freshPart, fresh}
 use Rattle.paper.specs.Operations.{ticksInAll, ticksDone, advancedBy, keptBy}
-use Rattle.paper.specs.Registers.{tbs, storedAfter, bankLoaded}
+use Rattle.paper.specs.Registers.{TBS, storedAfter, bankLoaded}
 use Rattle.paper.specs.Soundness.{latchOk, nestOk, bitsOk, largeOk, pageOk, sound}
 use Rattle.paper.specs.Numbers.{powerUpNumber}
 use Rattle.paper.specs.Calls.{noIdentity, noStored, zeroRecord, poweredUp}
 use Rattle.paper.specs.Ticks.{finished, advanced, worked, tickedAt, tickOnce, recordAfter, workingTicks}
 use Rattle.paper.proofs.Phases.{no-work-at, at-same}
+use Rattle.paper.proofs.Bits.{given-as}
 use Rattle.paper.proofs.MadeSound.{made-sound}
 use Rattle.paper.proofs.Soundness.{Sound, recordOf, sound-parts, sound-of, sound-whole, InOrder, in-order, in-order-whole, in-nest}
 
 no-data-zero : allZero noData ≡ true
 unfolding noData _and_
 no-data-zero = refl
-
-unbanked-as : (t x y z : Bool) → cond t x (y and z) ≡ true → cond t true (y and true) ≡ true
-unbanked-as true x y z h = refl
-unbanked-as false x y z h = and-in (and-l _ _ h) refl
 
 -- an idle part with WEL 0 and page data zero, asleep or awake
 pub idle-sound : (p : Part) (g : Stored) → sizeOk (p .blocks) ≡ true → largeOk (p .blocks) (g .function) (p .bank) ≡ true → sound (recordOf (made p g Idle false) Idle noData) ≡ true
@@ -57,14 +54,14 @@ fresh-sound n id g s b = idle-sound (freshPart n id g) g s b
 -- a bank register of 0 goes with TBS as any does
 pub unbanked : (n function bank : ℕ) → largeOk n function bank ≡ true → largeOk n function bankLoaded ≡ true
 unfolding largeOk
-unbanked n function bank h = unbanked-as (isLarge n) _ (eqb (tbs function) 0) _ h
+unbanked n function bank h = and-in (and-l _ _ h) (and-in refl (or-true _))
 
 module _ (n : ℕ) (id : Identity) (g : Stored) where
   number-zero : powerUpNumber n g ≡ 0 → (sizeOk n ≡ true) × (largeOk n (g .function) bankLoaded ≡ true)
   unfolding powerUpNumber
   number-zero e =
       let z = orElse-zero _ _ e in
-      (unless-zero _ 0 (z .0), and-r _ _ (unless-zero _ 4 (z .1)))
+      (unless-zero _ 0 (z .0), and-r _ _ (sym (given-as n g) ∙ unless-zero _ 4 (z .1)))
 
   power-up-as : (t : Bool) → eqb (powerUpNumber n g) 0 ≡ t
       → sound (cond {A = PoweredUp} t (record { next = fresh n id g; number = 0 }) (record { next = zeroRecord; number = powerUpNumber n g }) .next) ≡ true
@@ -121,7 +118,7 @@ after-large (Program m s b k d) n g bank = refl
 after-large (Erase u b d) n g bank = refl
 after-large (Write Status v) n g bank = refl
 after-large (Write Function v) n g bank =
-    let z : tbs (bitOr (g .function / 16) (v / 16) * 16 + 2 * tbs (g .function)) ≡ tbs (g .function) = omega arith in
+    let z : TBS (bitOr (g .function / 16) (v / 16) * 16 + 2 * TBS (g .function)) ≡ TBS (g .function) = omega arith in
     rw z
 after-large (Write Extended v) n g bank = refl
 

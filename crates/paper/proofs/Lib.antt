@@ -6,6 +6,7 @@ pub mod CBench
 pub mod Table
 pub mod Phases
 pub mod Records
+pub mod Bits
 pub mod MadeSound
 pub mod Soundness
 pub mod Extended

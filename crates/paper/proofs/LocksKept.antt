@@ -24,7 +24,7 @@ use Rattle.types.specs.declared.Data.{Data}
 use Rattle.types.specs.declared.Data.the-variants.{Kept, Sent}
 use Rattle.paper.specs.Sizes.{arrayBytes, rowsBytes}
 use Rattle.paper.specs.Protection.{locked}
-use Rattle.paper.specs.Registers.{tbs, registerWritten, storedAfter}
+use Rattle.paper.specs.Registers.{TBS, registerWritten, storedAfter}
 use Rattle.paper.specs.Phases.{running, workingOn, suspendedIn, resumedIn, restOf}
 use Rattle.paper.specs.Records.{registersIn}
 use Rattle.paper.specs.Operations.{ticksInAll, ticksDone, advancedBy}
@@ -43,12 +43,12 @@ or-keeps a b k h = or-bit a b k ∙ omega (arith, h)
 
 -- what an operation's last tick makes of the function register
 module _ (fn k : ℕ) (h : locked fn k ≡ true) where
-  or-locked : (v : ℕ) → locked (bitOr (fn / 16) (v / 16) * 16 + 2 * tbs fn) k ≡ true
+  or-locked : (v : ℕ) → locked (bitOr (fn / 16) (v / 16) * 16 + 2 * TBS fn) k ≡ true
   unfolding locked
   or-locked v =
       let b : fn / 16 / 2 ^ k % 2 ≡ 1 = ap (λ (t : ℕ). t % 2) (sym (high-half fn k)) ∙ eqb-true _ _ h in
-      let s : (bitOr (fn / 16) (v / 16) * 16 + 2 * tbs fn) / 16 ≡ bitOr (fn / 16) (v / 16) = omega arith in
-      eq-eqb _ _ (ap (λ (t : ℕ). t % 2) (high-half (bitOr (fn / 16) (v / 16) * 16 + 2 * tbs fn) k ∙ ap (λ (t : ℕ). t / 2 ^ k) s) ∙ or-keeps (fn / 16) (v / 16) k b)
+      let s : (bitOr (fn / 16) (v / 16) * 16 + 2 * TBS fn) / 16 ≡ bitOr (fn / 16) (v / 16) = omega arith in
+      eq-eqb _ _ (ap (λ (t : ℕ). t % 2) (high-half (bitOr (fn / 16) (v / 16) * 16 + 2 * TBS fn) k ∙ ap (λ (t : ℕ). t / 2 ^ k) s) ∙ or-keeps (fn / 16) (v / 16) k b)
 
 -- row k is locked under some registers
 abbrev pub LockedIn : ℕ → Stored → Type 0

@@ -21,10 +21,11 @@ use Rattle.words.specs.Logic.{_and_}
 use Rattle.paper.specs.Sizes.{sizeOk, pageBytes}
 use Rattle.paper.specs.Protection.{codeOf, wholeCode, protectedAt, locked}
 use Rattle.paper.specs.Operations.{free, targetFree, unitFree}
-use Rattle.paper.specs.Registers.{held, tbs, storedBits, liveLoaded}
+use Rattle.paper.specs.Registers.{held, TBS, storedBits, liveLoaded}
 use Rattle.paper.specs.Records.{statusLow, functionLow, registersIn, made}
 use Rattle.paper.specs.Soundness.{sleepOk, latchOk, phaseOk, operationOk, bitsOk, largeOk, partSound}
 use Rattle.paper.proofs.Records.{status-low-le, function-low-le}
+use Rattle.paper.proofs.Bits.{bits-as}
 
 -- the code and the locks go by the stored bits
 pub code-stored : (st low : ℕ) → low < 4 → codeOf (held Status st + low) ≡ codeOf st
@@ -43,7 +44,7 @@ module _ (f : Phase) (wel : Bool) (g : Stored) where
   pub locks-made : (k : ℕ) → locked (registersIn f wel g .function) k ≡ locked (g .function) k
   locks-made k = lock-high (registersIn f wel g .function) (g .function) k (omega (arith, function-low-le f))
 
-  tbs-made : tbs (registersIn f wel g .function) ≡ tbs (g .function)
+  tbs-made : TBS (registersIn f wel g .function) ≡ TBS (g .function)
   tbs-made = omega (arith, function-low-le f)
 
   code-made : codeOf (registersIn f wel g .status) ≡ codeOf (g .status)
@@ -79,11 +80,11 @@ module _ (f : Phase) (wel : Bool) (g : Stored) where
   phase-stored (Nested o e) n = rw (operation-stored e n, operation-stored o n)
 
   bits-made : bitsOk f wel (registersIn f wel g) ≡ true
-  unfolding bitsOk _and_
+  unfolding _and_
   bits-made =
       let s : statusLow f wel ≤ 3 = status-low-le f wel in
       let t : functionLow f ≤ 8 = function-low-le f in
-      rw (eq-eqb ((held Status (g .status) + statusLow f wel) % 4) (statusLow f wel) (omega arith), eq-eqb (registersIn f wel g .function % 16) (functionLow f + 2 * tbs (registersIn f wel g .function)) (omega arith), eq-eqb (held Extended (g .extended) % 32) 0 (omega arith))
+      rw (bits-as f wel (registersIn f wel g), eq-eqb ((held Status (g .status) + statusLow f wel) % 4) (statusLow f wel) (omega arith), eq-eqb (registersIn f wel g .function % 16) (functionLow f + 2 * TBS (registersIn f wel g .function)) (omega arith), eq-eqb (held Extended (g .extended) % 32) 0 (omega arith))
 
   -- registers made anew of made ones
   pub registers-again : (h : Phase) (w : Bool) → registersIn h w (registersIn f wel g) ≡ registersIn h w g
@@ -106,7 +107,7 @@ module _ (f : Phase) (wel : Bool) (g : Stored) where
 pub stored-large : (n : ℕ) (g : Stored) (bank : ℕ) → largeOk n (storedBits g .function) bank ≡ largeOk n (g .function) bank
 unfolding largeOk
 stored-large n g bank =
-    let t : tbs (storedBits g .function) ≡ tbs (g .function) = omega arith in
+    let t : TBS (storedBits g .function) ≡ TBS (g .function) = omega arith in
     rw t
 
 pub made-sound : (p : Part) (g : Stored) (f : Phase) (wel : Bool)

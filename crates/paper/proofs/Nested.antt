@@ -1,5 +1,5 @@
 -- A program within a suspended erase: what the registers show, and how it begins, goes on and ends.
-use Prim.Native.Nat.{ℕ, suc, _+_, _-_, _*_, _/_, _%_, _≤_, _<_}
+use Prim.Native.Nat.{ℕ, suc, _+_, _-_, _≤_, _<_}
 use mathlib.Core.Path.{_≡_, refl, sym, ap, _∙_, subst}
 use mathlib.Core.Bool.{Bool, true, false, cond, false≢true}
 use mathlib.Core.List.{List}
@@ -21,55 +21,34 @@ use Rattle.types.specs.declared.Record.{Record}
 use Rattle.types.specs.declared.Outcome.{Outcome}
 use Rattle.types.specs.declared.Answer.{Answer}
 use Rattle.words.specs.Logic.{bit}
-use Rattle.words.proofs.Tests.{and-l, and-r, bit-le}
+use Rattle.words.proofs.Tests.{and-l}
 use Rattle.paper.specs.Program.{dataSent, pageData, noData, programOf}
-use Rattle.paper.specs.Phases.{running, halted, workIs, isProgram, isErase, eraseHalted, isBusy, workingOn, restOf}
-use Rattle.paper.specs.Records.{wip, esus, psus, statusLow, functionLow}
-use Rattle.paper.specs.Registers.{tbs}
+use Rattle.paper.specs.Phases.{running, isProgram, isErase, workingOn, restOf}
+use Rattle.paper.specs.Records.{wip, esus, psus}
+use Rattle.paper.specs.Registers.{WEL, WIP, ESUS, PSUS}
 use Rattle.paper.specs.Operations.{ticksInAll, ticksDone, advancedBy}
-use Rattle.paper.specs.Soundness.{bitsOk, sound}
+use Rattle.paper.specs.Soundness.{sound}
 use Rattle.paper.specs.Table.{decoded, columns, addressingOn}
 use Rattle.paper.specs.Commands.{changed, begins, changeBy}
 use Rattle.paper.specs.Numbers.{transactionRefusal, ignoredNumber}
 use Rattle.paper.specs.Calls.{refused, ignored, executed, outcomeTo, outcomeOf, answered, transacted}
 use Rattle.paper.specs.Ticks.{recordAfter}
 use Rattle.paper.proofs.Soundness.{recordOf, sound-parts, sound-in, in-nest}
+use Rattle.paper.proofs.Bits.{bits-parts}
 use Rattle.paper.proofs.Runs.{run-record, run-past}
 
--- what registers show: WIP and WEL, bits 0 and 1 of status, and ESUS and PSUS, bits 3 and 2 of function
+-- what registers show
 pub record Showing (s : Stored) (wip wel esus psus : ℕ) : Type 0 where
-  pub wip-shown : s .status % 2 ≡ wip
-  pub wel-shown : s .status / 2 % 2 ≡ wel
-  pub esus-shown : s .function / 8 % 2 ≡ esus
-  pub psus-shown : s .function / 4 % 2 ≡ psus
-
-module _ (x q e g t : ℕ) (program : g ≤ 1) (low : t ≤ 1) (whole : x ≡ 16 * q + (8 * e + 4 * g + 2 * t)) where
-  eighths : x / 8 ≡ 2 * q + e
-  eighths = omega (arith, program, low, whole)
-
-  fourths : x / 4 ≡ 4 * q + 2 * e + g
-  fourths = omega (arith, low, whole)
-
-  esus-bit : e ≤ 1 → x / 8 % 2 ≡ e
-  esus-bit h = ap (λ (y : ℕ). y % 2) eighths ∙ omega (arith, h)
-
-  psus-bit : x / 4 % 2 ≡ g
-  psus-bit = ap (λ (y : ℕ). y % 2) fourths ∙ omega (arith, program)
+  pub wip-shown : WIP (s .status) ≡ wip
+  pub wel-shown : WEL (s .status) ≡ wel
+  pub esus-shown : ESUS (s .function) ≡ esus
+  pub psus-shown : PSUS (s .function) ≡ psus
 
 -- those of a sound record show its phase and its latch
 pub sound-shows : (p : Record) → sound p ≡ true → Showing (p .part .stored) (wip (p .phase)) (bit (p .part .wel)) (esus (p .phase)) (psus (p .phase))
-unfolding bitsOk
 sound-shows p s =
-    let b = sound-parts p s .bits in
-    let st : p .part .stored .status % 4 ≡ statusLow (p .phase) (p .part .wel) = eqb-true _ _ (and-l _ _ b) in
-    let fn : p .part .stored .function % 16 ≡ functionLow (p .phase) + 2 * tbs (p .part .stored .function) = eqb-true _ _ (and-l _ _ (and-r _ _ b)) in
-    let i = bit-le (isBusy (p .phase)) in
-    let l = bit-le (p .part .wel) in
-    let e = bit-le (eraseHalted (p .phase)) in
-    let g = bit-le (workIs isProgram (halted (p .phase))) in
-    let x = p .part .stored .function in
-    let whole : x ≡ 16 * (x / 16) + (functionLow (p .phase) + 2 * tbs x) = omega (arith, fn) in
-    record { wip-shown = omega (arith, st, i, l); wel-shown = omega (arith, st, i, l); esus-shown = esus-bit x (x / 16) (esus (p .phase)) (psus (p .phase)) (tbs x) g (omega arith) whole e; psus-shown = psus-bit x (x / 16) (esus (p .phase)) (psus (p .phase)) (tbs x) g (omega arith) whole }
+    let a = bits-parts (p .phase) (p .part .wel) (p .part .stored) (sound-parts p s .bits) in
+    record { wip-shown = a .wip-bit; wel-shown = a .wel-bit; esus-shown = a .esus-bit; psus-shown = a .psus-bit }
 
 -- while a program runs within a suspended erase WEL is 1
 pub nested-latch : (p : Record) (e o : Operation) → p .phase ≡ Nested o e → sound p ≡ true → p .part .wel ≡ true

@@ -1,43 +1,20 @@
 -- What a call that is not refused may rest on.
-use Prim.Native.Nat.{ℕ, _+_, _*_, _%_, _≤_}
-use mathlib.Core.Path.{_≡_, refl}
-use mathlib.Core.Bool.{Bool, true, false, not, cond}
+use Prim.Native.Nat.{ℕ, _≤_}
+use mathlib.Core.Path.{_≡_}
+use mathlib.Core.Bool.{Bool, true, not}
 use mathlib.Core.List.{List}
-use native.Mathlib.Omega.{arith}
 use lib.ListN.{length}
-use lib.Dec.{eqb}
 use borrow.Author.Tests.{eqb-true, leb-true}
 use Rattle.types.specs.declared.Phase.{Phase}
-use Rattle.types.specs.declared.Phase.the-variants.{Idle}
-use Rattle.types.specs.declared.Stored.{Stored}
 use Rattle.types.specs.declared.Work.{Work}
 use Rattle.types.specs.declared.Part.{Part}
 use Rattle.types.specs.declared.Columns.{Columns}
-use Rattle.words.specs.Logic.{_and_, _or_}
+use Rattle.words.specs.Logic.{_or_}
 use Rattle.words.proofs.Tests.{and-l, and-r, unless-zero, orElse-zero}
-use Rattle.paper.specs.Sizes.{isLarge, sizeOk, arrayBytes, rowsBytes, transactionLimit, tickLimit}
-use Rattle.paper.specs.Registers.{tbs, bankLoaded}
+use Rattle.paper.specs.Sizes.{sizeOk, arrayBytes, rowsBytes, transactionLimit, tickLimit}
 use Rattle.paper.specs.Phases.{eraseHalted, isBusy, isSuspended}
 use Rattle.paper.specs.Table.{addressingOn, lengthOk, takenAsleep, takenBusy, takenSuspended}
-use Rattle.paper.specs.Soundness.{bitsOk, largeOk}
 use Rattle.paper.specs.Numbers.{sizeNumber, rowsNumber, lengthNumber, outputNumber, soundNumber, ticksNumber, transactionRefusal, tickNumber, stateOk, addressOk, freeOk, commandNumber}
-
-large-or : (t x y : Bool) → (x and cond t true (y and true)) ≡ (x and (t or y))
-unfolding _and_ _or_
-large-or true x y = refl
-large-or false true true = refl
-large-or false true false = refl
-large-or false false y = refl
-
--- power-up's 5: status bits 1..0, function bits 3, 2 or 0 or bits 4..0 of the extended read register not zero, or function bit 1 on any part but the large one
-pub power-up-bits : (n : ℕ) (s : Stored)
-    → (bitsOk Idle false s and largeOk n (s .function) bankLoaded)
-    ≡ ((eqb (s .status % 4) 0 and eqb (s .function % 16) (2 * tbs (s .function)) and eqb (s .extended % 32) 0)
-    and (isLarge n or eqb (tbs (s .function)) 0))
-unfolding bitsOk largeOk
-power-up-bits n s =
-    let z : 0 + 2 * tbs (s .function) ≡ 2 * tbs (s .function) = omega arith in
-    rw z (large-or (isLarge n) _ (eqb (tbs (s .function)) 0))
 
 -- a tick call that is not refused, of a record of b blocks that is sound or is not
 pub record TicksTaken (b : ℕ) (sound : Bool) (a r n : ℕ) : Type 0 where

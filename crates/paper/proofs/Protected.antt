@@ -18,7 +18,7 @@ use Rattle.words.specs.Logic.{_and_, _or_, unless, _orElse_}
 use Rattle.words.proofs.Tests.{and-l, and-r, and-in, unless-zero, orElse-zero, fails}
 use Rattle.paper.specs.Sizes.{isLarge, sizeOk, blockBytes}
 use Rattle.paper.specs.BlockTable.{noBlocks, blockRow, largeRow, cellOf, largeCellOf, tableCell}
-use Rattle.paper.specs.Registers.{tbs}
+use Rattle.paper.specs.Registers.{TBS}
 use Rattle.paper.specs.Protection.{codeOf, wholeCode, blocksAsked, ruleCount, protectsTop, ruleBlocks, largeAsked, largeCount, largeBlocks, blocksByRule, blocksOf, codeMost, question, protectedBlocks, among, protected}
 use Rattle.paper.specs.Operations.{free, targetFree, unitSuspends}
 use Rattle.paper.proofs.Sizes.{by-size}
@@ -279,8 +279,8 @@ zero-counted (suc (suc t)) n h = absurd (omega arith)
 
 pub none-counted : (n : ℕ) (s : Stored) → codeOf (s .status) ≡ 0 → protectedBlocks (wholeCode s) n .count ≡ 0
 none-counted n s e =
-    let z : wholeCode s ≡ 16 * tbs (s .function) = omega (arith, e) in
-    ap (λ (c : ℕ). protectedBlocks c n .count) z ∙ zero-counted (tbs (s .function)) n (omega arith)
+    let z : wholeCode s ≡ 16 * TBS (s .function) = omega (arith, e) in
+    ap (λ (c : ℕ). protectedBlocks c n .count) z ∙ zero-counted (TBS (s .function)) n (omega arith)
 
 pub fifteen-counted : (n : ℕ) → isLarge n ≡ false → protectedBlocks 15 n .count ≡ 0
 unfolding blocksAsked _or_

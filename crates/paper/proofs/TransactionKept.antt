@@ -47,7 +47,7 @@ use Rattle.paper.specs.Sizes.{isLarge}
 use Rattle.paper.specs.Address.{addressCount}
 use Rattle.paper.specs.Program.{dataSent, pageData, programOf}
 use Rattle.paper.specs.Erase.{memoryOf, eraseOf}
-use Rattle.paper.specs.Registers.{writeOf, liveSet, liveCleared, liveFailed, extadd, upperBank, bankTurned}
+use Rattle.paper.specs.Registers.{bitsAt, writeOf, liveSet, liveCleared, liveFailed, extadd, upperBank, bankTurned}
 use Rattle.paper.specs.Phases.{halted, isErase, eraseHalted, isBusy, isSuspended, workingOn, suspendedIn, resumedIn}
 use Rattle.paper.specs.Records.{settled, marked, resting, withLive, withBank}
 use Rattle.paper.specs.Operations.{targetFree, outsideOf}
@@ -58,6 +58,7 @@ use Rattle.paper.specs.Commands.{changed, begun, starts, changeBy, error
 use Rattle.paper.specs.Numbers.{freeOk, ignoredNumber, transactionRefusal}
 use Rattle.paper.specs.Calls.{refused, ignored, executed, outcomeTo, outcomeOf, transacted}
 use Rattle.paper.proofs.Phases.{idle-of}
+use Rattle.paper.proofs.Bits.{large-as}
 use Rattle.paper.proofs.MadeSound.{made-sound}
 use Rattle.paper.proofs.Table.{bank-large}
 use Rattle.paper.proofs.Soundness.{recordOf, sound-parts, sound-of, sound-whole, sound-in, marked-sound, live-sound, awake-ok}
@@ -146,9 +147,10 @@ module _ (p : Record) (i : List ℕ) where
 
 -- a bank register that is written has bits 6..1 zero
 turned-large : (n function : ℕ) (far : Bool) (b : ℕ) → isLarge n ≡ true → largeOk n function (bankTurned far b) ≡ true
-unfolding largeOk
-turned-large n function true b e = rw e (eq-eqb (bankTurned true b / 2 % 64) 0 (omega arith))
-turned-large n function false b e = rw e (eq-eqb (bankTurned false b / 2 % 64) 0 (omega arith))
+turned-large n function true b e =
+    rw (large-as n function (bankTurned true b), e) (eq-eqb (bitsAt 6 1 (bankTurned true b)) 0 (omega arith))
+turned-large n function false b e =
+    rw (large-as n function (bankTurned false b), e) (eq-eqb (bitsAt 6 1 (bankTurned false b)) 0 (omega arith))
 
 -- what commands that are taken make of a sound record
 module _ (p : Record) (s : sound p ≡ true) where

@@ -1,7 +1,7 @@
 -- Calls and their numbers: each number's test, and their order. The lowest number that applies is the answer.
 use Prim.Native.Nat.{ℕ}
 use mathlib.Core.List.{List}
-use mathlib.Core.Bool.{Bool, true, false, not}
+use mathlib.Core.Bool.{Bool, true, not}
 use lib.ListN.{length}
 use lib.Dec.{eqb, leb}
 use Rattle.types.specs.declared.Register.{Register}
@@ -9,7 +9,6 @@ use Rattle.types.specs.declared.Register.the-variants.{Status, Function, Extend
 use Rattle.types.specs.declared.Operation.{Operation}
 use Rattle.types.specs.declared.Operation.the-variants.{Program, Erase, Write}
 use Rattle.types.specs.declared.Phase.{Phase}
-use Rattle.types.specs.declared.Phase.the-variants.{Idle}
 use Rattle.types.specs.declared.Work.{Work}
 use Rattle.types.specs.declared.Work.the-variants.{NoWork, At}
 use Rattle.types.specs.declared.Stored.{Stored}
@@ -23,13 +22,12 @@ use Rattle.types.specs.declared.Wanted.{Wanted}
 use Rattle.types.specs.declared.Wanted.the-variants.{Any, Running, Halted, Armed}
 use Rattle.types.specs.declared.Columns.{Columns}
 use Rattle.words.specs.Logic.{_and_, _or_, unless, _orElse_}
-use Rattle.paper.specs.Sizes.{sizeOk, arrayBytes, rowsBytes, transactionLimit, tickLimit}
+use Rattle.paper.specs.Sizes.{isLarge, sizeOk, arrayBytes, rowsBytes, transactionLimit, tickLimit}
 use Rattle.paper.specs.Address.{rowOk}
 use Rattle.paper.specs.Protection.{barred}
-use Rattle.paper.specs.Registers.{bankLoaded}
+use Rattle.paper.specs.Registers.{bitAt, bitsAt, TBS}
 use Rattle.paper.specs.Phases.{halted, eraseHalted, isBusy, isSuspended}
 use Rattle.paper.specs.Operations.{targetFree, outsideOf}
-use Rattle.paper.specs.Soundness.{bitsOk, largeOk}
 use Rattle.paper.specs.Table.{columns, addressingOn, lengthOk, takenAsleep, takenBusy, takenSuspended}
 use Rattle.paper.specs.Suspend.{suspendable, resumable}
 use Rattle.paper.specs.Commands.{begun}
@@ -58,9 +56,18 @@ soundNumber sound = unless sound 5
 unfoldable pub ticksNumber : ℕ → ℕ → ℕ
 ticksNumber n ticks = unless (leb ticks (tickLimit n)) 6
 
--- power-up can give only 1 and 5; 5 there: status bits 1..0, function bits 3..0, but for TBS on the large part, or bits 4..0 of the extended read register not zero
+-- 5 at power-up: status bits 1..0, function bits 3..0, but for bit 1, TBS, on the large part, or bits 4..0 of the extended read register not zero
+unfoldable pub givenOk : ℕ → Stored → Bool
+givenOk n s =
+    eqb (bitsAt 1 0 (s .status)) 0
+    and eqb (bitsAt 3 2 (s .function)) 0
+    and (isLarge n or eqb (TBS (s .function)) 0)
+    and eqb (bitAt 0 (s .function)) 0
+    and eqb (bitsAt 4 0 (s .extended)) 0
+
+-- power-up can give only 1 and 5
 unfoldable pub powerUpNumber : ℕ → Stored → ℕ
-powerUpNumber n s = unless (sizeOk n) 1 orElse unless (bitsOk Idle false s and largeOk n (s .function) bankLoaded) 5
+powerUpNumber n s = unless (sizeOk n) 1 orElse unless (givenOk n s) 5
 
 -- a transaction's 2 to 5, which go by no size: the record is sound or is not, the rows have r bytes; l and o are the lengths of input and output
 abbrev pub laterRefusal : Bool → ℕ → ℕ → ℕ → ℕ

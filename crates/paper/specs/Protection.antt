@@ -7,16 +7,16 @@ use Rattle.types.specs.declared.Cell.{Cell}
 use Rattle.types.specs.declared.Stored.{Stored}
 use Rattle.words.specs.Logic.{_and_, _or_, unless, _orElse_, whenZero}
 use Rattle.paper.specs.Sizes.{isLarge, sizeOk, blockBytes}
-use Rattle.paper.specs.Registers.{tbs}
+use Rattle.paper.specs.Registers.{bitsAt, SRWD, QE, IRL, TBS}
 use Rattle.paper.specs.BlockTable.{noBlocks, tableCell}
 
 -- code c = BP3..BP0, bits 5..2 of the status
 abbrev pub codeOf : ℕ → ℕ
-codeOf status = status / 4 % 16
+codeOf status = bitsAt 5 2 status
 
 -- the code with TBS, the top or bottom bit, above it: what the protection question is asked. (Other parts than the large one have no such bit, and it is 0.)
 abbrev pub wholeCode : Stored → ℕ
-wholeCode s = codeOf (s .status) + 16 * tbs (s .function)
+wholeCode s = codeOf (s .status) + 16 * TBS (s .function)
 
 -- 01's rule, over any number n of blocks: that of every part but the large one.
 -- How many blocks a code asks for: 0 or 15 none; c = 1..7 2^(c-1); c = 8..14 2^(14-c). (A number above 15 is no code, and asks for none.)
@@ -95,8 +95,8 @@ protectedAt c n a = protected c n (a / blockBytes)
 
 -- is row k locked? IRL3..IRL0 are bits 7..4 of the function register
 unfoldable pub locked : ℕ → ℕ → Bool
-locked function k = eqb (function / 2 ^ (4 + k) % 2) 1
+locked function k = eqb (IRL k function) 1
 
 -- a status write is barred when SRWD is 1, QE is 0 and WP# is low. (wp is true where WP# is high)
 unfoldable pub barred : ℕ → Bool → Bool
-barred status wp = eqb (status / 128 % 2) 1 and eqb (status / 64 % 2) 0 and not wp
+barred status wp = eqb (SRWD status) 1 and eqb (QE status) 0 and not wp

@@ -23,11 +23,11 @@ esus f = bit (eraseHalted f)
 abbrev pub psus : Phase → ℕ
 psus f = bit (workIs isProgram (halted f))
 
--- status: bit 7 SRWD, 6 QE, 5..2 BP3..BP0, and here 1 WEL, 0 WIP, which other fields define
+-- WEL and WIP, bits 1 and 0 of status, which other fields define
 abbrev pub statusLow : Phase → Bool → ℕ
 statusLow f wel = 2 * bit wel + wip f
 
--- function: bits 7..4 IRL3..IRL0, 1 TBS on the large part, and here 3 ESUS, 2 PSUS, which other fields define; the others zero
+-- ESUS and PSUS, bits 3 and 2 of function, which other fields define
 abbrev pub functionLow : Phase → ℕ
 functionLow f = 8 * esus f + 4 * psus f
 

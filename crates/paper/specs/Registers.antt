@@ -1,5 +1,5 @@
--- Registers: what a write holds, and what its one tick stores; the live byte of the extended read register; the bank address register.
-use Prim.Native.Nat.{ℕ, _+_, _*_, _/_, _%_}
+-- Registers: their bits; what a write holds, and what its one tick stores; the live byte of the extended read register; the bank address register.
+use Prim.Native.Nat.{ℕ, _+_, _-_, _*_, _/_, _%_, _^_}
 use mathlib.Core.Bool.{Bool}
 use mathlib.Core.List.{List}
 use lib.ListN.{getD}
@@ -11,6 +11,47 @@ use Rattle.types.specs.declared.Stored.{Stored}
 use Rattle.types.specs.declared.Operation.{Operation}
 use Rattle.types.specs.declared.Operation.the-variants.{Program, Erase, Write}
 use Rattle.words.specs.Logic.{bit}
+
+-- bit k of a byte
+abbrev pub bitAt : ℕ → ℕ → ℕ
+bitAt k b = b / 2 ^ k % 2
+
+-- bits h..l of a byte, as a number
+abbrev pub bitsAt : ℕ → ℕ → ℕ → ℕ
+bitsAt h l b = b / 2 ^ l % 2 ^ (1 + h - l)
+
+-- status: bit 7 SRWD, 6 QE, 5..2 BP3..BP0, 1 WEL, 0 WIP
+abbrev pub SRWD : ℕ → ℕ
+SRWD status = bitAt 7 status
+
+abbrev pub QE : ℕ → ℕ
+QE status = bitAt 6 status
+
+abbrev pub WEL : ℕ → ℕ
+WEL status = bitAt 1 status
+
+abbrev pub WIP : ℕ → ℕ
+WIP status = bitAt 0 status
+
+-- function: bits 7..4 IRL3..IRL0, 3 ESUS, 2 PSUS, 1 TBS, 0 zero. TBS is the top or bottom bit of the large part: 0 top, 1 bottom
+abbrev pub IRL : ℕ → ℕ → ℕ
+IRL k function = bitAt (4 + k) function
+
+abbrev pub ESUS : ℕ → ℕ
+ESUS function = bitAt 3 function
+
+abbrev pub PSUS : ℕ → ℕ
+PSUS function = bitAt 2 function
+
+abbrev pub TBS : ℕ → ℕ
+TBS function = bitAt 1 function
+
+-- the bank address register of the large part: bit 7 EXTADD, bits 6..1 zero, bit 0 the bank bit BA24
+abbrev pub EXTADD : ℕ → ℕ
+EXTADD bank = bitAt 7 bank
+
+abbrev pub BA24 : ℕ → ℕ
+BA24 bank = bitAt 0 bank
 
 -- the byte that a write holds: a status write its byte with bits 1..0 zero, a function write with bits 3..0 zero, a write of the extended read register with bits 4..0 zero
 abbrev pub held : Register → ℕ → ℕ
@@ -30,21 +71,17 @@ withBytes status function s = record { status = status; function = function; ext
 abbrev pub withExtended : ℕ → Stored → Stored
 withExtended v s = record { status = s .status; function = s .function; extended = v }
 
--- TBS, the top or bottom bit of the large part, is bit 1 of the function register: 0 top, 1 bottom
-abbrev pub tbs : ℕ → ℕ
-tbs function = function / 2 % 2
-
 -- the stored bits of registers, without those that other fields define
 abbrev pub storedBits : Stored → Stored
 storedBits s =
-    withBytes (held Status (s .status)) (held Function (s .function) + 2 * tbs (s .function))
+    withBytes (held Status (s .status)) (held Function (s .function) + 2 * TBS (s .function))
     (withExtended (held Extended (s .extended)) s)
 
 -- the registers after a write's tick: 01h stores bits 7..2 (the byte that it holds has the others 0); 42h may set IRL bits and never clears one, other bits are disregarded, and TBS stays; 85h stores bits 7..5
 abbrev pub registerWritten : Register → ℕ → Stored → Stored
 registerWritten Status v s = withBytes v (s .function) s
 registerWritten Function v s =
-    withBytes (s .status) (bitOr (s .function / 16) (v / 16) * 16 + 2 * tbs (s .function)) s
+    withBytes (s .status) (bitOr (s .function / 16) (v / 16) * 16 + 2 * TBS (s .function)) s
 registerWritten Extended v s = withExtended v s
 
 -- the registers after an operation's last tick
@@ -83,21 +120,21 @@ liveFailed errors live = bitOr live errors
 abbrev pub extendedRead : ℕ → ℕ → ℕ
 extendedRead live status = held Extended live + 16 + live / 2 % 8 * 2 + status % 2
 
--- the bank address register of the large part: bit 7 EXTADD, bits 6..1 zero, bit 0 the bank bit. It is 00h after power-up and reset
+-- the bank address register is 00h after power-up and reset
 abbrev pub bankLoaded : ℕ
 bankLoaded = 0
 
 -- EXTADD is 1: a far address, of four bytes
 abbrev pub extadd : ℕ → Bool
-extadd bank = eqb (bank / 128 % 2) 1
+extadd bank = eqb (EXTADD bank) 1
 
 -- the bank bit is 1: the upper bank
 abbrev pub upperBank : ℕ → Bool
-upperBank bank = eqb (bank % 2) 1
+upperBank bank = eqb (BA24 bank) 1
 
 -- B7h sets EXTADD and 29h clears it; the bank bit stays
 abbrev pub bankTurned : Bool → ℕ → ℕ
-bankTurned far bank = 128 * bit far + bank % 2
+bankTurned far bank = 128 * bit far + BA24 bank
 
 -- 17h and C5h set both to those of a byte, whose bits 6..1 are disregarded
 abbrev pub bankSet : ℕ → ℕ

@@ -1,7 +1,7 @@
 -- A record is sound when.
-use Prim.Native.Nat.{ℕ, _+_, _*_, _/_, _%_}
+use Prim.Native.Nat.{ℕ}
 use mathlib.Core.List.{List}
-use mathlib.Core.Bool.{Bool, true, not, cond}
+use mathlib.Core.Bool.{Bool, true, not}
 use lib.ListN.{drop}
 use lib.Dec.{eqb, ltb, leb}
 use Rattle.types.specs.declared.Operation.{Operation}
@@ -11,12 +11,12 @@ use Rattle.types.specs.declared.Phase.the-variants.{Idle, Busy, Suspended, Nest
 use Rattle.types.specs.declared.Stored.{Stored}
 use Rattle.types.specs.declared.Part.{Part}
 use Rattle.types.specs.declared.Record.{Record}
-use Rattle.words.specs.Logic.{_and_, _or_}
+use Rattle.words.specs.Logic.{_and_, _or_, bit}
 use Rattle.words.specs.Lists.{allZero}
 use Rattle.paper.specs.Sizes.{isLarge, sizeOk, pageBytes}
 use Rattle.paper.specs.Phases.{isProgram, isErase, isIdle}
-use Rattle.paper.specs.Records.{statusLow, functionLow}
-use Rattle.paper.specs.Registers.{held, tbs}
+use Rattle.paper.specs.Records.{wip, esus, psus}
+use Rattle.paper.specs.Registers.{bitAt, bitsAt, WEL, WIP, ESUS, PSUS, TBS, held}
 use Rattle.paper.specs.Operations.{ticksInAll, ticksDone, aligned, inside, targetFree, canSuspend, outside, keptBy}
 
 -- asleep only if idle
@@ -56,16 +56,22 @@ phaseOk (Busy o) n s = operationOk o n s
 phaseOk (Suspended o) n s = canSuspend o and operationOk o n s
 phaseOk (Nested o e) n s = nestOk e o n and operationOk e n s and operationOk o n s
 
--- stored register bits that other fields define (WIP, WEL, ESUS, PSUS) agree with them; function bit 0 is 0, bit 1 is TBS, and bits 4..0 of the extended read register's stored byte are 0
+-- stored register bits that other fields define (WIP, WEL, ESUS, PSUS) agree with them; function bit 0 is 0, and so are bits 4..0 of the extended read register's stored byte
 unfoldable pub bitsOk : Phase → Bool → Stored → Bool
 bitsOk f wel s =
-    eqb (s .status % 4) (statusLow f wel)
-    and eqb (s .function % 16) (functionLow f + 2 * tbs (s .function))
-    and eqb (s .extended % 32) 0
+    eqb (WIP (s .status)) (wip f)
+    and eqb (WEL (s .status)) (bit wel)
+    and eqb (ESUS (s .function)) (esus f)
+    and eqb (PSUS (s .function)) (psus f)
+    and eqb (bitAt 0 (s .function)) 0
+    and eqb (bitsAt 4 0 (s .extended)) 0
 
--- the large part alone has TBS, and a bank register, whose bits 6..1 are 0; with the others both are 0
+-- function bit 1, TBS, is 0 but on the large part; bits 6..1 of the bank register are 0, and the whole of it is but on the large part
 unfoldable pub largeOk : ℕ → ℕ → ℕ → Bool
-largeOk n function bank = cond (isLarge n) (eqb (bank / 2 % 64) 0) (eqb (tbs function) 0 and eqb bank 0)
+largeOk n function bank =
+    (isLarge n or eqb (TBS function) 0)
+    and eqb (bitsAt 6 1 bank) 0
+    and (isLarge n or eqb bank 0)
 
 -- how many bytes of page data a phase keeps; within a suspended erase they belong to the inner program
 abbrev pub keptIn : Phase → ℕ

@@ -7,6 +7,7 @@ use native.Mathlib.Omega.{arith}
 use lib.Dec.{eqb}
 use borrow.Author.Tests.{not-true, eq-eqb}
 use Rattle.types.specs.declared.Phase.{Phase}
+use Rattle.types.specs.declared.Phase.the-variants.{Idle}
 use Rattle.types.specs.declared.Work.the-variants.{NoWork}
 use Rattle.types.specs.declared.Register.the-variants.{Status, Function, Extended}
 use Rattle.types.specs.declared.Command.the-variants.{Wake, ArmReset, Reset}
@@ -17,16 +18,17 @@ use Rattle.types.specs.declared.Answer.{Answer}
 use Rattle.types.specs.declared.Record.{Record}
 use Rattle.words.specs.Logic.{_and_, _or_, unless, _orElse_}
 use Rattle.paper.specs.Sizes.{sizeOk}
-use Rattle.paper.specs.Registers.{held, tbs, storedBits, bankLoaded}
+use Rattle.paper.specs.Registers.{held, TBS, storedBits, bankLoaded}
 use Rattle.paper.specs.Phases.{isBusy}
 use Rattle.paper.specs.Records.{marked, fresh}
-use Rattle.paper.specs.Soundness.{sleepOk, sound, bitsOk, largeOk}
+use Rattle.paper.specs.Soundness.{sleepOk, sound, largeOk}
 use Rattle.paper.specs.Numbers.{commandNumber, powerUpNumber}
 use Rattle.paper.specs.Table.{columns}
 use Rattle.paper.specs.Calls.{poweredUp}
 use Rattle.paper.specs.History.{recordAfterCall}
 use Rattle.paper.proofs.Table.{known}
 use Rattle.paper.proofs.Phases.{busy-not-idle}
+use Rattle.paper.proofs.Bits.{bits-as, given-as}
 use Rattle.paper.proofs.MadeSound.{stored-large}
 use Rattle.paper.proofs.Soundness.{recordOf, sound-parts}
 use Rattle.paper.proofs.Answers.{executes, ignores, arm-number, reset-number}
@@ -68,14 +70,14 @@ module _ (p : Record) (s : sound p ≡ true) (wp : Bool) where
 
 -- a power-up with the stored bits of registers that the part can have is not refused, and gives the record that goes by them
 pub powered-as : (n : ℕ) (id : Identity) (g : Stored) → sizeOk n ≡ true → largeOk n (g .function) bankLoaded ≡ true → poweredUp n id (storedBits g) ≡ record { next = fresh n id g; number = 0 }
-unfolding poweredUp powerUpNumber bitsOk _and_ unless _orElse_
+unfolding poweredUp powerUpNumber _and_ unless _orElse_
 powered-as n id g h l =
     let fn = storedBits g .function in
     let a : held Status (g .status) % 4 ≡ 0 = omega arith in
-    let b : eqb (fn % 16) (0 + 2 * tbs fn) ≡ true = eq-eqb (fn % 16) (0 + 2 * tbs fn) (omega arith) in
+    let b : eqb (fn % 16) (0 + 2 * TBS fn) ≡ true = eq-eqb (fn % 16) (0 + 2 * TBS fn) (omega arith) in
     let c : held Status (held Status (g .status)) ≡ held Status (g .status) = omega arith in
     let d : held Function fn ≡ held Function (g .function) = omega arith in
-    let t : tbs fn ≡ tbs (g .function) = omega arith in
+    let t : TBS fn ≡ TBS (g .function) = omega arith in
     let e : held Extended (g .extended) % 32 ≡ 0 = omega arith in
     let f : held Extended (held Extended (g .extended)) ≡ held Extended (g .extended) = omega arith in
-    rw (h, stored-large n g bankLoaded ∙ l, a, b, c, d, t, e, f)
+    rw (h, given-as n (storedBits g), bits-as Idle false (storedBits g), stored-large n g bankLoaded ∙ l, a, b, c, d, t, e, f)

@@ -2,6 +2,7 @@
 use native.Mathlib.Omega.{arith}
 use borrow.Author.Needs.{needs}
 use Rattle.words.proofs.Tests.{bit-le}
+use Rattle.paper.proofs.Bits.{low-one}
 use Rattle.effects.proofs.turn_bank.Statement.{statement}
 use Rattle.effects.proofs.turn_bank.Tie as tie
 
@@ -15,7 +16,7 @@ add-result : tie.Need-add-result
 add-result c = omega (arith, c .bit-of .ensures, bit-le (c .before .args .far))
 
 returns : tie.Need-returns
-returns c = rw (c .bit-of .ensures)
+returns c = rw (c .bit-of .ensures, low-one (c .before .args .bank))
 
 pub turn-bank-spec : {M : Type 1} → statement M
 turn-bank-spec = tie.close (tie.spec bit-of-requires mul-result add-result returns)

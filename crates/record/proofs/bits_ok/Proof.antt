@@ -1,5 +1,5 @@
--- `record::bits_ok` meets its contract: it joins the tests as the definition does.
-use Rattle.paper.specs.Soundness.{bitsOk}
+-- `record::bits_ok` meets its contract: its tests on remainders are those of the bits.
+use Rattle.paper.proofs.Bits.{bits-as}
 use borrow.Author.Needs.{needs}
 use Rattle.record.proofs.bits_ok.Statement.{statement}
 use Rattle.record.proofs.bits_ok.Tie as tie
@@ -23,8 +23,9 @@ both-requires-2 : tie.Need-both-requires-2
 both-requires-2 c κs = search needs
 
 returns : tie.Need-returns
-unfolding bitsOk
-returns c = rw (c .both2 .ensures, c .before .both .ensures, c .before .before .before .function-low .ensures, c .before .before .before .before .before .before .status-low .ensures)
+returns c =
+    let a = c .before .before .before .before .before .before .before .before .args in
+    rw (bits-as (a .phase) (a .wel) (a .stored), c .both2 .ensures, c .before .both .ensures, c .before .before .before .function-low .ensures, c .before .before .before .before .before .before .status-low .ensures)
 
 pub bits-ok-spec : {M : Type 1} → statement M
 bits-ok-spec =

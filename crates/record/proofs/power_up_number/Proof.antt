@@ -2,6 +2,7 @@
 use mathlib.Core.Path.{_∙_}
 use Rattle.words.proofs.Tests.{orElse-none}
 use Rattle.paper.specs.Numbers.{powerUpNumber}
+use Rattle.paper.proofs.Bits.{given-as}
 use borrow.Author.Needs.{needs}
 use Rattle.record.proofs.power_up_number.Statement.{statement}
 use Rattle.record.proofs.power_up_number.Tie as tie
@@ -27,7 +28,9 @@ number-or-requires-2 c κs = search needs
 returns : tie.Need-returns
 unfolding powerUpNumber
 returns c =
+    let a = c .before .before .before .before .before .before .args in
     rw (
+      given-as (a .blocks) (a .stored),
       c .number-or2 .ensures,
       c .before .number-or .ensures ∙ orElse-none _,
       c .before .before .both .ensures,

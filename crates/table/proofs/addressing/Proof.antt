@@ -1,5 +1,6 @@
 -- `table::addressing` meets its contract: each arm is a clause of the definition.
 use borrow.Author.Needs.{needs}
+use Rattle.paper.proofs.Bits.{low-one}
 use Rattle.table.proofs.addressing.Statement.{statement}
 use Rattle.table.proofs.addressing.Tie as tie
 
@@ -19,7 +20,7 @@ returns : tie.Need-returns
 returns c = search needs
 
 returns-2 : tie.Need-returns-2
-returns-2 c = cc
+returns-2 c = rw (c .enum-told2 .given .1, low-one (c .before .before .args .bank))
 
 returns-3 : tie.Need-returns-3
 returns-3 c = search needs
