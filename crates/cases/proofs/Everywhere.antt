@@ -146,12 +146,12 @@ case-9 p s e =
 
 locked-row : (p : Record) → Ready p → p .part .wel ≡ true → locked (p .part .stored .function) 1 ≡ true → (d : List ℕ) → 1 ≤ length d
     → ignoredNumber (Known RowProgram) (p .part) (p .phase) (0x62 ∷ 0x00 ∷ 0x10 ∷ 0x00 ∷ d) true ≡ 28
-unfolding commandNumber _and_ _or_ unless _orElse_ rowOk rowPlace highFirst programOf
+unfolding commandNumber _and_ _or_ unless _orElse_ rowOk rowPlace programOf
 locked-row p r w k d n = rw (r .awake, r .idle, le-leb 5 (length (0x62 ∷ 0x00 ∷ 0x10 ∷ 0x00 ∷ d)) (omega arith), w, k)
 
 no-row : (p : Record) → Ready p → p .part .wel ≡ true → (d : List ℕ) → 1 ≤ length d
     → ignoredNumber (Known RowProgram) (p .part) (p .phase) (0x62 ∷ 0x00 ∷ 0x01 ∷ 0x00 ∷ d) true ≡ 27
-unfolding commandNumber _and_ _or_ unless _orElse_ rowOk highFirst
+unfolding commandNumber _and_ _or_ unless _orElse_ rowOk
 no-row p r w d n = rw (r .awake, r .idle, le-leb 5 (length (0x62 ∷ 0x00 ∷ 0x01 ∷ 0x00 ∷ d)) (omega arith), w)
 
 case-10 : Case10Everywhere

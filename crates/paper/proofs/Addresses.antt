@@ -1,21 +1,22 @@
--- The number that bytes are, high byte first: one byte more, and how large it is, over the number of bytes. Taken modulo an array size it keeps its place in a page.
+-- The number that bytes are, high byte first: one byte more, and how large it is, over the number of bytes. Taken modulo an array size it keeps its place in a page. A valid row address names one of the four rows, with a fourth byte of 00h the same one.
 use Prim.Native.Nat.{ℕ, zero, suc, _+_, _*_, _/_, _%_, _^_, _<_, _≤_}
-use mathlib.Core.Path.{_≡_, refl}
+use mathlib.Core.Path.{_≡_, refl, subst⁻¹}
 use mathlib.Core.Bool.{Bool, true, false}
 use mathlib.Core.List.{List, [], _∷_, _++_}
+use mathlib.Core.Logic.{⊎-elim}
 use native.Mathlib.Omega.{arith}
-use native.Mathlib.Nat.{pos-of-ne-zero, mod-mod-of-dvd, dvd-mul-left, dvd-mul-left-of-dvd}
+use native.Mathlib.Nat.{mod-mod-of-dvd, dvd-mul-left, dvd-mul-left-of-dvd}
 use lib.ListN.{length, getD, take, drop}
 use lib.Seq.{take-suc, take-all, take-length, getD-drop}
-use lib.Dec.{eqb, ltb, leb}
-use borrow.Author.Tests.{leb-true, leb-false, ltb-true, eqb-true, eqb-false, eq-eqb, ne-eqb, lt-ltb, le-ltb}
+use lib.Dec.{eqb, leb}
+use borrow.Author.Tests.{leb-true, leb-false, eqb-true}
 use Rattle.types.specs.declared.Addressing.{Addressing}
 use Rattle.types.specs.declared.Addressing.the-variants.{Three, Four}
-use Rattle.words.specs.Logic.{_and_, _or_}
-use Rattle.words.proofs.Tests.{and-in}
+use Rattle.words.specs.Logic.{_and_}
+use Rattle.words.proofs.Tests.{and-r, or-cases}
 use lib.Pow.{pow-add, pow-mono}
-use Rattle.paper.specs.Sizes.{blockBytes, pageBytes}
-use Rattle.paper.specs.Address.{readOn, highFirst, addressBytes, addressSent, addressIn, rowOk}
+use Rattle.paper.specs.Sizes.{blockBytes, pageBytes, rowsBytes}
+use Rattle.paper.specs.Address.{readOn, highFirst, addressBytes, addressSent, addressIn, rowAt, namesRow, rowOk, rowBase, rowByte}
 
 read-on-snoc : (a : ℕ) (bs : List ℕ) (b : ℕ) → readOn a (bs ++ (b ∷ [])) ≡ readOn a bs * 256 + b
 read-on-snoc a [] b = refl
@@ -67,70 +68,35 @@ pub in-page : (g : Addressing) (n : ℕ) (i : List ℕ) → addressIn g n i % pa
 unfolding addressIn
 in-page g n i = mod-mod-of-dvd pageBytes (addressSent g i) (dvd-mul-left-of-dvd pageBytes {b = blockBytes} (dvd-mul-left pageBytes pageBytes) n)
 
--- row addresses, as sent, are 00h, then 00h, 10h, 20h or 30h, then a byte address
-module _ (c a b d : ℕ) (rest : List ℕ) (ha : a < 256) (hb : b < 256) (hd : d < 256) where
-  abbrev test : Bool
-  test = ltb ((a * 65536 + b * 256 + d) / 4096) 4 and eqb ((a * 65536 + b * 256 + d) / 256 % 16) 0
+-- a row address stands within the first three places
+pub row-at-le : (g : Addressing) → rowAt g ≤ 2
+row-at-le (Three upper) = omega arith
+row-at-le Four = omega arith
 
-  valid : a ≡ 0 → b < 0x40 → b % 16 ≡ 0 → test ≡ true
-  valid x y z =
-      and-in (lt-ltb ((a * 65536 + b * 256 + d) / 4096) 4 (omega arith)) (eq-eqb ((a * 65536 + b * 256 + d) / 256 % 16) 0 (omega arith))
+-- the row that a valid one names is one of four
+names-one : (b : ℕ) → namesRow b ≡ true → b / 16 < 4
+names-one b h =
+    let at : (r : ℕ) → r / 16 < 4 → eqb b r ≡ true → b / 16 < 4 = λ r l e. subst⁻¹ (λ (x : ℕ). x / 16 < 4) (eqb-true b r e) l in
+    ⊎-elim
+    (at 0x00 (omega arith))
+    (λ h′.
+    ⊎-elim
+    (at 0x10 (omega arith))
+    (λ h″. ⊎-elim (at 0x20 (omega arith)) (at 0x30 (omega arith)) (or-cases _ _ h″))
+    (or-cases _ _ h′))
+    (or-cases _ _ h)
 
-  first-wrong : (a ≡ 0 → ⊥) → test ≡ false
-  unfolding _and_
-  first-wrong x =
-      let y : 1 ≤ a = pos-of-ne-zero x in
-      rw (le-ltb ((a * 65536 + b * 256 + d) / 4096) 4 (omega arith))
+pub row-inside : (g : Addressing) (i : List ℕ) → rowOk g i ≡ true → rowBase g i < rowsBytes
+unfolding rowOk
+row-inside g i h =
+    let l = names-one (getD i (rowAt g + 1) 0) (and-r _ _ (and-r _ _ h)) in
+    omega (arith, l)
 
-  no-row : (q : ℕ) → b ≡ q * 16 → q < 4 → (b ≡ 0 → ⊥) → (b ≡ 0x10 → ⊥) → (b ≡ 0x20 → ⊥) → (b ≡ 0x30 → ⊥) → ⊥
-  no-row zero e l x y z w = x e
-  no-row (suc zero) e l x y z w = y e
-  no-row (suc (suc zero)) e l x y z w = z e
-  no-row (suc (suc (suc zero))) e l x y z w = w e
-  no-row (suc (suc (suc (suc q)))) e l x y z w = omega (arith, l)
-
-  second-wrong : (t : Bool) → ltb ((a * 65536 + b * 256 + d) / 4096) 4 ≡ t → (b ≡ 0 → ⊥) → (b ≡ 0x10 → ⊥) → (b ≡ 0x20 → ⊥) → (b ≡ 0x30 → ⊥) → test ≡ false
-  unfolding _and_
-  second-wrong false e x y z w = rw e
-  second-wrong true e x y z w =
-      let l : (a * 65536 + b * 256 + d) / 4096 < 4 = ltb-true _ _ e in
-      rw (
-        e,
-        ne-eqb ((a * 65536 + b * 256 + d) / 256 % 16) 0 (λ (k : (a * 65536 + b * 256 + d) / 256 % 16 ≡ 0).
-            no-row (b / 16) (omega arith) (omega arith) x y z w),
-      )
-
-  row-ok-as : (t0 t1 t2 t3 t4 : Bool)
-      → eqb a 0 ≡ t0 → eqb b 0 ≡ t1 → eqb b 0x10 ≡ t2 → eqb b 0x20 ≡ t3 → eqb b 0x30 ≡ t4
-      → test ≡ (t0 and (t1 or t2 or t3 or t4))
-  unfolding _and_ _or_
-  row-ok-as false t1 t2 t3 t4 e0 e1 e2 e3 e4 = first-wrong (eqb-false a 0 e0)
-  row-ok-as true true t2 t3 t4 e0 e1 e2 e3 e4 =
-      let y : b ≡ 0 = eqb-true b 0 e1 in valid (eqb-true a 0 e0) (omega arith) (omega arith)
-  row-ok-as true false true t3 t4 e0 e1 e2 e3 e4 =
-      let y : b ≡ 0x10 = eqb-true b 0x10 e2 in valid (eqb-true a 0 e0) (omega arith) (omega arith)
-  row-ok-as true false false true t4 e0 e1 e2 e3 e4 =
-      let y : b ≡ 0x20 = eqb-true b 0x20 e3 in valid (eqb-true a 0 e0) (omega arith) (omega arith)
-  row-ok-as true false false false true e0 e1 e2 e3 e4 =
-      let y : b ≡ 0x30 = eqb-true b 0x30 e4 in valid (eqb-true a 0 e0) (omega arith) (omega arith)
-  row-ok-as true false false false false e0 e1 e2 e3 e4 =
-      second-wrong (ltb ((a * 65536 + b * 256 + d) / 4096) 4) refl (eqb-false b 0 e1) (eqb-false b 0x10 e2) (eqb-false b 0x20 e3) (eqb-false b 0x30 e4)
-
-  sent-as : addressSent (Three false) (c ∷ a ∷ b ∷ d ∷ rest) ≡ a * 65536 + b * 256 + d
-  unfolding highFirst
-  sent-as = omega arith
-
-  pub row-ok-sent : rowOk (Three false) (c ∷ a ∷ b ∷ d ∷ rest) ≡ (eqb a 0 and (eqb b 0 or eqb b 0x10 or eqb b 0x20 or eqb b 0x30))
-  unfolding rowOk
-  row-ok-sent = rw sent-as (row-ok-as (eqb a 0) (eqb b 0) (eqb b 0x10) (eqb b 0x20) (eqb b 0x30) refl refl refl refl refl)
-
-  -- of a row address of four bytes the first would be 00h too
-  four-as : (z : ℕ) → addressSent Four (c ∷ z ∷ a ∷ b ∷ d ∷ rest) ≡ z * 16777216 + (a * 65536 + b * 256 + d)
-  unfolding highFirst
-  four-as z = omega arith
-
-  pub row-ok-four : (z : ℕ) → (z ≡ 0 → ⊥) → rowOk Four (c ∷ z ∷ a ∷ b ∷ d ∷ rest) ≡ false
+-- a fourth byte: another than 00h makes no row address, and behind 00h a valid one is what it is behind the code, and names the same row and byte
+module _ (c z a b d : ℕ) (rest : List ℕ) where
+  pub row-ok-four : rowOk Four (c ∷ z ∷ a ∷ b ∷ d ∷ rest) ≡ (eqb z 0x00 and rowOk (Three false) (c ∷ a ∷ b ∷ d ∷ rest))
   unfolding rowOk _and_
-  row-ok-four z x =
-      let y : 1 ≤ z = pos-of-ne-zero x in
-      rw (four-as z, le-ltb ((z * 16777216 + (a * 65536 + b * 256 + d)) / 4096) 4 (omega arith))
+  row-ok-four = refl
+
+  pub row-same-four : (rowBase Four (c ∷ z ∷ a ∷ b ∷ d ∷ rest) ≡ rowBase (Three false) (c ∷ a ∷ b ∷ d ∷ rest)) × (rowByte Four (c ∷ z ∷ a ∷ b ∷ d ∷ rest) ≡ rowByte (Three false) (c ∷ a ∷ b ∷ d ∷ rest))
+  row-same-four = (refl, refl)

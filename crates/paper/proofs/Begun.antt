@@ -6,7 +6,7 @@ use mathlib.Core.List.{List}
 use native.Mathlib.Omega.{arith}
 use native.Mathlib.Nat.{mod-lt, mul-div-cancel, div-lt-iff-lt-mul, mul-le-mul-right, suc-mul}
 use lib.ListN.{length, length-drop, drop, getD}
-use borrow.Author.Tests.{ltb-true, lt-ltb, le-leb, eq-eqb}
+use borrow.Author.Tests.{lt-ltb, le-leb, eq-eqb}
 use Rattle.types.specs.declared.Memory.{Memory}
 use Rattle.types.specs.declared.Memory.the-variants.{Array, Rows}
 use Rattle.types.specs.declared.Addressing.{Addressing}
@@ -22,8 +22,8 @@ use Rattle.types.specs.declared.Part.{Part}
 use Rattle.types.specs.declared.Record.{Record}
 use Rattle.words.specs.Lists.{allZero}
 use Rattle.words.proofs.Tests.{and-l, and-r, and-in}
-use Rattle.paper.specs.Sizes.{sizeOk, arrayBytes, memoryBytes, pageBytes, downTo}
-use Rattle.paper.specs.Address.{addressCount, addressSent, addressIn, rowOk, rowPlace, placeIn}
+use Rattle.paper.specs.Sizes.{sizeOk, arrayBytes, rowsBytes, memoryBytes, pageBytes, downTo}
+use Rattle.paper.specs.Address.{addressCount, addressSent, addressIn, rowAt, rowOk, rowPlace, placeIn}
 use Rattle.paper.specs.Program.{pageBase, pagePlace, dataSent, keptCount, passedCount, pageData, programOf}
 use Rattle.paper.specs.Erase.{memoryOf, unitPages, unitBytes, unitBase, eraseOf}
 use Rattle.paper.specs.Registers.{held, writeOf}
@@ -31,6 +31,7 @@ use Rattle.paper.specs.Phases.{isErase}
 use Rattle.paper.specs.Records.{settled}
 use Rattle.paper.specs.Operations.{targetFree, outside}
 use Rattle.paper.specs.Soundness.{latchOk, largeOk, operationOk, phaseOk, keptIn, pageOk, sound}
+use Rattle.paper.proofs.Addresses.{row-inside}
 use Rattle.paper.proofs.Sizes.{size-range}
 use Rattle.paper.proofs.KeptBytes.{zeros-after}
 use Rattle.paper.proofs.MadeSound.{made-sound}
@@ -43,10 +44,10 @@ Valid Rows g i = rowOk g i ≡ true
 
 -- the place that a transaction names lies in its memory
 place-inside : (m : Memory) (a : Addressing) (n : ℕ) (i : List ℕ) → 1 ≤ n → Valid m a i → placeIn m a n i < memoryBytes m n
-unfolding addressIn rowOk rowPlace
+unfolding addressIn rowPlace
 place-inside Array a n i h v = mod-lt (addressSent a i) {m = arrayBytes n} (omega arith)
 place-inside Rows a n i h v =
-    let l : addressSent a i / 4096 < 4 = ltb-true _ _ (and-l _ _ v) in
+    let l : getD i (rowAt a + 1) 0 / 16 * pageBytes < rowsBytes = row-inside a i v in
     omega arith
 
 page-inside : (m : Memory) (n a : ℕ) → a < memoryBytes m n → pageBase a + pageBytes ≤ memoryBytes m n

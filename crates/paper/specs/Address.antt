@@ -1,14 +1,14 @@
 -- Addresses as sent: bytes, high byte first.
 use Prim.Native.Nat.{ℕ, _+_, _*_, _/_, _%_}
 use mathlib.Core.List.{List, [], _∷_}
-use mathlib.Core.Bool.{Bool}
+use mathlib.Core.Bool.{Bool, true}
 use lib.ListN.{getD, take, drop}
-use lib.Dec.{eqb, ltb}
+use lib.Dec.{eqb}
 use Rattle.types.specs.declared.Memory.{Memory}
 use Rattle.types.specs.declared.Memory.the-variants.{Array, Rows}
 use Rattle.types.specs.declared.Addressing.{Addressing}
 use Rattle.types.specs.declared.Addressing.the-variants.{Three, Four}
-use Rattle.words.specs.Logic.{bit, _and_}
+use Rattle.words.specs.Logic.{bit, _and_, _or_}
 use Rattle.paper.specs.Sizes.{arrayBytes, bankBytes, pageBytes}
 
 -- the number that bytes are after a number that was read before them, high byte first
@@ -42,17 +42,34 @@ addressSent g i = bankBase g + highFirst (addressBytes (addressCount g) i)
 unfoldable pub addressIn : Addressing → ℕ → List ℕ → ℕ
 addressIn g n i = addressSent g i % arrayBytes n
 
--- row addresses, as sent, are 00h, then 00h, 10h, 20h or 30h, then a byte address: below 4000h, and the low half of the byte before the last is 0. (A fourth byte before them would be 00h too.)
+-- a row address is three bytes behind the code, or behind a fourth one
+abbrev pub rowAt : Addressing → ℕ
+rowAt (Three upper) = 1
+rowAt Four = 2
+
+-- a fourth byte is 00h
+abbrev pub fourthOk : Addressing → List ℕ → Bool
+fourthOk (Three upper) i = true
+fourthOk Four i = eqb (getD i 1 0) 0x00
+
+-- the byte that names a row: 00h, 10h, 20h or 30h
+abbrev pub namesRow : ℕ → Bool
+namesRow b = eqb b 0x00 or eqb b 0x10 or eqb b 0x20 or eqb b 0x30
+
+-- row addresses, as sent, are 00h, then 00h, 10h, 20h or 30h, then a byte address
 unfoldable pub rowOk : Addressing → List ℕ → Bool
-rowOk g i = ltb (addressSent g i / 4096) 4 and eqb (addressSent g i / 256 % 16) 0
+rowOk g i =
+    fourthOk g i
+    and eqb (getD i (rowAt g) 0) 0x00
+    and namesRow (getD i (rowAt g + 1) 0)
 
 -- where the row begins that a valid row address names
 abbrev pub rowBase : Addressing → List ℕ → ℕ
-rowBase g i = addressSent g i / 4096 * pageBytes
+rowBase g i = getD i (rowAt g + 1) 0 / 16 * pageBytes
 
--- its byte address
+-- its byte address. (A byte is below 256; the remainder says so for every list.)
 abbrev pub rowByte : Addressing → List ℕ → ℕ
-rowByte g i = addressSent g i % 256
+rowByte g i = getD i (rowAt g + 2) 0 % 256
 
 -- the byte's place in the rows
 unfoldable pub rowPlace : Addressing → List ℕ → ℕ

@@ -5,7 +5,7 @@ ghost use Prim.Native.Nat.{_+_, _-_, _%_};
 ghost use lib.Dec.{eqb};
 ghost use lib.ListN.{length, getD};
 ghost use Rattle.paper.specs.Sizes.{pageBytes};
-ghost use Rattle.paper.specs.Address.{addressCount, addressSent, addressIn, rowOk, rowBase, rowByte, placeIn};
+ghost use Rattle.paper.specs.Address.{addressCount, addressSent, addressIn, rowAt, fourthOk, namesRow, rowOk, rowBase, rowByte, placeIn};
 ghost use Rattle.paper.specs.Program.{dataSent, keptCount, passedCount, pageData, programOf};
 ghost use Rattle.paper.specs.Erase.{eraseOf};
 ghost use Rattle.paper.specs.Registers.{writeOf};
@@ -50,28 +50,61 @@ pub fn address_in(form: Addressing, blocks: u16, input: &[u8]) -> usize
     a % size
 }
 
+// The place of a row address: behind the code, or behind a fourth byte.
+fn row_at(form: Addressing) -> usize
+    ensures { λ r. ⌜ r ≡ rowAt form ⌝ }
+{
+    match form {
+        Addressing::Three(_) => 1,
+        Addressing::Four => 2,
+    }
+}
+
+// Whether a fourth byte, where there is one, is 00h.
+fn fourth_ok(form: Addressing, input: &[u8]) -> bool
+    ensures { λ r. ⌜ r ≡ fourthOk form (now (input .entry)) ⌝ }
+{
+    match form {
+        Addressing::Three(_) => true,
+        Addressing::Four => byte_at(input, 1) == 0x00,
+    }
+}
+
+// Whether a byte names a row.
+fn names_row(byte: u8) -> bool
+    ensures { λ r. ⌜ r ≡ namesRow byte ⌝ }
+{
+    let row_0 = byte == 0x00;
+    let row_1 = byte == 0x10;
+    let row_2 = byte == 0x20;
+    let row_3 = byte == 0x30;
+    words::either(row_0, words::either(row_1, words::either(row_2, row_3)))
+}
+
 // Whether the address that was sent is a row address.
 pub fn row_ok(form: Addressing, input: &[u8]) -> bool
     ensures { λ r. ⌜ r ≡ rowOk form (now (input .entry)) ⌝ }
 {
-    let a = address_as_sent(form, input);
-    let row = a / 4096 < 4;
-    let low = a / 256 % 16 == 0;
-    words::both(row, low)
+    let at = row_at(form);
+    let fourth = fourth_ok(form, input);
+    let first = byte_at(input, at) == 0x00;
+    let row = names_row(byte_at(input, at + 1));
+    words::both(fourth, words::both(first, row))
 }
 
 // Where the row that was named begins.
 pub fn row_base(form: Addressing, input: &[u8]) -> usize
     ensures { λ r. ⌜ r ≡ rowBase form (now (input .entry)) ⌝ }
 {
-    address_as_sent(form, input) / 4096 * types::PAGE_BYTES
+    let named = byte_at(input, row_at(form) + 1);
+    (named as usize) / 16 * types::PAGE_BYTES
 }
 
 // The byte address in the row that was named.
 pub fn row_byte(form: Addressing, input: &[u8]) -> usize
     ensures { λ r. ⌜ r ≡ rowByte form (now (input .entry)) ⌝ }
 {
-    address_as_sent(form, input) % 256
+    byte_at(input, row_at(form) + 2) as usize
 }
 
 // The place in a memory that a transaction names.

@@ -5,7 +5,6 @@ use mathlib.Core.Bool.{Bool, true, false≢true}
 use mathlib.Core.List.{List}
 use native.Mathlib.Omega.{arith}
 use lib.ListN.{length, length-take, length-drop}
-use borrow.Author.Tests.{ltb-true}
 use Rattle.types.specs.declared.Command.{Command}
 use Rattle.types.specs.declared.Command.the-variants.{Read, FastRead, ReadStatus, ReadFunction, ReadIdentity, ReadMakerDevice, Wake, ReadRow, WriteEnable, WriteDisable, WriteStatus, WriteFunction, PageProgram, SectorErase, BlockErase32, BlockErase64, ChipErase, Suspend, Resume, Sleep, ArmReset, Reset, RowErase, RowProgram, ReadExtended, SetStored, SetLive, ClearErrors, FarRead, FarFastRead, FarPageProgram, FarPageProgramAtRest, FarSectorErase, FarBlockErase32, FarBlockErase64, ReadBank, WriteBank, EnterFar, LeaveFar}
 use Rattle.types.specs.declared.Source.{Source}
@@ -16,14 +15,14 @@ use Rattle.types.specs.declared.Work.{Work}
 use Rattle.types.specs.declared.Addressing.{Addressing}
 use Rattle.types.specs.declared.Columns.{Columns}
 use Rattle.types.specs.declared.Decoded.the-variants.{Known}
-use Rattle.words.proofs.Tests.{and-l}
 use Rattle.paper.specs.Sizes.{sizeOk, arrayBytes, rowsBytes}
-use Rattle.paper.specs.Address.{addressSent, rowOk}
+use Rattle.paper.specs.Address.{rowOk}
 use Rattle.paper.specs.Table.{columns, addressingOn, drives}
 use Rattle.paper.specs.Reads.{sourceBytes}
 use Rattle.paper.specs.Commands.{begins, begun}
 use Rattle.paper.specs.Numbers.{addressOk, commandNumber, ignoredNumber}
 use Rattle.paper.proofs.Sizes.{size-range}
+use Rattle.paper.proofs.Addresses.{row-inside}
 use Rattle.transact.specs.Shown.{HasBytes}
 
 -- what reads a row was sent a row address
@@ -41,12 +40,10 @@ Asked BankByte g i = Unit {0}
 
 module _ (p : Part) (xs rs i : List ℕ) (s : sizeOk (p .blocks) ≡ true) (array : length xs ≡ arrayBytes (p .blocks)) (rows : length rs ≡ rowsBytes) where
   some : (w : Source) (g : Addressing) → Asked w g i → drives w ≡ true → length (sourceBytes w g p xs rs i) ≡ 0 → ⊥
-  unfolding rowOk
   some None g r d z = false≢true d
   some ArrayBytes g r d z = omega (arith, size-range (p .blocks) s)
   some RowBytes g r d z =
-      let h : addressSent g i / 4096 < 4 = ltb-true _ _ (and-l _ _ r) in
-      omega (arith, simp (length-take, length-drop) at z)
+      omega (arith, row-inside g i r, simp (length-take, length-drop) at z)
   some StatusByte g r d z = omega arith
   some FunctionByte g r d z = omega arith
   some IdentityBytes g r d z = omega arith
