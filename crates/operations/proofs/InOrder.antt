@@ -15,7 +15,7 @@ use Rattle.words.proofs.Tests.{and-true}
 use Rattle.paper.specs.Sizes.{memoryBytes, pageBytes}
 use Rattle.paper.specs.Program.{pageBase}
 use Rattle.paper.specs.Erase.{memoryOf, unitPages, unitBytes, unitBase}
-use Rattle.paper.specs.Registers.{held}
+use Rattle.paper.specs.Registers.{heldByte}
 use Rattle.paper.specs.Operations.{free, unitFree}
 use Rattle.paper.specs.Soundness.{operationOk}
 
@@ -38,6 +38,6 @@ pub erase-as : (u : EraseUnit) (b d n : ℕ) (g : Stored)
 unfolding operationOk
 erase-as u b d n g = rw (and-true (ltb d (unitPages u n)))
 
-pub write-as : (r : Register) (v n : ℕ) (g : Stored) → operationOk (Write r v) n g ≡ eqb (held r v) v
+pub write-as : (r : Register) (v n : ℕ) (g : Stored) → operationOk (Write r v) n g ≡ eqb (heldByte r v) v
 unfolding operationOk _and_
 write-as r v n g = refl

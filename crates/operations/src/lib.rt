@@ -6,7 +6,7 @@ ghost use Rattle.types.specs.declared.Operation.the-variants.{Program, Erase};
 ghost use Rattle.words.specs.Logic.{_and_};
 ghost use Rattle.paper.specs.Sizes.{memoryBytes, sameMemory, fromOn};
 ghost use Rattle.paper.specs.Protection.{codeOf, wholeCode};
-ghost use Rattle.paper.specs.Registers.{held};
+ghost use Rattle.paper.specs.Registers.{heldByte};
 ghost use Rattle.paper.specs.Operations.{ticksInAll, ticksDone, free, unitFree, targetFree, memorySuspends, unitSuspends, canSuspend, inUnit, outside, outsideOf, keptBy};
 ghost use Rattle.paper.specs.Soundness.{operationOk};
 use types::EraseUnit;
@@ -83,7 +83,7 @@ pub fn can_suspend(op: Operation) -> bool
 
 // The byte that a write of a register holds: the bits that it does not store are zero.
 pub fn held_byte(register: Register, byte: u8) -> u8
-    ensures { λ r. ⌜ r ≡ held register byte ⌝ }
+    ensures { λ r. ⌜ r ≡ heldByte register byte ⌝ }
 {
     match register {
         Register::Status => byte / 4 * 4,

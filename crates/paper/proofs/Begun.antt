@@ -26,7 +26,7 @@ use Rattle.paper.specs.Sizes.{sizeOk, arrayBytes, rowsBytes, memoryBytes
 use Rattle.paper.specs.Address.{addressCount, addressSent, addressIn, rowAt, rowOk, rowPlace, placeIn}
 use Rattle.paper.specs.Program.{pageBase, pagePlace, dataSent, keptCount, passedCount, pageData, programOf}
 use Rattle.paper.specs.Erase.{memoryOf, unitPages, unitBytes, unitBase, eraseOf}
-use Rattle.paper.specs.Registers.{held, writeOf}
+use Rattle.paper.specs.Registers.{heldByte, writeOf}
 use Rattle.paper.specs.Phases.{isErase}
 use Rattle.paper.specs.Records.{settled}
 use Rattle.paper.specs.Operations.{targetFree, outside}
@@ -114,7 +114,7 @@ erase-ok u w n g i h v f =
     (record { begins = eq-eqb _ _ (unit-aligned (unitBytes u n) s a); within = le-leb _ _ e; open-target = f; going = unit-some u n h; content = refl })
 
 -- to hold a byte again changes nothing
-held-again : (r : Register) (b : ℕ) → held r (held r b) ≡ held r b
+held-again : (r : Register) (b : ℕ) → heldByte r (heldByte r b) ≡ heldByte r b
 held-again Status b = omega arith
 held-again Function b = omega arith
 held-again Extended b = omega arith

@@ -21,14 +21,14 @@ use Rattle.words.specs.Logic.{_and_}
 use Rattle.paper.specs.Sizes.{sizeOk, pageBytes}
 use Rattle.paper.specs.Protection.{codeOf, wholeCode, protectedAt, locked}
 use Rattle.paper.specs.Operations.{free, targetFree, unitFree}
-use Rattle.paper.specs.Registers.{held, TBS, storedBits, liveLoaded}
+use Rattle.paper.specs.Registers.{heldByte, TBS, storedBits, liveLoaded}
 use Rattle.paper.specs.Records.{statusLow, functionLow, registersIn, made}
 use Rattle.paper.specs.Soundness.{sleepOk, latchOk, phaseOk, operationOk, bitsOk, largeOk, partSound}
 use Rattle.paper.proofs.Records.{status-low-le, function-low-le}
 use Rattle.paper.proofs.Bits.{bits-as}
 
 -- the code and the locks go by the stored bits
-pub code-stored : (st low : ℕ) → low < 4 → codeOf (held Status st + low) ≡ codeOf st
+pub code-stored : (st low : ℕ) → low < 4 → codeOf (heldByte Status st + low) ≡ codeOf st
 code-stored st low h = omega arith
 
 pub high-half : (x k : ℕ) → x / 2 ^ (4 + k) ≡ x / 16 / 2 ^ k
@@ -44,7 +44,8 @@ module _ (f : Phase) (wel : Bool) (g : Stored) where
   pub locks-made : (k : ℕ) → locked (registersIn f wel g .function) k ≡ locked (g .function) k
   locks-made k = lock-high (registersIn f wel g .function) (g .function) k (omega (arith, function-low-le f))
 
-  tbs-made : TBS (registersIn f wel g .function) ≡ TBS (g .function)
+  -- TBS is one of them
+  pub tbs-made : TBS (registersIn f wel g .function) ≡ TBS (g .function)
   tbs-made = omega (arith, function-low-le f)
 
   code-made : codeOf (registersIn f wel g .status) ≡ codeOf (g .status)
@@ -84,14 +85,14 @@ module _ (f : Phase) (wel : Bool) (g : Stored) where
   bits-made =
       let s : statusLow f wel ≤ 3 = status-low-le f wel in
       let t : functionLow f ≤ 8 = function-low-le f in
-      rw (bits-as f wel (registersIn f wel g), eq-eqb ((held Status (g .status) + statusLow f wel) % 4) (statusLow f wel) (omega arith), eq-eqb (registersIn f wel g .function % 16) (functionLow f + 2 * TBS (registersIn f wel g .function)) (omega arith), eq-eqb (held Extended (g .extended) % 32) 0 (omega arith))
+      rw (bits-as f wel (registersIn f wel g), eq-eqb ((heldByte Status (g .status) + statusLow f wel) % 4) (statusLow f wel) (omega arith), eq-eqb (registersIn f wel g .function % 16) (functionLow f + 2 * TBS (registersIn f wel g .function)) (omega arith), eq-eqb (heldByte Extended (g .extended) % 32) 0 (omega arith))
 
   -- registers made anew of made ones
   pub registers-again : (h : Phase) (w : Bool) → registersIn h w (registersIn f wel g) ≡ registersIn h w g
   registers-again h w =
-      let s : held Status (held Status (g .status) + statusLow f wel) ≡ held Status (g .status) = omega (arith, status-low-le f wel) in
-      let t : held Function (registersIn f wel g .function) ≡ held Function (g .function) = omega (arith, function-low-le f) in
-      let u : held Extended (held Extended (g .extended)) ≡ held Extended (g .extended) = omega arith in
+      let s : heldByte Status (heldByte Status (g .status) + statusLow f wel) ≡ heldByte Status (g .status) = omega (arith, status-low-le f wel) in
+      let t : heldByte Function (registersIn f wel g .function) ≡ heldByte Function (g .function) = omega (arith, function-low-le f) in
+      let u : heldByte Extended (heldByte Extended (g .extended)) ≡ heldByte Extended (g .extended) = omega arith in
       rw (s, t, tbs-made, u)
 
   -- what the large part alone has goes by them too
@@ -103,12 +104,13 @@ module _ (f : Phase) (wel : Bool) (g : Stored) where
   pub live-again : liveLoaded (registersIn f wel g) ≡ liveLoaded g
   live-again = omega arith
 
--- and so do the stored bits alone
+-- and so do the stored bits alone, among them TBS
+pub stored-tbs : (g : Stored) → TBS (storedBits g .function) ≡ TBS (g .function)
+stored-tbs g = omega arith
+
 pub stored-large : (n : ℕ) (g : Stored) (bank : ℕ) → largeOk n (storedBits g .function) bank ≡ largeOk n (g .function) bank
 unfolding largeOk
-stored-large n g bank =
-    let t : TBS (storedBits g .function) ≡ TBS (g .function) = omega arith in
-    rw t
+stored-large n g bank = rw (stored-tbs g)
 
 pub made-sound : (p : Part) (g : Stored) (f : Phase) (wel : Bool)
     → sizeOk (p .blocks) ≡ true → sleepOk f (p .asleep) ≡ true → latchOk f wel ≡ true → phaseOk f (p .blocks) g ≡ true

@@ -42,12 +42,12 @@ addressSent g i = bankBase g + highFirst (addressBytes (addressCount g) i)
 unfoldable pub addressIn : Addressing → ℕ → List ℕ → ℕ
 addressIn g n i = addressSent g i % arrayBytes n
 
--- a row address is three bytes behind the code, or behind a fourth one
+-- the place of the three bytes of a row address: behind the code, or behind a fourth byte
 abbrev pub rowAt : Addressing → ℕ
 rowAt (Three upper) = 1
 rowAt Four = 2
 
--- a fourth byte is 00h
+-- a fourth byte before them is 00h
 abbrev pub fourthOk : Addressing → List ℕ → Bool
 fourthOk (Three upper) i = true
 fourthOk Four i = eqb (getD i 1 0) 0x00

@@ -54,14 +54,14 @@ abbrev pub BA24 : ℕ → ℕ
 BA24 bank = bitAt 0 bank
 
 -- the byte that a write holds: a status write its byte with bits 1..0 zero, a function write with bits 3..0 zero, a write of the extended read register with bits 4..0 zero
-abbrev pub held : Register → ℕ → ℕ
-held Status b = b / 4 * 4
-held Function b = b / 16 * 16
-held Extended b = b / 32 * 32
+abbrev pub heldByte : Register → ℕ → ℕ
+heldByte Status b = b / 4 * 4
+heldByte Function b = b / 16 * 16
+heldByte Extended b = b / 32 * 32
 
 -- the write that a transaction begins
 unfoldable pub writeOf : Register → List ℕ → Operation
-writeOf r i = Write r (held r (getD i 1 0))
+writeOf r i = Write r (heldByte r (getD i 1 0))
 
 -- the registers with this status and this function; what else they have stays
 abbrev pub withBytes : ℕ → ℕ → Stored → Stored
@@ -74,8 +74,8 @@ withExtended v s = record { status = s .status; function = s .function; extended
 -- the stored bits of registers, without those that other fields define
 abbrev pub storedBits : Stored → Stored
 storedBits s =
-    withBytes (held Status (s .status)) (held Function (s .function) + 2 * TBS (s .function))
-    (withExtended (held Extended (s .extended)) s)
+    withBytes (heldByte Status (s .status)) (heldByte Function (s .function) + 2 * TBS (s .function))
+    (withExtended (heldByte Extended (s .extended)) s)
 
 -- the registers after a write's tick: 01h stores bits 7..2 (the byte that it holds has the others 0); 42h may set IRL bits and never clears one, other bits are disregarded, and TBS stays; 85h stores bits 7..5
 abbrev pub registerWritten : Register → ℕ → Stored → Stored
@@ -102,15 +102,15 @@ PROT_E = 2
 
 -- its live byte: bits 7..5, and the error bits. Power-up and reset load it from the stored byte, with the error bits 0
 abbrev pub liveLoaded : Stored → ℕ
-liveLoaded s = held Extended (s .extended)
+liveLoaded s = heldByte Extended (s .extended)
 
 -- 83h sets bits 7..5 to those of a byte; the error bits stay
 abbrev pub liveSet : ℕ → ℕ → ℕ
-liveSet b live = held Extended b + live % 32
+liveSet b live = heldByte Extended b + live % 32
 
 -- 82h clears the error bits; bits 7..5 stay
 abbrev pub liveCleared : ℕ → ℕ
-liveCleared live = held Extended live
+liveCleared live = heldByte Extended live
 
 -- error bits are set, and those that were set stay
 abbrev pub liveFailed : ℕ → ℕ → ℕ
@@ -118,7 +118,7 @@ liveFailed errors live = bitOr live errors
 
 -- what 81h reads, of the live byte and of the status register: bits 7..5 and the error bits of the live byte; bit 4 reads 1; bit 0 is WIP, as in status
 abbrev pub extendedRead : ℕ → ℕ → ℕ
-extendedRead live status = held Extended live + 16 + live / 2 % 8 * 2 + status % 2
+extendedRead live status = heldByte Extended live + 16 + live / 2 % 8 * 2 + status % 2
 
 -- the bank address register is 00h after power-up and reset
 abbrev pub bankLoaded : ℕ

@@ -16,7 +16,7 @@ use Rattle.words.specs.Lists.{allZero}
 use Rattle.paper.specs.Sizes.{isLarge, sizeOk, pageBytes}
 use Rattle.paper.specs.Phases.{isProgram, isErase, isIdle}
 use Rattle.paper.specs.Records.{wip, esus, psus}
-use Rattle.paper.specs.Registers.{bitAt, bitsAt, WEL, WIP, ESUS, PSUS, TBS, held}
+use Rattle.paper.specs.Registers.{bitAt, bitsAt, WEL, WIP, ESUS, PSUS, TBS, heldByte}
 use Rattle.paper.specs.Operations.{ticksInAll, ticksDone, aligned, inside, targetFree, canSuspend, outside, keptBy}
 
 -- asleep only if idle
@@ -34,7 +34,7 @@ latchOk (Nested o e) wel = wel
 abbrev pub contentOk : Operation → Bool
 contentOk (Program m s b k d) = leb 1 k and leb k pageBytes and ltb s pageBytes
 contentOk (Erase u b d) = true
-contentOk (Write r v) = eqb (held r v) v
+contentOk (Write r v) = eqb (heldByte r v) v
 
 -- the operation's target is aligned, inside the part and unprotected or unlocked under the record's registers; CER only with a BP code of 0; ticks done are fewer than its ticks in all
 unfoldable pub operationOk : Operation → ℕ → Stored → Bool

@@ -146,10 +146,10 @@ pub fn protected_blocks(code: u64, blocks: u64) -> Blocks
 }
 
 // Whether a block is one of these blocks. (The difference wraps for a block below the first, and is then above every count.)
-pub fn is_among(held: Blocks, block: usize) -> bool
-    ensures { λ r. ⌜ r ≡ among held block ⌝ }
+pub fn is_among(blocks: Blocks, block: usize) -> bool
+    ensures { λ r. ⌜ r ≡ among blocks block ⌝ }
 {
-    std::num::wrapping_sub_usize(block, held.first as usize) < (held.count as usize)
+    std::num::wrapping_sub_usize(block, blocks.first as usize) < (blocks.count as usize)
 }
 
 // Whether a row is locked under a function register. A row that the part does not have is not.

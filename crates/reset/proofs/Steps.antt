@@ -18,7 +18,7 @@ use Rattle.types.specs.declared.Answer.{Answer}
 use Rattle.types.specs.declared.Record.{Record}
 use Rattle.words.specs.Logic.{_and_, _or_, unless, _orElse_}
 use Rattle.paper.specs.Sizes.{sizeOk}
-use Rattle.paper.specs.Registers.{held, TBS, storedBits, bankLoaded}
+use Rattle.paper.specs.Registers.{heldByte, TBS, storedBits, bankLoaded}
 use Rattle.paper.specs.Phases.{isBusy}
 use Rattle.paper.specs.Records.{marked, fresh}
 use Rattle.paper.specs.Soundness.{sleepOk, sound, largeOk}
@@ -73,11 +73,11 @@ pub powered-as : (n : ℕ) (id : Identity) (g : Stored) → sizeOk n ≡ true �
 unfolding poweredUp powerUpNumber _and_ unless _orElse_
 powered-as n id g h l =
     let fn = storedBits g .function in
-    let a : held Status (g .status) % 4 ≡ 0 = omega arith in
+    let a : heldByte Status (g .status) % 4 ≡ 0 = omega arith in
     let b : eqb (fn % 16) (0 + 2 * TBS fn) ≡ true = eq-eqb (fn % 16) (0 + 2 * TBS fn) (omega arith) in
-    let c : held Status (held Status (g .status)) ≡ held Status (g .status) = omega arith in
-    let d : held Function fn ≡ held Function (g .function) = omega arith in
+    let c : heldByte Status (heldByte Status (g .status)) ≡ heldByte Status (g .status) = omega arith in
+    let d : heldByte Function fn ≡ heldByte Function (g .function) = omega arith in
     let t : TBS fn ≡ TBS (g .function) = omega arith in
-    let e : held Extended (g .extended) % 32 ≡ 0 = omega arith in
-    let f : held Extended (held Extended (g .extended)) ≡ held Extended (g .extended) = omega arith in
+    let e : heldByte Extended (g .extended) % 32 ≡ 0 = omega arith in
+    let f : heldByte Extended (heldByte Extended (g .extended)) ≡ heldByte Extended (g .extended) = omega arith in
     rw (h, given-as n (storedBits g), bits-as Idle false (storedBits g), stored-large n g bankLoaded ∙ l, a, b, c, d, t, e, f)

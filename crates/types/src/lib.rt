@@ -142,17 +142,23 @@ pub enum Data {
     Zero,
 }
 
-// What a call makes of a record: the same; the same but for the armed mark; unarmed, and the same but for the live byte;
-// or the part anew. With it what runs and page data may become so, and what is suspended stay as it was; what runs may
-// be suspended; what is suspended may go on; or both are dropped, and page data is zero.
+// What a call makes of a record.
 pub enum Change {
+    // The record stays as it was.
     Same,
+    // The armed mark becomes so; all else stays.
     Marked(bool),
+    // The part is unarmed, and the live byte becomes so; all else stays.
     Live(u8),
+    // The part becomes this one; what runs, what is suspended and page data stay.
     Anew(Part),
+    // The part becomes this one, page data what is said of it, and what runs this work; what is suspended stays.
     Runs(Part, Data, Work),
+    // The part becomes this one, and what runs is suspended; page data stays.
     Halts(Part),
+    // The part becomes this one, and what is suspended goes on; page data stays.
     GoesOn(Part),
+    // The part becomes this one, what runs and what is suspended are dropped, and page data becomes zero.
     Clears(Part),
 }
 
