@@ -1,11 +1,10 @@
 -- What power-up and ticks keep: the record that power-up gives is sound and, not refused, as asked; ticks keep a record sound and its size; at most as many ticks do work as are asked.
-use Prim.Native.Nat.{ℕ, zero, suc, _+_, _*_, _/_, _≤_, _<_}
+use Prim.Native.Nat.{ℕ, zero, suc, _+_, _≤_, _<_}
 use mathlib.Core.Path.{_≡_, refl, sym, ap, _∙_, subst}
 use mathlib.Core.Bool.{Bool, true, false, cond, false≢true}
 use mathlib.Core.List.{List}
 use native.Mathlib.Omega.{arith}
 use lib.ListN.{drop}
-use lib.Bits.{bitOr}
 use lib.Dec.{eqb, ltb}
 use borrow.Author.Tests.{eqb-true, eqb-false, ltb-true}
 use Rattle.types.specs.declared.Operation.{Operation}
@@ -111,16 +110,17 @@ program-stores (Program m s b k d) g e = refl
 program-stores (Erase u b d) g e = refl
 program-stores (Write r v) g e = absurd (false≢true e)
 
--- no register write changes TBS
+-- no last tick, and so no register write, changes TBS
+pub after-tbs : (o : Operation) (g : Stored) → TBS (storedAfter o g .function) ≡ TBS (g .function)
+after-tbs (Program m s b k d) g = refl
+after-tbs (Erase u b d) g = refl
+after-tbs (Write Status v) g = refl
+after-tbs (Write Function v) g = omega arith
+after-tbs (Write Extended v) g = refl
+
 after-large : (o : Operation) (n : ℕ) (g : Stored) (bank : ℕ) → largeOk n (storedAfter o g .function) bank ≡ largeOk n (g .function) bank
 unfolding largeOk
-after-large (Program m s b k d) n g bank = refl
-after-large (Erase u b d) n g bank = refl
-after-large (Write Status v) n g bank = refl
-after-large (Write Function v) n g bank =
-    let z : TBS (bitOr (g .function / 16) (v / 16) * 16 + 2 * TBS (g .function)) ≡ TBS (g .function) = omega arith in
-    rw z
-after-large (Write Extended v) n g bank = refl
+after-large o n g bank = rw (after-tbs o g)
 
 erase-keeps : (o : Operation) → isErase o ≡ true → keptBy o ≡ 0
 erase-keeps (Program m s b k d) e = absurd (false≢true e)
