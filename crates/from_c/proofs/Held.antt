@@ -15,7 +15,7 @@ use Rattle.paper.specs.Calls.{transacted, transactedOutput, ticked, tickedMemor
 use Rattle.paper.proofs.Numbers.{transaction-taken}
 use Rattle.record_bytes.specs.Layout.{recordBytes}
 use Rattle.record_bytes.specs.Read.{held, recordIn}
-use Rattle.yawlspar.specs.Face.{packed, transactAnswer, transactBytes, transactOutput, tickAnswer, tickBytes, tickMemory}
+use Rattle.yawlspar.specs.Face.{packed, onHeld, transactAnswer, transactBytes, transactOutput, tickAnswer, tickBytes, tickMemory}
 use Rattle.yawlspar.proofs.Face.{unheld-bytes, unheld-tick-bytes, unheld-memory}
 use Rattle.yawlspar.proofs.Refused.{refused-bytes}
 use Rattle.from_c.specs.Driven.{Lent, lent, CCall, transact, tick, gives}
@@ -28,15 +28,15 @@ module _ (l : Lent) (p : Record) (e : recordIn (l .bytes) ≡ held p) where
     answered = transacted p (length (l .array)) (length (l .rows)) (eqb wp 1) i (length o)
 
     pub held-answer : gives (transact wp i o) l .answer ≡ packed (answered .number) (answered .first)
-    unfolding transactAnswer transacted
+    unfolding onHeld transactAnswer transacted
     held-answer = rw (e, level, and-true (sound p)) refl
 
     pub held-transacted : gives (transact wp i o) l .left .bytes ≡ recordBytes (answered .next)
-    unfolding transactBytes transacted
+    unfolding onHeld transactBytes transacted
     held-transacted = rw (e, level, and-true (sound p)) refl
 
     pub held-output : gives (transact wp i o) l .buffers ≡ transactedOutput p (l .array) (l .rows) (eqb wp 1) i o ∷ []
-    unfolding transactOutput
+    unfolding onHeld transactOutput
     held-output = rw (e, level, and-true (sound p)) refl
 
   -- ticks
@@ -45,19 +45,19 @@ module _ (l : Lent) (p : Record) (e : recordIn (l .bytes) ≡ held p) where
     ran = ticked p (length (l .array)) (length (l .rows)) n
 
     pub held-ticks-answer : gives (tick n) l .answer ≡ packed (ran .number) (ran .done)
-    unfolding tickAnswer
+    unfolding onHeld tickAnswer
     held-ticks-answer = rw e refl
 
     pub held-ticked : gives (tick n) l .left .bytes ≡ recordBytes (ran .next)
-    unfolding tickBytes
+    unfolding onHeld tickBytes
     held-ticked = rw e refl
 
     pub held-array : gives (tick n) l .left .array ≡ tickedMemory Array p (length (l .array)) (length (l .rows)) n (l .array)
-    unfolding tickMemory
+    unfolding onHeld tickMemory
     held-array = rw e refl
 
     pub held-rows : gives (tick n) l .left .rows ≡ tickedMemory Rows p (length (l .array)) (length (l .rows)) n (l .rows)
-    unfolding tickMemory
+    unfolding onHeld tickMemory
     held-rows = rw e refl
 
 -- a transaction whose level is none changes nothing

@@ -81,12 +81,7 @@ fn outer_ok(phase: Phase, blocks: u16, stored: Stored) -> bool
         Phase::Idle => true,
         Phase::Busy(_) => true,
         Phase::Suspended(_) => true,
-        Phase::Nested(inner, outer) => {
-            // copied here, so that a phase that is not nested is not put into memory for this call
-            let beneath = outer;
-            let within = inner;
-            nested_ok(beneath, within, blocks, stored)
-        }
+        Phase::Nested(inner, outer) => { nested_ok(outer, inner, blocks, stored) }
     }
 }
 
@@ -130,17 +125,6 @@ fn is_sound_part(size: bool, part: Part, phase: Phase) -> bool
     )
 }
 
-// Whether page data is zero from a place on. Where that is its start, its bytes are looked at in a row whose length a
-// caller may know.
-fn is_zero_from(page: &[u8], from: usize) -> bool
-    ensures { λ r. ⌜ r ≡ allZero (drop from (now (page .entry))) ⌝ }
-{
-    if from == 0 {
-        return runs::zero_from(page, 0);
-    }
-    runs::zero_from(page, from)
-}
-
 // Whether an idle part is sound, whose size was tested, and which has no page data: the tests that are not met by being
 // idle.
 fn is_sound_idle(size: bool, part: Part, empty: bool) -> bool
@@ -162,7 +146,7 @@ pub fn is_sound_told(part: Part, phase: Phase, empty: bool, page: &[u8]) -> bool
         return is_sound_idle(size, part, empty);
     }
     let whole = is_sound_part(size, part, phase);
-    let kept = is_zero_from(page, kept_in(phase));
+    let kept = runs::zero_from(page, kept_in(phase));
     words::both(whole, kept)
 }
 
@@ -187,7 +171,7 @@ pub fn is_sound_any(part: Part, phase: Phase, page: &[u8]) -> bool
             words::both(latch, words::both(operation, registers)),
         ),
     );
-    let zero_after = is_zero_from(page, kept_in(phase));
+    let zero_after = runs::zero_from(page, kept_in(phase));
     words::both(whole, zero_after)
 }
 

@@ -118,8 +118,8 @@ pub struct Part {
     pub wel: bool,
     pub armed: bool,
     pub asleep: bool,
-    pub bank: u8,
     pub live: u8,
+    pub bank: u8,
 }
 
 // The record of a part: what it is, what it does, and the 256 bytes of page data.

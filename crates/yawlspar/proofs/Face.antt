@@ -23,6 +23,7 @@ use Rattle.paper.specs.Soundness.{sound}
 use Rattle.paper.specs.Registers.{withBytes, withExtended}
 use Rattle.paper.specs.Program.{noData}
 use Rattle.paper.specs.Records.{fresh}
+use Rattle.paper.specs.Commands.{changed}
 use Rattle.paper.specs.Numbers.{powerUpNumber, rowsNumber, soundNumber, laterRefusal}
 use Rattle.paper.specs.Calls.{noStored, zeroRecord, poweredUp, outcomeOf, outputAfter, ticked, tickedMemory}
 use Rattle.paper.proofs.Sizes.{size-range, limit-range}
@@ -35,40 +36,42 @@ use Rattle.record_bytes.specs.Layout.{headerLength, recordLength, recordBytes, 
 use Rattle.record_bytes.specs.Read.{Held, recordIn, found}
 use Rattle.record_bytes.proofs.Back.{held-length, held-state}
 use Rattle.record_bytes.proofs.Changed.{held-changed}
-use Rattle.yawlspar.specs.Face.{packed, Asked, givenNumber, identityOf, registersOf, upOf, upNumber, powerUpBytes, onHeld, heldOutcome, transactAnswer, transactBytes, transactOutput, tickAnswer, tickBytes, tickMemory}
+use Rattle.yawlspar.specs.Face.{packed, Asked, givenNumber, identityOf, registersOf, upOf, upNumber, powerUpBytes, onHeld, outcomeAt, transactAnswer, transactBytes, transactOutput, tickAnswer, tickBytes, tickMemory}
 
--- what a call makes of bytes that hold no record, and of bytes that hold one
+-- what a call makes of bytes that hold none, and of bytes that hold a record
 pub on-none : {A : Type 0} (h : Held) (call : Record → A) (none : A) → h .ok ≡ false → onHeld h call none ≡ none
+unfolding onHeld
 on-none h call none e = rw e refl
 
 pub on-held : {A : Type 0} (h : Held) (call : Record → A) (none : A) → h .ok ≡ true → onHeld h call none ≡ call (h .state)
+unfolding onHeld
 on-held h call none e = rw e refl
 
 -- no record held
 module _ (h : Held) (e : h .ok ≡ false) where
   pub unheld-answer : (a r wp : ℕ) (i : List ℕ) (o : ℕ) → packed (laterRefusal false r (length i) o) 0 ≡ transactAnswer h a r wp i o
   unfolding transactAnswer
-  unheld-answer a r wp i o = rw e
+  unheld-answer a r wp i o = rw (on-none h _ _ e)
 
   pub unheld-bytes : (a r wp : ℕ) (i : List ℕ) (o : ℕ) (bs : List ℕ) → bs ≡ transactBytes h a r wp i o bs
   unfolding transactBytes
-  unheld-bytes a r wp i o bs = rw e
+  unheld-bytes a r wp i o bs = sym (on-none h _ bs e)
 
   pub unheld-output : (xs rs : List ℕ) (wp : ℕ) (i o : List ℕ) → o ≡ transactOutput h xs rs wp i o
   unfolding transactOutput
-  unheld-output xs rs wp i o = rw e
+  unheld-output xs rs wp i o = sym (on-none h _ o e)
 
   pub unheld-tick-answer : (a r n : ℕ) → packed (rowsNumber r orElse 5) 0 ≡ tickAnswer h a r n
   unfolding tickAnswer soundNumber unless
-  unheld-tick-answer a r n = rw e
+  unheld-tick-answer a r n = rw (on-none h (λ p. ticked p a r n) (record { next = h .state; number = rowsNumber r orElse 5; done = 0 }) e)
 
   pub unheld-tick-bytes : (a r n : ℕ) (bs : List ℕ) → bs ≡ tickBytes h a r n bs
   unfolding tickBytes
-  unheld-tick-bytes a r n bs = rw e
+  unheld-tick-bytes a r n bs = sym (on-none h _ bs e)
 
   pub unheld-memory : (m : Memory) (a r n : ℕ) (xs : List ℕ) → xs ≡ tickMemory m h a r n xs
   unfolding tickMemory
-  unheld-memory m a r n xs = rw e
+  unheld-memory m a r n xs = sym (on-none h _ xs e)
 
 -- a record held: what was found, and how its page data is lent
 module _ (bs : List ℕ) (e : recordIn bs .ok ≡ true) (x : Found) (ex : x ≡ found (recordIn bs)) where
@@ -84,20 +87,20 @@ module _ (bs : List ℕ) (e : recordIn bs .ok ≡ true) (x : Found) (ex : x ≡ 
     sound-told = et ∙ rw (es, ex, held-state bs e)
 
     module _ (a r : ℕ) (i : List ℕ) (o : ℕ) (u : Outcome) (eu : u ≡ outcomeOf (x .part) (x .phase) t a r (eqb wp 1) i o) where
-      told : u ≡ heldOutcome (recordIn bs) a r wp i o
-      told = eu ∙ rw (sound-told, ex, e)
+      told : u ≡ outcomeAt held a r wp i o
+      told = eu ∙ rw (sound-told, ex)
 
       pub told-answer : packed (u .number) (u .first) ≡ transactAnswer (recordIn bs) a r wp i o
       unfolding transactAnswer
-      told-answer = ap (λ (y : Outcome). packed (y .number) (y .first)) told
+      told-answer = ap (λ (y : Outcome). packed (y .number) (y .first)) (told ∙ sym (on-held (recordIn bs) (λ p. outcomeAt p a r wp i o) _ e))
 
       pub told-bytes : changeWritten (u .change) i bs ≡ transactBytes (recordIn bs) a r wp i o bs
       unfolding transactBytes
-      told-bytes = held-changed (u .change) i bs e ∙ rw (told, e)
+      told-bytes = held-changed (u .change) i bs e ∙ ap (λ (y : Outcome). recordBytes (changed (y .change) i held)) told ∙ sym (on-held (recordIn bs) _ bs e)
 
     pub told-output : (xs rs i o y : List ℕ) → y ≡ outputAfter (x .part) (x .phase) t xs rs (eqb wp 1) i o → y ≡ transactOutput (recordIn bs) xs rs wp i o
     unfolding transactOutput
-    told-output xs rs i o y ey = ey ∙ rw (sound-told, ex, e)
+    told-output xs rs i o y ey = ey ∙ rw (sound-told, ex) (sym (on-held (recordIn bs) _ o e))
 
   -- ticks
   abbrev whole : Record
@@ -118,16 +121,16 @@ module _ (bs : List ℕ) (e : recordIn bs .ok ≡ true) (x : Found) (ex : x ≡ 
 
       pub tick-answer : packed (u .number) (u .done) ≡ tickAnswer (recordIn bs) a r n
       unfolding tickAnswer
-      tick-answer = rw e (ap (λ (y : Ticked). packed (y .number) (y .done)) ticks-told)
+      tick-answer = ap (λ (y : Ticked). packed (y .number) (y .done)) (ticks-told ∙ sym (on-held (recordIn bs) (λ p. ticked p a r n) _ e))
 
       pub tick-bytes : changeWritten (u .change) [] bs ≡ tickBytes (recordIn bs) a r n bs
       unfolding tickBytes
-      tick-bytes = held-changed (u .change) [] bs e ∙ rw e (ap (λ (y : Ticked). recordBytes (y .next)) ticks-told)
+      tick-bytes = held-changed (u .change) [] bs e ∙ ap (λ (y : Ticked). recordBytes (y .next)) ticks-told ∙ sym (on-held (recordIn bs) _ bs e)
 
     pub tick-memory : (m : Memory) (xs y : List ℕ) → y ≡ waitedMemory m (x .part) (x .phase) lent a r n xs → y ≡ tickMemory m (recordIn bs) a r n xs
     unfolding tickMemory
     tick-memory m xs y ey =
-        ey ∙ rw (ex, e) (memory-told whole lent-length a r n m xs ∙ ap (λ (q : Record). tickedMemory m q a r n xs) (held-state bs e))
+        ey ∙ rw ex (memory-told whole lent-length a r n m xs ∙ ap (λ (q : Record). tickedMemory m q a r n xs) (held-state bs e)) ∙ sym (on-held (recordIn bs) _ xs e)
 
 -- power-up: what the numbers that it can take are
 pub record Given (l : ℕ) (q : Asked) : Type 0 where

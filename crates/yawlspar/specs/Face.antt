@@ -81,14 +81,16 @@ abbrev pub powerUpBytes : Asked → List ℕ → List ℕ
 powerUpBytes q bs = whenZero (upNumber (length bs) q) (recordBytes (upOf q .next)) bs
 
 -- what a call makes of bytes that hold a record, and of bytes that hold none
-abbrev pub onHeld : {A : Type 0} → Held → (Record → A) → A → A
+unfoldable pub onHeld : {A : Type 0} → Held → (Record → A) → A → A
 onHeld h call none = cond (h .ok) (call (h .state)) none
 
--- a transaction on what bytes hold, with WP# low for 0 and high for 1; another level counts as an unsound record does. Where they hold no record there is no size for 1 to judge, and it is 2, 3, 4 or 5
+-- a transaction on a record, with WP# low for 0 and high for 1; another level counts as an unsound record does
+abbrev pub outcomeAt : Record → ℕ → ℕ → ℕ → List ℕ → ℕ → Outcome
+outcomeAt p a r wp i o = outcomeOf (p .part) (p .phase) (sound p and leb wp 1) a r (eqb wp 1) i o
+
+-- on what bytes hold: where they hold no record there is no size for 1 to judge, and it is 2, 3, 4 or 5
 abbrev pub heldOutcome : Held → ℕ → ℕ → ℕ → List ℕ → ℕ → Outcome
-heldOutcome h a r wp i o =
-    onHeld h (λ p. outcomeOf (p .part) (p .phase) (sound p and leb wp 1) a r (eqb wp 1) i o)
-    (refused (laterRefusal false r (length i) o))
+heldOutcome h a r wp i o = onHeld h (λ p. outcomeAt p a r wp i o) (refused (laterRefusal false r (length i) o))
 
 -- its number and first driven place
 unfoldable pub transactAnswer : Held → ℕ → ℕ → ℕ → List ℕ → ℕ → ℕ
@@ -96,7 +98,7 @@ transactAnswer h a r wp i o = packed (heldOutcome h a r wp i o .number) (heldOut
 
 -- the record's bytes after it: the next record's; where none was held, as they were
 unfoldable pub transactBytes : Held → ℕ → ℕ → ℕ → List ℕ → ℕ → List ℕ → List ℕ
-transactBytes h a r wp i o bs = onHeld h (λ p. recordBytes (changed (heldOutcome h a r wp i o .change) i p)) bs
+transactBytes h a r wp i o bs = onHeld h (λ p. recordBytes (changed (outcomeAt p a r wp i o .change) i p)) bs
 
 -- its output: a refusal writes nothing
 unfoldable pub transactOutput : Held → List ℕ → List ℕ → ℕ → List ℕ → List ℕ → List ℕ
@@ -115,7 +117,7 @@ tickAnswer h a r n = packed (heldTicks h a r n .number) (heldTicks h a r n .done
 
 -- the record's bytes after them
 unfoldable pub tickBytes : Held → ℕ → ℕ → ℕ → List ℕ → List ℕ
-tickBytes h a r n bs = onHeld h (λ p. recordBytes (heldTicks h a r n .next)) bs
+tickBytes h a r n bs = onHeld h (λ p. recordBytes (ticked p a r n .next)) bs
 
 -- a memory's bytes after them: a refusal writes nothing
 unfoldable pub tickMemory : Memory → Held → ℕ → ℕ → ℕ → List ℕ → List ℕ

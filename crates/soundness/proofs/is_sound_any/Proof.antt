@@ -53,8 +53,8 @@ both-requires-5 c κs = search needs
 kept-in-requires : tie.Need-kept-in-requires
 kept-in-requires c κs = search needs
 
-is-zero-from-requires : tie.Need-is-zero-from-requires
-is-zero-from-requires c κs = search needs
+zero-from-requires : tie.Need-zero-from-requires
+zero-from-requires c κs = search needs
 
 both-requires-6 : tie.Need-both-requires-6
 both-requires-6 c κs = search needs
@@ -63,7 +63,7 @@ returns : tie.Need-returns
 unfolding sound partSound pageOk
 returns c =
     let a = c .before .before .before .before .before .before .before .before .before .before .before .before .before .before .before .before .before .before .before .before .before .args in
-    rw (c .both6 .ensures, c .before .is-zero-from .ensures, c .before .before .kept-in .ensures, c .before .before .before .both5 .ensures, c .before .before .before .before .both4 .ensures, c .before .before .before .before .before .both3 .ensures, c .before .before .before .before .before .before .both2 .ensures, c .before .before .before .before .before .before .before .both .ensures, c .before .before .before .before .before .before .before .before .registers-ok .ensures, c .before .before .before .before .before .before .before .before .before .work-ok .ensures, c .before .before .before .before .before .before .before .before .before .before .is-suspended .ensures, c .before .before .before .before .before .before .before .before .before .before .before .work-in .ensures, c .before .before .before .before .before .before .before .before .before .before .before .before .outer-ok .ensures, c .before .before .before .before .before .before .before .before .before .before .before .before .before .latch-ok .ensures, c .before .before .before .before .before .before .before .before .before .before .before .before .before .before .either .ensures, c .before .before .before .before .before .before .before .before .before .before .before .before .before .before .before .before .is-idle .ensures, c .before .before .before .before .before .before .before .before .before .before .before .before .before .before .before .before .before .size-ok .ensures, phase-ok-as (a .phase) (a .part .blocks) (a .part .stored))
+    rw (c .both6 .ensures, c .before .zero-from .ensures, c .before .before .kept-in .ensures, c .before .before .before .both5 .ensures, c .before .before .before .before .both4 .ensures, c .before .before .before .before .before .both3 .ensures, c .before .before .before .before .before .before .both2 .ensures, c .before .before .before .before .before .before .before .both .ensures, c .before .before .before .before .before .before .before .before .registers-ok .ensures, c .before .before .before .before .before .before .before .before .before .work-ok .ensures, c .before .before .before .before .before .before .before .before .before .before .is-suspended .ensures, c .before .before .before .before .before .before .before .before .before .before .before .work-in .ensures, c .before .before .before .before .before .before .before .before .before .before .before .before .outer-ok .ensures, c .before .before .before .before .before .before .before .before .before .before .before .before .before .latch-ok .ensures, c .before .before .before .before .before .before .before .before .before .before .before .before .before .before .either .ensures, c .before .before .before .before .before .before .before .before .before .before .before .before .before .before .before .before .is-idle .ensures, c .before .before .before .before .before .before .before .before .before .before .before .before .before .before .before .before .before .size-ok .ensures, phase-ok-as (a .phase) (a .part .blocks) (a .part .stored))
 
 pub is-sound-any-spec : {M : Type 1} → statement M
 is-sound-any-spec =
@@ -85,6 +85,6 @@ is-sound-any-spec =
     both-requires-4
     both-requires-5
     kept-in-requires
-    is-zero-from-requires
+    zero-from-requires
     both-requires-6
     returns)

@@ -33,15 +33,15 @@ is-sound-part-requires c κs = search needs
 kept-in-requires : tie.Need-kept-in-requires
 kept-in-requires c κs = search needs
 
-is-zero-from-requires : tie.Need-is-zero-from-requires
-is-zero-from-requires c κs = search needs
+zero-from-requires : tie.Need-zero-from-requires
+zero-from-requires c κs = search needs
 
 both-requires : tie.Need-both-requires
 both-requires c κs = search needs
 
 returns-2 : tie.Need-returns-2
 unfolding soundTold pageOk
-returns-2 c = rw (c .both .ensures, c .before .is-zero-from .ensures, c .before .before .kept-in .ensures, c .before .before .before .is-sound-part .ensures, sym (c .before .before .before .before .before .is-idle .ensures) ∙ c .before .before .before .before .if1 .left)
+returns-2 c = rw (c .both .ensures, c .before .zero-from .ensures, c .before .before .kept-in .ensures, c .before .before .before .is-sound-part .ensures, sym (c .before .before .before .before .before .is-idle .ensures) ∙ c .before .before .before .before .if1 .left)
 
 pub is-sound-told-spec : {M : Type 1} → statement M
 is-sound-told-spec =
@@ -54,6 +54,6 @@ is-sound-told-spec =
     returns
     is-sound-part-requires
     kept-in-requires
-    is-zero-from-requires
+    zero-from-requires
     both-requires
     returns-2)
