@@ -1,3 +1,2 @@
 pub mod IdleSound
-pub mod PhaseOk
 pub mod Tight

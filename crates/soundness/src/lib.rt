@@ -1,13 +1,11 @@
 // When a record is sound.
 ghost use mathlib.Core.Path.{_≡_};
-ghost use lib.ListN.{drop};
 ghost use Rattle.types.specs.declared.Phase.the-variants.{Idle};
 ghost use Rattle.words.specs.Logic.{_and_};
-ghost use Rattle.words.specs.Lists.{allZero};
 ghost use Rattle.paper.specs.Sizes.{sizeOk};
-ghost use Rattle.paper.specs.Soundness.{latchOk, nestOk, operationOk, bitsOk, largeOk, keptIn, partSound, sound};
+ghost use Rattle.paper.specs.Soundness.{latchOk, nestOk, phaseOk, bitsOk, largeOk, keptIn, partSound, sound};
 ghost use Rattle.paper.proofs.Soundness.{recordOf};
-ghost use Rattle.soundness.specs.Judged.{workIn, workOk, outerOk, soundTold};
+ghost use Rattle.soundness.specs.Judged.{soundTold};
 use types::Operation;
 use types::Part;
 use types::Phase;
@@ -26,30 +24,6 @@ fn latch_ok(phase: Phase, wel: bool) -> bool
     }
 }
 
-// What a part is busy with, or suspended from.
-fn work_in(phase: Phase) -> Work
-    ensures { λ r. ⌜ r ≡ workIn phase ⌝ }
-{
-    match phase {
-        Phase::Idle => Work::NoWork,
-        Phase::Busy(op) => Work::At(op),
-        Phase::Suspended(op) => Work::At(op),
-        Phase::Nested(inner, _) => Work::At(inner),
-    }
-}
-
-fn work_ok(work: Work, suspended: bool, blocks: u16, stored: Stored) -> bool
-    ensures { λ r. ⌜ r ≡ workOk work suspended blocks stored ⌝ }
-{
-    match work {
-        Work::NoWork => true,
-        Work::At(op) => {
-            let halts = words::either(!suspended, operations::can_suspend(op));
-            words::both(halts, operations::operation_ok(op, blocks, stored))
-        }
-    }
-}
-
 // Whether a program may run within a suspended erase.
 fn nest_ok(outer: Operation, inner: Operation, blocks: u16) -> bool
     ensures { λ r. ⌜ r ≡ nestOk outer inner blocks ⌝ }
@@ -65,23 +39,23 @@ fn nest_ok(outer: Operation, inner: Operation, blocks: u16) -> bool
     )
 }
 
-// Whether it may, and a part can be suspended from the erase.
-fn nested_ok(outer: Operation, inner: Operation, blocks: u16, stored: Stored) -> bool
-    ensures { λ r. ⌜ r ≡ (nestOk outer inner blocks and operationOk outer blocks stored) ⌝ }
-{
-    let nests = nest_ok(outer, inner, blocks);
-    words::both(nests, operations::operation_ok(outer, blocks, stored))
-}
-
-// The same of a phase, where a program runs so.
-fn outer_ok(phase: Phase, blocks: u16, stored: Stored) -> bool
-    ensures { λ r. ⌜ r ≡ outerOk phase blocks stored ⌝ }
+// Whether a part can be in a phase: what it is busy with or suspended from is in order.
+fn phase_ok(phase: Phase, blocks: u16, stored: Stored) -> bool
+    ensures { λ r. ⌜ r ≡ phaseOk phase blocks stored ⌝ }
 {
     match phase {
         Phase::Idle => true,
-        Phase::Busy(_) => true,
-        Phase::Suspended(_) => true,
-        Phase::Nested(inner, outer) => { nested_ok(outer, inner, blocks, stored) }
+        Phase::Busy(op) => operations::operation_ok(op, blocks, stored),
+        Phase::Suspended(op) => {
+            let halts = operations::can_suspend(op);
+            words::both(halts, operations::operation_ok(op, blocks, stored))
+        }
+        Phase::Nested(inner, outer) => {
+            let nests = nest_ok(outer, inner, blocks);
+            let beneath = operations::operation_ok(outer, blocks, stored);
+            let within = operations::operation_ok(inner, blocks, stored);
+            words::both(nests, words::both(beneath, within))
+        }
     }
 }
 
@@ -114,11 +88,8 @@ fn is_sound_part(size: bool, part: Part, phase: Phase) -> bool
     let stored = part.stored;
     let sleep = words::either(phases::is_idle(phase), !part.asleep);
     let latch = latch_ok(phase, part.wel);
-    let outer = outer_ok(phase, part.blocks, stored);
-    let work = work_in(phase);
-    let own = work_ok(work, phases::is_suspended(phase), part.blocks, stored);
+    let operation = phase_ok(phase, part.blocks, stored);
     let registers = registers_ok(part, phase);
-    let operation = words::both(outer, own);
     words::both(
         size,
         words::both(sleep, words::both(latch, words::both(operation, registers))),
@@ -159,11 +130,8 @@ pub fn is_sound_any(part: Part, phase: Phase, page: &[u8]) -> bool
     let size = sizes::size_ok(part.blocks as u64);
     let rested = words::either(phases::is_idle(phase), !part.asleep);
     let latch = latch_ok(phase, part.wel);
-    let outer = outer_ok(phase, part.blocks, stored);
-    let work = work_in(phase);
-    let own = work_ok(work, phases::is_suspended(phase), part.blocks, stored);
+    let operation = phase_ok(phase, part.blocks, stored);
     let registers = registers_ok(part, phase);
-    let operation = words::both(outer, own);
     let whole = words::both(
         size,
         words::both(

@@ -1,5 +1,4 @@
--- `soundness::is_sound_part` meets its contract: it joins the tests as the definition does, those of the phase by what it is at.
-use Rattle.soundness.proofs.PhaseOk.{phase-ok-as}
+-- `soundness::is_sound_part` meets its contract: it joins the tests as the definition does.
 use Rattle.paper.specs.Soundness.{partSound}
 use borrow.Author.Needs.{needs}
 use Rattle.soundness.proofs.is_sound_part.Statement.{statement}
@@ -14,17 +13,8 @@ either-requires c κs = search needs
 latch-ok-requires : tie.Need-latch-ok-requires
 latch-ok-requires c κs = search needs
 
-outer-ok-requires : tie.Need-outer-ok-requires
-outer-ok-requires c κs = search needs
-
-work-in-requires : tie.Need-work-in-requires
-work-in-requires c κs = search needs
-
-is-suspended-requires : tie.Need-is-suspended-requires
-is-suspended-requires c κs = search needs
-
-work-ok-requires : tie.Need-work-ok-requires
-work-ok-requires c κs = search needs
+phase-ok-requires : tie.Need-phase-ok-requires
+phase-ok-requires c κs = search needs
 
 registers-ok-requires : tie.Need-registers-ok-requires
 registers-ok-requires c κs = search needs
@@ -41,14 +31,9 @@ both-requires-3 c κs = search needs
 both-requires-4 : tie.Need-both-requires-4
 both-requires-4 c κs = search needs
 
-both-requires-5 : tie.Need-both-requires-5
-both-requires-5 c κs = search needs
-
 returns : tie.Need-returns
 unfolding partSound
-returns c =
-    let a = c .before .before .before .before .before .before .before .before .before .before .before .before .before .before .before .args in
-    rw (c .both5 .ensures, c .before .both4 .ensures, c .before .before .both3 .ensures, c .before .before .before .both2 .ensures, c .before .before .before .before .both .ensures, c .before .before .before .before .before .registers-ok .ensures, c .before .before .before .before .before .before .work-ok .ensures, c .before .before .before .before .before .before .before .is-suspended .ensures, c .before .before .before .before .before .before .before .before .work-in .ensures, c .before .before .before .before .before .before .before .before .before .outer-ok .ensures, c .before .before .before .before .before .before .before .before .before .before .latch-ok .ensures, c .before .before .before .before .before .before .before .before .before .before .before .either .ensures, c .before .before .before .before .before .before .before .before .before .before .before .before .before .is-idle .ensures, c .before .before .before .before .before .before .before .before .before .before .before .before .before .before .before .pre, phase-ok-as (a .phase) (a .part .blocks) (a .part .stored))
+returns c = rw (c .both4 .ensures, c .before .both3 .ensures, c .before .before .both2 .ensures, c .before .before .before .both .ensures, c .before .before .before .before .registers-ok .ensures, c .before .before .before .before .before .phase-ok .ensures, c .before .before .before .before .before .before .latch-ok .ensures, c .before .before .before .before .before .before .before .either .ensures, c .before .before .before .before .before .before .before .before .before .is-idle .ensures, c .before .before .before .before .before .before .before .before .before .before .before .pre)
 
 pub is-sound-part-spec : {M : Type 1} → statement M
 is-sound-part-spec =
@@ -57,14 +42,10 @@ is-sound-part-spec =
     is-idle-requires
     either-requires
     latch-ok-requires
-    outer-ok-requires
-    work-in-requires
-    is-suspended-requires
-    work-ok-requires
+    phase-ok-requires
     registers-ok-requires
     both-requires
     both-requires-2
     both-requires-3
     both-requires-4
-    both-requires-5
     returns)
