@@ -9,6 +9,7 @@ ghost use Rattle.types.specs.declared.Change.the-variants.{Marked};
 ghost use Rattle.paper.specs.Sizes.{sizeOk, arrayBytes, rowsBytes};
 ghost use Rattle.paper.specs.Address.{rowBase, rowByte};
 ghost use Rattle.paper.specs.Registers.{extendedRead};
+ghost use Rattle.paper.specs.Table.{addressingOn};
 ghost use Rattle.paper.specs.Reads.{undriven, outputOf};
 ghost use Rattle.paper.specs.Commands.{changeBarred};
 ghost use Rattle.paper.specs.Calls.{outcomeTo, outcomeOf, transacted, outputTo, outputAfter, transactedOutput};
@@ -66,15 +67,21 @@ fn drive_row(form: Addressing, rows: &[u8], input: &[u8], output: &mut [u8], fro
     drive_from(&rows[base..end], at, output, from);
 }
 
-// What a command drives, at every place of the output.
-fn show(k: Columns, part: Part, array: &[u8], rows: &[u8], input: &[u8], output: &mut [u8])
-    requires { ⌜ HasBytes k part (now array) (now rows) (now input) × (length (now output) ≡ length (now input)) ⌝ }
+// What a command drives, at every place of the output, with its address sent so.
+fn show(
+    k: Columns,
+    form: Addressing,
+    part: Part,
+    array: &[u8],
+    rows: &[u8],
+    input: &[u8],
+    output: &mut [u8],
+)
+    requires { ⌜ HasBytes k part (now array) (now rows) (now input) × (length (now output) ≡ length (now input)) × (form ≡ addressingOn k part) ⌝ }
     ensures { λ _. ⌜ now (output .exit) ≡ outputOf k part (now (array .entry)) (now (rows .entry)) (now (input .entry)) ⌝ }
 {
     let source = k.source;
     let from = k.from;
-    let named = k.named;
-    let form = table::addressing(named, part.bank);
     let identity = part.identity;
     match source {
         Source::None => runs::blank(output),
@@ -152,7 +159,7 @@ fn answer_to(
     if number != 0 {
         return ignore(number, n, output);
     }
-    show(k, part, array, rows, input, output);
+    show(k, form, part, array, rows, input, output);
     let change = effects::change_by(effect, form, work, part, phase, input);
     let first = table::first_driven(k, n);
     Outcome {

@@ -7,9 +7,6 @@ use Rattle.transact.proofs.Outputs.{driven-output, some-bytes, blank-ou
 use Rattle.transact.proofs.show.Statement.{statement}
 use Rattle.transact.proofs.show.Tie as tie
 
-addressing-requires : tie.Need-addressing-requires
-addressing-requires c κs = search needs
-
 enum-told : tie.Need-enum-told
 enum-told c = search needs
 
@@ -24,7 +21,7 @@ address-in-requires c κs = search needs
 
 drive-from-requires : tie.Need-drive-from-requires
 drive-from-requires c κs =
-    let s = c .before .before .before .before .before .before .before .before .before .before in
+    let s = c .before .before .before .before .before .before .before .before .before in
     let a = s .args in
     some-bytes (a .k) (a .part) (now (a .array)) (now (a .rows)) (now (a .input)) ArrayBytes (c .before .before .enum-told2 .given .1) refl (s .pre .0)
 
@@ -33,9 +30,9 @@ enum-told-3 c = search needs
 
 drive-row-requires : tie.Need-drive-row-requires
 drive-row-requires c κs =
-    let s = c .before .before .before .before .before .before .before .before .before in
+    let s = c .before .before .before .before .before .before .before .before in
     let a = s .args in
-    rw (c .before .before .before .before .addressing .ensures) (row-inside (a .k) (a .part) (now (a .array)) (now (a .rows)) (now (a .input)) (c .before .enum-told3 .given .1) (s .pre .0))
+    rw (s .pre .2) (row-inside (a .k) (a .part) (now (a .array)) (now (a .rows)) (now (a .input)) (c .before .enum-told3 .given .1) (s .pre .0))
 
 enum-told-4 : tie.Need-enum-told-4
 enum-told-4 c = search needs
@@ -99,7 +96,7 @@ same-length c = search needs
 
 returns : tie.Need-returns
 returns c =
-    let s = c .before .before .before .before .before .before .before .before .before .before .before .before in
+    let s = c .before .before .before .before .before .before .before .before .before .before .before in
     let a = s .args in
     c .before .before .blank .ensures ∙ rw (s .pre .1) (sym (blank-output (a .k) (a .part) (now (a .array)) (now (a .rows)) (now (a .input)) (c .before .before .before .before .enum-told .given .1)))
 
@@ -108,25 +105,25 @@ same-length-2 c = search needs
 
 returns-2 : tie.Need-returns-2
 returns-2 c =
-    let s = c .before .before .before .before .before .before .before .before .before .before .before .before .before in
+    let s = c .before .before .before .before .before .before .before .before .before .before .before .before in
     let a = s .args in
-    c .before .before .drive-from .ensures ∙ rw (s .pre .1, c .before .before .before .before .address-in .ensures, c .before .before .before .before .before .before .before .before .addressing .ensures) (sym (driven-output (a .k) (a .part) (now (a .array)) (now (a .rows)) (now (a .input)) ArrayBytes (c .before .before .before .before .before .enum-told2 .given .1) refl))
+    c .before .before .drive-from .ensures ∙ rw (s .pre .1, c .before .before .before .before .address-in .ensures, s .pre .2) (sym (driven-output (a .k) (a .part) (now (a .array)) (now (a .rows)) (now (a .input)) ArrayBytes (c .before .before .before .before .before .enum-told2 .given .1) refl))
 
 same-length-3 : tie.Need-same-length-3
 same-length-3 c = search needs
 
 returns-3 : tie.Need-returns-3
 returns-3 c =
-    let s = c .before .before .before .before .before .before .before .before .before .before .before .before in
+    let s = c .before .before .before .before .before .before .before .before .before .before .before in
     let a = s .args in
-    c .before .before .drive-row .ensures ∙ rw (s .pre .1, c .before .before .before .before .before .before .before .addressing .ensures) (sym (driven-output (a .k) (a .part) (now (a .array)) (now (a .rows)) (now (a .input)) RowBytes (c .before .before .before .before .enum-told3 .given .1) refl))
+    c .before .before .drive-row .ensures ∙ rw (s .pre .1, s .pre .2) (sym (driven-output (a .k) (a .part) (now (a .array)) (now (a .rows)) (now (a .input)) RowBytes (c .before .before .before .before .enum-told3 .given .1) refl))
 
 same-length-4 : tie.Need-same-length-4
 same-length-4 c = search needs
 
 returns-4 : tie.Need-returns-4
 returns-4 c =
-    let s = c .before .before .before .before .before .before .before .before .before .before .before .before in
+    let s = c .before .before .before .before .before .before .before .before .before .before .before in
     let a = s .args in
     c .before .before .repeat-from .ensures ∙ rw (s .pre .1) (sym (driven-output (a .k) (a .part) (now (a .array)) (now (a .rows)) (now (a .input)) StatusByte (c .before .before .before .before .enum-told4 .given .1) refl))
 
@@ -135,7 +132,7 @@ same-length-5 c = search needs
 
 returns-5 : tie.Need-returns-5
 returns-5 c =
-    let s = c .before .before .before .before .before .before .before .before .before .before .before .before in
+    let s = c .before .before .before .before .before .before .before .before .before .before .before in
     let a = s .args in
     c .before .before .repeat-from2 .ensures ∙ rw (s .pre .1) (sym (driven-output (a .k) (a .part) (now (a .array)) (now (a .rows)) (now (a .input)) FunctionByte (c .before .before .before .before .enum-told5 .given .1) refl))
 
@@ -144,7 +141,7 @@ same-length-6 c = search needs
 
 returns-6 : tie.Need-returns-6
 returns-6 c =
-    let s = c .before .before .before .before .before .before .before .before .before .before .before .before .before in
+    let s = c .before .before .before .before .before .before .before .before .before .before .before .before in
     let a = s .args in
     c .before .before .drive-from2 .ensures ∙ rw (s .pre .1) (sym (driven-output (a .k) (a .part) (now (a .array)) (now (a .rows)) (now (a .input)) IdentityBytes (c .before .before .before .before .before .enum-told6 .given .1) refl))
 
@@ -153,7 +150,7 @@ same-length-7 c = search needs
 
 returns-7 : tie.Need-returns-7
 returns-7 c =
-    let s = c .before .before .before .before .before .before .before .before .before .before .before .before .before .before in
+    let s = c .before .before .before .before .before .before .before .before .before .before .before .before .before in
     let a = s .args in
     c .before .before .drive-from3 .ensures ∙ rw (s .pre .1, c .before .before .before .before .before .byte-at .ensures) (sym (driven-output (a .k) (a .part) (now (a .array)) (now (a .rows)) (now (a .input)) MakerPair (c .before .before .before .before .before .before .enum-told7 .given .1) refl))
 
@@ -162,7 +159,7 @@ same-length-8 c = search needs
 
 returns-8 : tie.Need-returns-8
 returns-8 c =
-    let s = c .before .before .before .before .before .before .before .before .before .before .before .before in
+    let s = c .before .before .before .before .before .before .before .before .before .before .before in
     let a = s .args in
     c .before .before .repeat-from3 .ensures ∙ rw (s .pre .1) (sym (driven-output (a .k) (a .part) (now (a .array)) (now (a .rows)) (now (a .input)) DeviceByte (c .before .before .before .before .enum-told8 .given .1) refl))
 
@@ -171,7 +168,7 @@ same-length-9 c = search needs
 
 returns-9 : tie.Need-returns-9
 returns-9 c =
-    let s = c .before .before .before .before .before .before .before .before .before .before .before .before .before in
+    let s = c .before .before .before .before .before .before .before .before .before .before .before .before in
     let a = s .args in
     c .before .before .repeat-from4 .ensures ∙ rw (s .pre .1, c .before .before .before .before .extended-read .ensures) (sym (driven-output (a .k) (a .part) (now (a .array)) (now (a .rows)) (now (a .input)) ExtendedByte (c .before .before .before .before .before .enum-told9 .given .1) refl))
 
@@ -180,7 +177,7 @@ same-length-10 c = search needs
 
 returns-10 : tie.Need-returns-10
 returns-10 c =
-    let s = c .before .before .before .before .before .before .before .before .before .before .before .before in
+    let s = c .before .before .before .before .before .before .before .before .before .before .before in
     let a = s .args in
     c .before .before .repeat-from5 .ensures ∙ rw (s .pre .1) (sym (driven-output (a .k) (a .part) (now (a .array)) (now (a .rows)) (now (a .input)) BankByte (c .before .before .before .before .enum-told10 .given .1) refl))
 
@@ -188,7 +185,6 @@ pub show-spec : {M : Type 1} → statement M
 show-spec =
     tie.close
     (tie.spec
-    addressing-requires
     enum-told
     blank-requires
     enum-told-2
