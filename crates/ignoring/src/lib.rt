@@ -2,9 +2,8 @@
 ghost use mathlib.Core.Path.{_≡_};
 ghost use mathlib.Core.Bool.{not};
 ghost use Rattle.words.specs.Logic.{_or_};
-ghost use Rattle.paper.specs.Phases.{halted, eraseHalted, isSuspended};
+ghost use Rattle.paper.specs.Phases.{eraseHalted, isSuspended};
 ghost use Rattle.paper.specs.Table.{takenSuspended};
-ghost use Rattle.paper.specs.Operations.{outsideOf};
 ghost use Rattle.paper.specs.Suspend.{suspendable};
 ghost use Rattle.paper.specs.Numbers.{stateOk, addressOk, pinOk, writeOk, freeOk, commandNumber};
 use types::Addressing;
@@ -76,25 +75,6 @@ fn write_ok(op: Operation, stored: Stored, wp: bool) -> bool
     }
 }
 
-// Whether what a command begins lies outside the suspended unit. What is suspended is copied where there is one, so that
-// a phase with nothing suspended is not put into memory for this call.
-fn is_apart(phase: Phase, blocks: u16, op: Operation) -> bool
-    ensures { λ r. ⌜ r ≡ outsideOf (halted phase) blocks op ⌝ }
-{
-    match phase {
-        Phase::Idle => true,
-        Phase::Busy(_) => true,
-        Phase::Suspended(outer) => {
-            let beneath = outer;
-            operations::outside_of(Work::At(beneath), blocks, op)
-        }
-        Phase::Nested(_, outer) => {
-            let beneath = outer;
-            operations::outside_of(Work::At(beneath), blocks, op)
-        }
-    }
-}
-
 // 28: what a command begins is not protected or locked, no program into the suspended unit, and not barred.
 fn free_ok(work: Work, part: Part, phase: Phase, wp: bool) -> bool
     ensures { λ r. ⌜ r ≡ freeOk work part phase wp ⌝ }
@@ -104,7 +84,7 @@ fn free_ok(work: Work, part: Part, phase: Phase, wp: bool) -> bool
         Work::NoWork => true,
         Work::At(op) => {
             let free = operations::target_free(op, part.blocks, stored);
-            let apart = is_apart(phase, part.blocks, op);
+            let apart = operations::outside_of(phases::halted(phase), part.blocks, op);
             words::both(free, words::both(apart, write_ok(op, stored, wp)))
         }
     }

@@ -12,8 +12,11 @@ enum-known-work c = search needs
 target-free-requires : tie.Need-target-free-requires
 target-free-requires c κs = search needs
 
-is-apart-requires : tie.Need-is-apart-requires
-is-apart-requires c κs = search needs
+halted-requires : tie.Need-halted-requires
+halted-requires c κs = search needs
+
+outside-of-requires : tie.Need-outside-of-requires
+outside-of-requires c κs = search needs
 
 write-ok-requires : tie.Need-write-ok-requires
 write-ok-requires c κs = search needs
@@ -28,7 +31,7 @@ returns : tie.Need-returns
 returns c = rw (c .enum-told .given .1)
 
 returns-2 : tie.Need-returns-2
-returns-2 c = rw (c .before .before .before .before .before .before .work .given .1, c .both2 .ensures, c .before .both .ensures, c .before .before .write-ok .ensures, c .before .before .before .is-apart .ensures, c .before .before .before .before .target-free .ensures)
+returns-2 c = rw (c .before .before .before .before .before .before .before .work .given .1, c .both2 .ensures, c .before .both .ensures, c .before .before .write-ok .ensures, c .before .before .before .outside-of .ensures, c .before .before .before .before .halted .ensures, c .before .before .before .before .before .target-free .ensures)
 
 pub free-ok-spec : {M : Type 1} → statement M
 free-ok-spec =
@@ -37,7 +40,8 @@ free-ok-spec =
     enum-told
     enum-known-work
     target-free-requires
-    is-apart-requires
+    halted-requires
+    outside-of-requires
     write-ok-requires
     both-requires
     both-requires-2
