@@ -22,7 +22,7 @@ extern "C" {
 
 /*
  * The version: 1000 times the number before its point, plus the number after it. It goes up with each
- * change of this header, of a record's bytes or of an answer. yawlspar_version gives the archive's version. A
+ * change of what is declared here, of a record's bytes or of an answer. yawlspar_version gives the archive's version. A
  * program should check once that both are the same: if YAWLSPAR_MATCHES() is 0, it was compiled with the header
  * of one version and linked to the archive of another, and nothing below holds.
  */
@@ -50,7 +50,8 @@ enum yawlspar_number {
     YAWLSPAR_OUT_OF_TURN = 25,  /* nothing to suspend, nothing to resume, or 99h without 66h right before it */
     YAWLSPAR_NOT_ENABLED = 26,  /* WEL is 0: 06h comes first */
     YAWLSPAR_NO_SUCH_ROW = 27,  /* the address is not that of an information row */
-    YAWLSPAR_PROTECTED = 28     /* protected, locked, in the unit of a suspended erase, or barred by WP# */
+    YAWLSPAR_PROTECTED = 28     /* protected, locked, in the unit of a suspended erase, a chip erase with a BP bit
+                                   set, or barred by WP# */
 };
 
 /*
