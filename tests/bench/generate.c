@@ -8,11 +8,9 @@
  *
  * An input is made-up traffic (tests/traffic/), a line for each step, with strange lines between them. */
 #include "../traffic/traffic.h"
+#include "text.h"
 
-extern long write(int, const void *, unsigned long);
 extern int strcmp(const char *, const char *);
-
-#define TEXT_MOST 400000u
 
 struct form {
     size_t cut; /* bytes that the bench reads */
@@ -26,17 +24,6 @@ static const struct form *form;
 
 /* ---- Text ---- */
 
-static uint8_t text[TEXT_MOST];
-static size_t length; /* of the text */
-
-static void put(uint8_t c)
-{
-    if (length < TEXT_MOST) {
-        text[length] = c;
-        length++;
-    }
-}
-
 static void put_text(const char *words)
 {
     while (*words != 0) {
@@ -45,25 +32,10 @@ static void put_text(const char *words)
     }
 }
 
-static void put_pair(uint8_t byte)
-{
-    const char *digits = "0123456789ABCDEF";
-
-    put((uint8_t)digits[byte / 16]);
-    put((uint8_t)digits[byte % 16]);
-}
-
 static void put_pairs(size_t count)
 {
     for (; count > 0; count--)
         put_pair(any_byte());
-}
-
-static void put_number(uint32_t n)
-{
-    if (n >= 10)
-        put_number(n / 10);
-    put((uint8_t)('0' + n % 10));
 }
 
 /* ---- Lines of the traffic ---- */
@@ -278,20 +250,6 @@ static void generate(uint64_t seed)
         write_input(seed, form->cut);
     else
         write_sizes_input(seed);
-}
-
-static int write_text(void)
-{
-    size_t at = 0;
-
-    while (at < length) {
-        long wrote = write(1, text + at, length - at);
-
-        if (wrote <= 0)
-            return 1;
-        at += (size_t)wrote;
-    }
-    return 0;
 }
 
 int main(int argc, char **argv)

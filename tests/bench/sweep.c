@@ -10,8 +10,8 @@
  * writes: a state is set up again where one of them has left it. */
 #include "../reference/reference.h"
 #include "../traffic/chance.h"
+#include "text.h"
 
-extern long write(int, const void *, unsigned long);
 extern int strcmp(const char *, const char *);
 extern int memcmp(const void *, const void *, unsigned long);
 extern void *memcpy(void *, const void *, unsigned long);
@@ -90,39 +90,20 @@ static bool any_is_busy(void)
 
 /* ---- Lines ---- */
 
-static char text[262144];
-static size_t length;           /* of the input that is made now */
-static uint64_t number, wanted; /* of that input, and of the one to write */
-
-static void put(char c)
-{
-    if (length < form->cut)
-        text[length] = c;
-    length++;
-}
+static uint64_t number, wanted; /* of the input that is made now, and of the one to write */
 
 static void send(bool wp_high, const uint8_t *bytes, size_t count)
 {
-    const char *digits = "0123456789ABCDEF";
     size_t i, first;
 
     put(wp_high ? 'T' : 'L');
     put(' ');
-    for (i = 0; i < count; i++) {
-        put(digits[bytes[i] / 16]);
-        put(digits[bytes[i] % 16]);
-    }
+    for (i = 0; i < count; i++)
+        put_pair(bytes[i]);
     put('\n');
     for (i = 0; i < form->count; i++)
         ref_transact(&parts[i], array, (size_t)parts[i].size * REF_BLOCK, rows, sizeof rows, wp_high, bytes, count, output,
                      count, &first);
-}
-
-static void put_number(uint32_t n)
-{
-    if (n >= 10)
-        put_number(n / 10);
-    put((char)('0' + n % 10));
 }
 
 static void wait(uint32_t ticks)
@@ -182,20 +163,6 @@ static void play(const char *words)
 static void see(void)
 {
     play(is_large() ? "0500 4800 8100 1600" : "0500 4800 8100");
-}
-
-static int write_input(void)
-{
-    size_t at = 0;
-
-    while (at < length) {
-        long wrote = write(1, text + at, length - at);
-
-        if (wrote <= 0)
-            return 1;
-        at += (size_t)wrote;
-    }
-    return 0;
 }
 
 /* Begins a chapter, in this input or the next one. True where the wanted input is whole. */
@@ -600,5 +567,5 @@ int main(int argc, char **argv)
         return 0;
     if (length > form->cut)
         return write(2, too_long, sizeof too_long - 1) < 0 ? 2 : 1;
-    return write_input();
+    return write_text();
 }
