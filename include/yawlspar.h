@@ -26,7 +26,7 @@ extern "C" {
  * program should check once that both are the same: if YAWLSPAR_MATCHES() is 0, it was compiled with the header
  * of one version and linked to the archive of another, and nothing below holds.
  */
-#define YAWLSPAR_VERSION 1005
+#define YAWLSPAR_VERSION 1006
 uint64_t yawlspar_version(void);
 #define YAWLSPAR_MATCHES() (yawlspar_version() == YAWLSPAR_VERSION)
 
@@ -142,7 +142,7 @@ uint64_t yawlspar_page_place(uint64_t start, uint64_t index);
  * the lowest is the answer. A call that is refused, with 1 to 6, leaves every byte of every buffer as it
  * was, and the bits above the number are 0.
  */
-#define YAWLSPAR_RECORD_BYTES 334
+#define YAWLSPAR_RECORD_BYTES 322
 #define YAWLSPAR_NUMBER(r) ((r) & 255)
 #define YAWLSPAR_PLACE(r) ((r) >> 8)
 #define YAWLSPAR_TICKS(r) ((r) >> 8)

@@ -12,7 +12,7 @@ fn wide(byte: u8) -> usize
 }
 
 // The number that bytes are, high byte first. Of more than eight the first eight are read.
-pub fn high_first(bytes: &[u8]) -> usize
+fn high_first(bytes: &[u8]) -> usize
     ensures { λ r. ⌜ r ≡ highFirst (take 8 (now (bytes .entry))) ⌝ }
 {
     let end = words::lesser(8, bytes.len());

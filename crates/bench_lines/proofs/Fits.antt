@@ -9,6 +9,7 @@ use lib.ListN.{length, take, drop, getD, length-append, length-drop, length-repl
 use Rattle.types.specs.declared.Decoded.{Decoded}
 use Rattle.types.specs.declared.Decoded.the-variants.{Known, Unknown}
 use Rattle.types.specs.declared.Phase.{Phase}
+use Rattle.types.specs.declared.Identity.{Identity}
 use Rattle.types.specs.declared.Part.{Part}
 use Rattle.types.specs.declared.Line.{Line}
 use Rattle.types.specs.declared.Line.the-variants.{Transaction, Ticks, Neither}
@@ -31,24 +32,24 @@ length-either : (t : Bool) (xs ys : List ℕ) (n : ℕ) → length xs ≡ n → 
 length-either true xs ys n e f = e
 length-either false xs ys n e f = f
 
-module _ (p : Part) (f : Phase) (s : Bool) (xs rs : List ℕ) (wp : Bool) (i : List ℕ) where
-  length-output : (d : Decoded) → length (outputTo d p f xs rs wp i) ≡ length i
+module _ (id : Identity) (p : Part) (f : Phase) (s : Bool) (xs rs : List ℕ) (wp : Bool) (i : List ℕ) where
+  length-output : (d : Decoded) → length (outputTo d id p f xs rs wp i) ≡ length i
   unfolding outputOf
   length-output (Known k) =
-      length-either (eqb (ignoredNumber (Known k) p f i wp) 0) (outputOf (columns k) p xs rs i) (undriven (length i)) (length i)
-      (length-upTo (length i) (outputByte (columns k) p xs rs i))
+      length-either (eqb (ignoredNumber (Known k) p f i wp) 0) (outputOf (columns k) id p xs rs i) (undriven (length i)) (length i)
+      (length-upTo (length i) (outputByte (columns k) id p xs rs i))
       (length-replicate (length i) undrivenByte)
   length-output Unknown = length-replicate (length i) undrivenByte
 
-  length-after : (o : List ℕ) → length o ≡ length i → length (outputAfter p f s xs rs wp i o) ≡ length i
+  length-after : (o : List ℕ) → length o ≡ length i → length (outputAfter id p f s xs rs wp i o) ≡ length i
   unfolding outputAfter
   length-after o e =
-      length-either (eqb (transactionRefusal (p .blocks) s (length xs) (length rs) (length i) (length o)) 0) (outputTo (decoded (p .blocks) (p .bank) (getD i 0 0)) p f xs rs wp i) o (length i)
+      length-either (eqb (transactionRefusal (p .blocks) s (length xs) (length rs) (length i) (length o)) 0) (outputTo (decoded (p .blocks) (p .bank) (getD i 0 0)) id p f xs rs wp i) o (length i)
       (length-output (decoded (p .blocks) (p .bank) (getD i 0 0))) e
 
 length-driven : (b : Board) (wp : Bool) (i : List ℕ) → length (drivenBy b wp i) ≡ length i
 length-driven b wp i =
-    length-after (b .state .part) (b .state .phase) (sound (b .state)) (b .array) (b .rows) wp i (undriven (length i)) (length-replicate (length i) undrivenByte)
+    length-after (b .state .identity) (b .state .part) (b .state .phase) (sound (b .state)) (b .array) (b .rows) wp i (undriven (length i)) (length-replicate (length i) undrivenByte)
 
 -- the characters that a line takes: those that it has, and an empty one its LF
 abbrev taken : List ℕ → ℕ

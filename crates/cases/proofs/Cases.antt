@@ -16,7 +16,7 @@ use Rattle.words.specs.Logic.{_and_, _or_, unless, _orElse_}
 use Rattle.words.proofs.Tests.{fails}
 use Rattle.paper.specs.Sizes.{sizeOk, blockBytes, arrayBytes}
 use Rattle.paper.specs.Registers.{bitAt, bitsAt, TBS, bankLoaded}
-use Rattle.paper.specs.Soundness.{largeOk}
+use Rattle.paper.specs.Soundness.{largeOk, sound}
 use Rattle.paper.specs.Numbers.{givenOk, powerUpNumber}
 use Rattle.paper.specs.Calls.{noStored, poweredUp}
 use Rattle.paper.specs.Address.{addressIn}

@@ -102,7 +102,7 @@ module _ (p : Record) (r : Ready p) (has : 3 < p .part .blocks) (free : Free (co
     pub cut-arms : send (cut k false) (0x66 ∷ []) ≡ did (cut k true) 1
     cut-arms = executes (cut k false) (cut-sound k false h) true ArmReset (0x66 ∷ []) (omega arith) (omega arith) (known-here p r 0x66 ArmReset refl) (arm-number (cut k false .part) (cut k false .phase) (r .awake) true)
 
-    pub cut-resets : send (cut k true) (0x99 ∷ []) ≡ did (fresh (p .part .blocks) (p .part .identity) (p .part .stored)) 1
+    pub cut-resets : send (cut k true) (0x99 ∷ []) ≡ did (fresh (p .part .blocks) (p .identity) (p .part .stored)) 1
     unfolding unless
     cut-resets =
         executes (cut k true) (cut-sound k true h) true Reset (0x99 ∷ []) (omega arith) (omega arith) (known-here p r 0x99 Reset refl) (reset-number (cut k true .part) (cut k true .phase) (r .awake) true true refl)

@@ -14,6 +14,7 @@ use Rattle.types.specs.declared.Addressing.the-variants.{Three}
 use Rattle.types.specs.declared.Operation.the-variants.{Program}
 use Rattle.types.specs.declared.Command.the-variants.{ReadStatus, WriteEnable, ChipErase, ArmReset, Reset, RowProgram}
 use Rattle.types.specs.declared.Decoded.the-variants.{Known}
+use Rattle.types.specs.declared.Identity.{Identity}
 use Rattle.types.specs.declared.Part.{Part}
 use Rattle.types.specs.declared.Record.{Record}
 use Rattle.types.specs.declared.Answer.{Answer}
@@ -65,12 +66,12 @@ at-FE : (n : ℕ) → 1 ≤ n → addressIn (Three false) n (0x02 ∷ 0x00 ∷ 0
 unfolding addressIn highFirst
 at-FE n h = mod-eq-of-lt (omega arith)
 
-abbrev started : Part → Record
-started p = programming p (Program Array 0xFE 0x000000 3 0) three
+abbrev started : Identity → Part → Record
+started id p = programming id p (Program Array 0xFE 0x000000 3 0) three
 
-three-begun : (p : Part) → 1 ≤ p .blocks → programming p (programOf Array (Three false) (p .blocks) (0x02 ∷ 0x00 ∷ 0x00 ∷ 0xFE ∷ three)) three ≡ started p
+three-begun : (id : Identity) (p : Part) → 1 ≤ p .blocks → programming id p (programOf Array (Three false) (p .blocks) (0x02 ∷ 0x00 ∷ 0x00 ∷ 0xFE ∷ three)) three ≡ started id p
 unfolding programOf pagePlace
-three-begun p n = rw (at-FE (p .blocks) n)
+three-begun id p n = rw (at-FE (p .blocks) n)
 
 module _ (xs : List ℕ) (a : getD xs 0x0000FE 0 ≡ 0xFF) (b : getD xs 0x0000FF 0 ≡ 0xFF) (c : getD xs 0x000000 0 ≡ 0xFF) where
   three-written : narrowed (narrowed (narrowed xs 0x0000FE 0x01) 0x0000FF 0x02) 0x000000 0x03 ≡ set (set (set xs 0x0000FE 0x01) 0x0000FF 0x02) 0x000000 0x03
@@ -81,9 +82,9 @@ module _ (xs : List ℕ) (a : getD xs 0x0000FE 0 ≡ 0xFF) (b : getD xs 0x0000FF
       let z : getD zs 0x000000 0 ≡ 0xFF = getD-set-other ys 0x0000FF 0x000000 0x02 0 (omega arith) ∙ getD-set-other xs 0x0000FE 0x000000 0x01 0 (omega arith) ∙ c in
       rw (over-FF xs 0x0000FE 0x01 a, over-FF ys 0x0000FF 0x02 y, over-FF zs 0x000000 0x03 z)
 
-  three-run : (p : Part) → memoryAfter Array 3 (started p) xs ≡ set (set (set xs 0x0000FE 0x01) 0x0000FF 0x02) 0x000000 0x03
+  three-run : (id : Identity) (p : Part) → memoryAfter Array 3 (started id p) xs ≡ set (set (set xs 0x0000FE 0x01) 0x0000FF 0x02) 0x000000 0x03
   unfolding worked pagePlace pageData
-  three-run p = three-written
+  three-run id p = three-written
 
 case-5 : Case5Everywhere
 unfolding worked
@@ -91,9 +92,9 @@ case-5 p r w f xs l a b c =
     let n : 1 ≤ p .part .blocks = size-range (p .part .blocks) (sound-parts p (r .is-sound) .size) .0 in
     let g : Free (codeOf (p .part .stored .status)) (p .part .blocks) (addressIn (Three false) (p .part .blocks) (0x02 ∷ 0x00 ∷ 0x00 ∷ 0xFE ∷ three)) = rw (at-FE (p .part .blocks) n) f in (
       ap number (program-run p r w 0x00 0x00 0xFE three (omega arith) (omega arith) g),
-      program-array p r w 0x00 0x00 0xFE three (omega arith) (omega arith) g xs l 3 (omega arith) ∙ ap (λ (q : Record). memoryAfter Array 3 q xs) (three-begun (p .part) n) ∙ three-run xs a b c (p .part),
-      ap (λ (t : Ticked). t .next .phase) (program-ticks p r w 0x00 0x00 0xFE three (omega arith) (omega arith) g 3 (omega arith)) ∙ ap (λ (q : Record). recordAfter 3 q .phase) (three-begun (p .part) n),
-      ap (λ (t : Ticked). t .done) (program-ticks p r w 0x00 0x00 0xFE three (omega arith) (omega arith) g 4 (omega arith)) ∙ ap (workingTicks 4) (three-begun (p .part) n),
+      program-array p r w 0x00 0x00 0xFE three (omega arith) (omega arith) g xs l 3 (omega arith) ∙ ap (λ (q : Record). memoryAfter Array 3 q xs) (three-begun (p .identity) (p .part) n) ∙ three-run xs a b c (p .identity) (p .part),
+      ap (λ (t : Ticked). t .next .phase) (program-ticks p r w 0x00 0x00 0xFE three (omega arith) (omega arith) g 3 (omega arith)) ∙ ap (λ (q : Record). recordAfter 3 q .phase) (three-begun (p .identity) (p .part) n),
+      ap (λ (t : Ticked). t .done) (program-ticks p r w 0x00 0x00 0xFE three (omega arith) (omega arith) g 4 (omega arith)) ∙ ap (workingTicks 4) (three-begun (p .identity) (p .part) n),
     )
 
 offset-2 : (n h m : ℕ) (d : List ℕ)
@@ -131,7 +132,7 @@ case-8 p r b = ap number (ignores p (r .is-sound) true WriteEnable (0x06 ∷ b �
 
 -- the record the same but for the armed mark
 abbrev armedAs : Record → Bool → Record
-armedAs p armed = recordOf (marked (p .part) armed) (p .phase) (p .page)
+armedAs p armed = recordOf (p .identity) (marked (p .part) armed) (p .phase) (p .page)
 
 armed-sound : (p : Record) (armed : Bool) → sound p ≡ true → sound (armedAs p armed) ≡ true
 armed-sound p armed s = marked-sound (p .part) (p .phase) (p .page) armed s

@@ -14,7 +14,7 @@ use Rattle.paper.specs.BlockTable.{largeRow, tableCell}
 use Rattle.paper.specs.Protection.{wholeCode, blocksOf, question, among, protectedBlocks, protected}
 use Rattle.paper.specs.Registers.{withBytes}
 use Rattle.paper.specs.Program.{noData, programOf}
-use Rattle.paper.specs.Soundness.{bitsOk, largeOk, pageOk, partSound, sound}
+use Rattle.paper.specs.Soundness.{bitsOk, largeOk, pageOk, partSound, soundOf}
 use Rattle.paper.specs.Table.{decoded}
 use Rattle.paper.specs.Numbers.{sizeNumber, rowsNumber, lengthNumber, outputNumber, soundNumber, transactionRefusal, commandNumber}
 use Rattle.paper.specs.Calls.{noIdentity, noStored, outcomeOf, transacted}
@@ -28,7 +28,8 @@ Protects c first count = (k : ℕ) → (protected c 512 k ≡ true) ↔ InBlocks
 abbrev pub programNumber : ℕ → List ℕ → ℕ
 programNumber t a =
     transacted (record {
-      part = record { blocks = 512; identity = noIdentity; stored = withBytes (1 * 4 + 2) (2 * t) noStored; wel = true; armed = false; asleep = false; live = 0; bank = 0 };
+      part = record { blocks = 512; stored = withBytes (1 * 4 + 2) (2 * t) noStored; wel = true; armed = false; asleep = false; live = 0; bank = 0 };
+      identity = noIdentity;
       phase = Idle;
       page = noData;
     }) (arrayBytes 512) rowsBytes true (0x12 ∷ (a ++ (0x00 ∷ []))) 6 .number
@@ -68,7 +69,7 @@ all-answered (suc (suc (suc (suc (suc zero))))) h = (refl, refl)
 all-answered (suc (suc (suc (suc (suc (suc d)))))) h = absurd (omega arith)
 
 pub large-blocks : LargeBlocks
-unfolding transacted outcomeOf transactionRefusal sizeNumber rowsNumber lengthNumber outputNumber soundNumber commandNumber sound partSound bitsOk largeOk pageOk sizeOk decoded addressIn highFirst question among largeRow tableCell noData programOf _and_ _or_ unless _orElse_
+unfolding transacted outcomeOf transactionRefusal sizeNumber rowsNumber lengthNumber outputNumber soundNumber commandNumber soundOf partSound bitsOk largeOk pageOk sizeOk decoded addressIn highFirst question among largeRow tableCell noData programOf _and_ _or_ unless _orElse_
 large-blocks =
     record {
       asked = λ c t h l. omega arith;

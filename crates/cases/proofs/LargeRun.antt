@@ -20,7 +20,7 @@ use Rattle.paper.specs.Protection.{question, among}
 use Rattle.paper.specs.Registers.{withBytes}
 use Rattle.paper.specs.Program.{noData, pageData, pagePlace, programOf, narrowed}
 use Rattle.paper.specs.Operations.{narrow}
-use Rattle.paper.specs.Soundness.{operationOk, bitsOk, largeOk, pageOk, partSound, sound}
+use Rattle.paper.specs.Soundness.{operationOk, bitsOk, largeOk, pageOk, partSound, soundOf}
 use Rattle.paper.specs.Numbers.{sizeNumber, rowsNumber, lengthNumber, outputNumber, soundNumber, ticksNumber, givenOk, powerUpNumber, transactionRefusal, tickNumber, commandNumber}
 use Rattle.paper.specs.Reads.{undriven, outputOf}
 use Rattle.paper.specs.Table.{decoded}
@@ -36,7 +36,7 @@ use Rattle.cases.proofs.Worked.{identity}
 -- the part's record with this status, this latch and this bank register, armed or not, in this phase and with this page data
 abbrev pub recordAt : ℕ → Bool → ℕ → Bool → Phase → List ℕ → Record
 recordAt status wel bank armed f page =
-    record { part = record { blocks = 512; identity = identity; stored = withBytes status 0x00 noStored; wel = wel; armed = armed; asleep = false; live = 0x00; bank = bank }; phase = f; page = page }
+    record { part = record { blocks = 512; stored = withBytes status 0x00 noStored; wel = wel; armed = armed; asleep = false; live = 0x00; bank = bank }; phase = f; identity = identity; page = page }
 
 -- the records: EXTADD is 1 in the bank register 80h, the bank bit in 01h; A5h is programmed at 01000010h
 abbrev pub idle : ℕ → Record
@@ -131,7 +131,7 @@ record Answers (a r : ℕ) : Type 0 where
   reads-lower : drove (idle 0x00) 4 ≡ transacted (idle 0x00) a r true nearRead 5
 
 answers-told : Answers (arrayBytes 512) rowsBytes
-unfolding transacted outcomeOf ticked tickedMemory transactionRefusal tickNumber sizeNumber rowsNumber lengthNumber outputNumber soundNumber ticksNumber commandNumber sound partSound operationOk bitsOk largeOk pageOk sizeOk decoded noData pageData addressIn highFirst question among largeRow tableCell pagePlace programOf worked _and_ _or_ unless _orElse_
+unfolding transacted outcomeOf ticked tickedMemory transactionRefusal tickNumber sizeNumber rowsNumber lengthNumber outputNumber soundNumber ticksNumber commandNumber soundOf partSound operationOk bitsOk largeOk pageOk sizeOk decoded noData pageData addressIn highFirst question among largeRow tableCell pagePlace programOf worked _and_ _or_ unless _orElse_
 answers-told =
     record { enters = refl; enables = refl; programs = refl; ticks-run = refl; array-ticked = λ xs. refl; rows-ticked = λ rs. refl; reads-far = refl; leaves = refl; sets-bank = refl; reads-upper = refl; arms = refl; resets = refl; reads-lower = refl }
 
@@ -167,7 +167,7 @@ module _ (xs rs o : List ℕ) (a : length xs ≡ arrayBytes 512) (r : length rs 
   Driven bank i at = transactedOutput (idle bank) xs rs true i o ≡ undriven (length i - 1) ++ (getD xs at 0 ∷ [])
 
   reads-drive : (length o ≡ 6 → Driven 0x80 farRead 0x01000010) × (length o ≡ 5 → Driven 0x01 nearRead 0x01000010) × (length o ≡ 5 → Driven 0x00 nearRead 0x000010)
-  unfolding outputAfter outputOf transactionRefusal sizeNumber rowsNumber lengthNumber outputNumber soundNumber commandNumber sound partSound bitsOk largeOk pageOk sizeOk decoded noData addressIn highFirst _and_ _or_ unless _orElse_
+  unfolding outputAfter outputOf transactionRefusal sizeNumber rowsNumber lengthNumber outputNumber soundNumber commandNumber soundOf partSound bitsOk largeOk pageOk sizeOk decoded noData addressIn highFirst _and_ _or_ unless _orElse_
   reads-drive = (λ l. rw (a, r, l), λ l. rw (a, r, l), λ l. rw (a, r, l))
 
 -- and from the array after the tick

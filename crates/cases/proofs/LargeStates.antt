@@ -14,7 +14,7 @@ use Rattle.paper.specs.Protection.{question, among}
 use Rattle.paper.specs.Program.{noData, programOf}
 use Rattle.paper.specs.Erase.{eraseOf}
 use Rattle.paper.specs.Records.{registersIn}
-use Rattle.paper.specs.Soundness.{bitsOk, largeOk, pageOk, partSound, sound}
+use Rattle.paper.specs.Soundness.{bitsOk, largeOk, pageOk, partSound, soundOf}
 use Rattle.paper.specs.Table.{Entry, largeCodes, farCodes, decoded, columns}
 use Rattle.paper.specs.Numbers.{sizeNumber, rowsNumber, lengthNumber, outputNumber, soundNumber, transactionRefusal, commandNumber}
 use Rattle.paper.specs.Calls.{noIdentity, noStored, outcomeOf, transacted}
@@ -44,7 +44,8 @@ more l = l + 1
 abbrev pub idleWith : ℕ → ℕ → Bool → Record
 idleWith n bank wel =
     record {
-      part = record { blocks = n; identity = noIdentity; stored = registersIn Idle wel noStored; wel = wel; armed = false; asleep = false; live = 0; bank = bank };
+      part = record { blocks = n; stored = registersIn Idle wel noStored; wel = wel; armed = false; asleep = false; live = 0; bank = bank };
+      identity = noIdentity;
       phase = Idle;
       page = noData;
     }
@@ -79,6 +80,6 @@ pub record LargeStates : Type 0 where
   pub unknown-1 : numbersIn same (idleWith 1 0x00 true) largeCodes ≡ replicate 12 20
 
 pub large-states : LargeStates
-unfolding transacted outcomeOf transactionRefusal sizeNumber rowsNumber lengthNumber outputNumber soundNumber commandNumber sound partSound bitsOk largeOk pageOk sizeOk decoded addressIn highFirst question among largeRow tableCell noData programOf eraseOf _and_ _or_ unless _orElse_
+unfolding transacted outcomeOf transactionRefusal sizeNumber rowsNumber lengthNumber outputNumber soundNumber commandNumber soundOf partSound bitsOk largeOk pageOk sizeOk decoded addressIn highFirst question among largeRow tableCell noData programOf eraseOf _and_ _or_ unless _orElse_
 large-states =
     record { own-far = (refl, refl, refl); own-near = (refl, refl, refl); listed-far = (refl, refl, refl); listed-near = (refl, refl, refl); own-with-wel = refl; listed-with-wel = refl; unknown-16 = refl; unknown-8 = refl; unknown-4 = refl; unknown-1 = refl }

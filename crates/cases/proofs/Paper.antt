@@ -143,7 +143,7 @@ Case11 p m l xs =
     let a = send (s .next) (0x66 ∷ []) in
     let r = send (a .next) (0x99 ∷ []) in
     (w .number ≡ 0) × (e .number ≡ 0) × (t .number ≡ 0) × (t .done ≡ 100) × (s .number ≡ 0) × (a .number ≡ 0) × (r .number ≡ 0)
-    × (r .next .phase ≡ Idle) × (r .next ≡ fresh (p .part .blocks) (p .part .identity) (p .part .stored))
+    × (r .next .phase ≡ Idle) × (r .next ≡ fresh (p .part .blocks) (p .identity) (p .part .stored))
     × (arrayTicked (e .next) 100 xs ≡ take 0x030000 xs ++ (replicate (100 * pageBytes) 0xFF ++ drop (0x030000 + 100 * pageBytes) xs))
 
 -- the list of the cases, on parts of 16 blocks with any identity; case 3 on 4 blocks

@@ -32,7 +32,7 @@ use Rattle.paper.proofs.Answers.{executes}
 
 -- the part in another phase, with this latch and this armed mark
 abbrev pub turned : Record → Phase → Bool → Bool → Record
-turned p f wel armed = recordOf (marked (settled (p .part) f wel) armed) f (p .page)
+turned p f wel armed = recordOf (p .identity) (marked (settled (p .part) f wel) armed) f (p .page)
 
 -- and then in another one
 pub turned-again : (p : Record) (f : Phase) (wel armed : Bool) (g : Phase) (w a : Bool) → turned (turned p f wel armed) g w a ≡ turned p g w a

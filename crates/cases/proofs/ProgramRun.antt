@@ -14,6 +14,7 @@ use Rattle.types.specs.declared.Phase.{Phase}
 use Rattle.types.specs.declared.Phase.the-variants.{Idle, Busy}
 use Rattle.types.specs.declared.Command.the-variants.{PageProgram}
 use Rattle.types.specs.declared.Decoded.the-variants.{Known}
+use Rattle.types.specs.declared.Identity.{Identity}
 use Rattle.types.specs.declared.Part.{Part}
 use Rattle.types.specs.declared.Record.{Record}
 use Rattle.words.specs.Logic.{_and_, _or_, unless, _orElse_}
@@ -30,8 +31,8 @@ use Rattle.paper.proofs.Soundness.{recordOf, marked-sound}
 use Rattle.paper.proofs.Begun.{program-begun}
 
 -- an idle part as it begins a program of these bytes
-abbrev pub programming : Part → Operation → List ℕ → Record
-programming p o d = recordOf (marked (settled p (Busy o) true) false) (Busy o) (pageData d)
+abbrev pub programming : Identity → Part → Operation → List ℕ → Record
+programming id p o d = recordOf id (marked (settled p (Busy o) true) false) (Busy o) (pageData d)
 
 -- the block of A is free, and data follows A, which has three bytes
 module _ (p : Part) (i : List ℕ) (size : sizeOk (p .blocks) ≡ true) (large : largeOk (p .blocks) (p .stored .function) (p .bank) ≡ true) (least : 5 ≤ length i)
@@ -54,9 +55,9 @@ module _ (p : Part) (i : List ℕ) (size : sizeOk (p .blocks) ≡ true) (large :
   unfolding commandNumber _and_ _or_ unless _orElse_ programOf
   program-number f b a e w wp = rw (b, page-free, a, e, le-leb 5 (length i) least, w)
 
-  pub program-sound : p .asleep ≡ false → sound (programming p (programOf Array (Three false) (p .blocks) i) given) ≡ true
+  pub program-sound : (id : Identity) → p .asleep ≡ false → sound (programming id p (programOf Array (Three false) (p .blocks) i) given) ≡ true
   unfolding programOf
-  program-sound a =
+  program-sound id a =
       marked-sound (settled p (Busy (programOf Array (Three false) (p .blocks) i)) true) (Busy (programOf Array (Three false) (p .blocks) i)) (pageData given) false
       (program-begun p size large a (Three false) i least Array tt (ap not page-free))
 
@@ -64,10 +65,10 @@ module _ (p : Part) (i : List ℕ) (size : sizeOk (p .blocks) ≡ true) (large :
   first-kept = kept-byte given 0 (omega (arith, some)) ∙ ap (λ (k : ℕ). getD given k 0) (add-zero (passedCount given))
 
   -- the first tick
-  pub program-first : (xs : List ℕ)
-      → memoryAfter Array 1 (programming p (programOf Array (Three false) (p .blocks) i) given) xs
+  pub program-first : (id : Identity) (xs : List ℕ)
+      → memoryAfter Array 1 (programming id p (programOf Array (Three false) (p .blocks) i) given) xs
       ≡ narrowed xs (pageBase address + pagePlace address (passedCount given)) (getD given (passedCount given) 0)
   unfolding programOf pagePlace
-  program-first xs =
+  program-first id xs =
       ap (λ (k : ℕ). narrowed xs (pageBase address + k) (getD (pageData given) 0 0)) (omega arith)
       ∙ ap (narrowed xs (pageBase address + pagePlace address (passedCount given))) first-kept

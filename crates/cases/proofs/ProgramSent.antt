@@ -35,21 +35,21 @@ module _ (p : Record) (r : Ready p) (w : p .part .wel ≡ true) (h m l : ℕ) (d
 
   -- the part as the program begins
   abbrev begun : Record
-  begun = programming (p .part) (programOf Array (Three false) (p .part .blocks) input) d
+  begun = programming (p .identity) (p .part) (programOf Array (Three false) (p .part .blocks) input) d
 
   -- the same, its address sent in one way or the other
   abbrev begunBy : Addressing → Record
-  begunBy g = programming (p .part) (programOf Array g (p .part .blocks) input) (dataSent g input)
+  begunBy g = programming (p .identity) (p .part) (programOf Array g (p .part .blocks) input) (dataSent g input)
 
   module _ (free : Free (codeOf (p .part .stored .status)) (p .part .blocks) address) where
     begun-sound : sound begun ≡ true
-    begun-sound = program-sound (p .part) input (sound-parts p (r .is-sound) .size) (sound-parts p (r .is-sound) .large) (omega arith) (free-alone p r address free) (r .awake)
+    begun-sound = program-sound (p .part) input (sound-parts p (r .is-sound) .size) (sound-parts p (r .is-sound) .large) (omega arith) (free-alone p r address free) (p .identity) (r .awake)
 
     pub program-run : send p input ≡ did begun (length input)
     program-run =
         executes p (r .is-sound) true PageProgram input (omega arith) (omega arith) (known-here p r 0x02 PageProgram refl)
         (program-number (p .part) input (sound-parts p (r .is-sound) .size) (sound-parts p (r .is-sound) .large) (omega arith) (free-alone p r address free) (p .phase) (no-bank p r) (r .awake) (r .idle) w true)
-        ∙ ap (λ (f : Phase). answered (executed (columns PageProgram) (p .part) f input) input (recordOf (p .part) f (p .page))) (r .idle)
+        ∙ ap (λ (f : Phase). answered (executed (columns PageProgram) (p .part) f input) input (recordOf (p .identity) (p .part) f (p .page))) (r .idle)
         ∙ ap (λ (g : Addressing). did (begunBy g) (length input)) (three-bytes p r)
 
     pub program-ticks : (k : ℕ) → k ≤ 4096 → tick (send p input .next) k ≡ record { next = recordAfter k begun; number = 0; done = workingTicks k begun }
@@ -61,4 +61,4 @@ module _ (p : Record) (r : Ready p) (w : p .part .wel ≡ true) (h m l : ℕ) (d
 
       -- the first tick
       pub program-tick : arrayTicked (send p input .next) 1 xs ≡ narrowed xs (pageBase address + pagePlace address (passedCount d)) (getD d (passedCount d) 0)
-      program-tick = program-array 1 (omega arith) ∙ program-first (p .part) input (sound-parts p (r .is-sound) .size) (sound-parts p (r .is-sound) .large) (omega arith) (free-alone p r address free) xs
+      program-tick = program-array 1 (omega arith) ∙ program-first (p .part) input (sound-parts p (r .is-sound) .size) (sound-parts p (r .is-sound) .large) (omega arith) (free-alone p r address free) (p .identity) xs

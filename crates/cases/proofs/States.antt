@@ -23,7 +23,7 @@ use Rattle.paper.specs.Program.{noData, pagePlace, programOf}
 use Rattle.paper.specs.Erase.{eraseOf}
 use Rattle.paper.specs.Registers.{writeOf}
 use Rattle.paper.specs.Records.{registersIn}
-use Rattle.paper.specs.Soundness.{operationOk, bitsOk, largeOk, pageOk, partSound, sound}
+use Rattle.paper.specs.Soundness.{operationOk, bitsOk, largeOk, pageOk, partSound, soundOf}
 use Rattle.paper.specs.Table.{Entry, codes, decoded, columns}
 use Rattle.paper.specs.Numbers.{sizeNumber, rowsNumber, lengthNumber, outputNumber, soundNumber, transactionRefusal, commandNumber}
 use Rattle.paper.specs.Calls.{noIdentity, noStored, outcomeOf, transacted}
@@ -46,7 +46,8 @@ numbers p (e ∷ es) =
 abbrev pub recordWith : Phase → Bool → Bool → Bool → Record
 recordWith f wel armed asleep =
     record {
-      part = record { blocks = 16; identity = noIdentity; stored = registersIn f wel noStored; wel = wel; armed = armed; asleep = asleep; live = 0; bank = 0 };
+      part = record { blocks = 16; stored = registersIn f wel noStored; wel = wel; armed = armed; asleep = asleep; live = 0; bank = 0 };
+      identity = noIdentity;
       phase = f;
       page = noData;
     }
@@ -89,6 +90,6 @@ pub record States : Type 0 where
   pub nested-program : numbers (recordWith (Nested program (Erase Sector 4096 3)) true true false) codes ≡ whileBusy 25
 
 pub states : States
-unfolding transacted outcomeOf transactionRefusal sizeNumber rowsNumber lengthNumber outputNumber soundNumber commandNumber sound partSound operationOk bitsOk largeOk pageOk sizeOk decoded addressIn highFirst rowOk rowPlace question among blockRow cellOf tableCell locked barred noData pagePlace programOf eraseOf writeOf _and_ _or_ unless _orElse_
+unfolding transacted outcomeOf transactionRefusal sizeNumber rowsNumber lengthNumber outputNumber soundNumber commandNumber soundOf partSound operationOk bitsOk largeOk pageOk sizeOk decoded addressIn highFirst rowOk rowPlace question among blockRow cellOf tableCell locked barred noData pagePlace programOf eraseOf writeOf _and_ _or_ unless _orElse_
 states =
     record { idle = refl; idle-without-wel = refl; asleep = refl; busy-program = refl; busy-sector = refl; busy-chip = refl; busy-row = refl; busy-row-program = refl; busy-write = refl; busy-extended = refl; suspended-program = refl; suspended-sector = refl; suspended-sector-with-wel = refl; suspended-target-with-wel = refl; nested-program = refl }

@@ -21,7 +21,7 @@ use Rattle.paper.specs.Registers.{withBytes, P_ERR, PROT_E}
 use Rattle.paper.specs.Program.{noData, pageData, pagePlace, programOf, narrowed}
 use Rattle.paper.specs.Erase.{eraseOf, pageErased}
 use Rattle.paper.specs.Operations.{blank, narrow}
-use Rattle.paper.specs.Soundness.{operationOk, bitsOk, largeOk, pageOk, partSound, sound}
+use Rattle.paper.specs.Soundness.{operationOk, bitsOk, largeOk, pageOk, partSound, soundOf}
 use Rattle.paper.specs.Numbers.{sizeNumber, rowsNumber, lengthNumber, outputNumber, soundNumber, ticksNumber, givenOk, powerUpNumber, transactionRefusal, tickNumber, commandNumber}
 use Rattle.paper.specs.Table.{decoded}
 use Rattle.paper.specs.Ticks.{worked}
@@ -36,7 +36,7 @@ use Rattle.cases.proofs.Worked.{identity}
 -- the part's record with this status and function, this latch and this live byte, in this phase and with this page data
 abbrev pub recordAt : ℕ → ℕ → Bool → ℕ → Phase → List ℕ → Record
 recordAt status function wel live f page =
-    record { part = record { blocks = 16; identity = identity; stored = withBytes status function noStored; wel = wel; armed = false; asleep = false; live = live; bank = 0x00 }; phase = f; page = page }
+    record { part = record { blocks = 16; stored = withBytes status function noStored; wel = wel; armed = false; asleep = false; live = live; bank = 0x00 }; phase = f; identity = identity; page = page }
 
 -- the sector at 001000h erased, with k ticks done; A5h programmed at 002000h
 abbrev pub erasing : ℕ → Operation
@@ -136,7 +136,7 @@ record Answers (a r : ℕ) : Type 0 where
   resumes : did (busy failed 3) 1 ≡ transacted (suspended failed) a r true (0x7A ∷ []) 1
 
 answers-told : Answers (arrayBytes 16) rowsBytes
-unfolding transacted outcomeOf ticked tickedMemory transactionRefusal tickNumber sizeNumber rowsNumber lengthNumber outputNumber soundNumber ticksNumber commandNumber sound partSound operationOk bitsOk largeOk pageOk sizeOk decoded noData pageData addressIn highFirst question among blockRow cellOf tableCell pagePlace programOf eraseOf worked _and_ _or_ unless _orElse_
+unfolding transacted outcomeOf ticked tickedMemory transactionRefusal tickNumber sizeNumber rowsNumber lengthNumber outputNumber soundNumber ticksNumber commandNumber soundOf partSound operationOk bitsOk largeOk pageOk sizeOk decoded noData pageData addressIn highFirst question among blockRow cellOf tableCell pagePlace programOf eraseOf worked _and_ _or_ unless _orElse_
 answers-told =
     record { enables = refl; erases = refl; erase-ticks = refl; erase-array = λ xs. refl; erase-rows = λ rs. refl; suspends = refl; enables-then = refl; bars = refl; programs = refl; goes-on = refl; program-ticks = refl; program-array = λ xs. refl; program-rows = λ rs. refl; resumes = refl }
 

@@ -22,7 +22,7 @@ use Rattle.paper.specs.Protection.{question, among}
 use Rattle.paper.specs.Registers.{withBytes}
 use Rattle.paper.specs.Program.{noData, pageData, pagePlace, programOf, narrowed}
 use Rattle.paper.specs.Operations.{narrow}
-use Rattle.paper.specs.Soundness.{operationOk, bitsOk, largeOk, pageOk, partSound, sound}
+use Rattle.paper.specs.Soundness.{operationOk, bitsOk, largeOk, pageOk, partSound, soundOf}
 use Rattle.paper.specs.Numbers.{sizeNumber, rowsNumber, lengthNumber, outputNumber, soundNumber, ticksNumber, givenOk, powerUpNumber, transactionRefusal, tickNumber, commandNumber}
 use Rattle.paper.specs.Table.{decoded}
 use Rattle.paper.specs.Ticks.{worked}
@@ -44,7 +44,7 @@ identity = record { maker = 0x11; kind = 0x22; capacity = 0x33; device = 0x44 }
 -- the part's record with this status and function, this latch, armed or not, in this phase and with this page data
 abbrev pub recordAt : ℕ → ℕ → Bool → Bool → Phase → List ℕ → Record
 recordAt status function wel armed f page =
-    record { part = record { blocks = 1; identity = identity; stored = withBytes status function noStored; wel = wel; armed = armed; asleep = false; live = 0x00; bank = 0x00 }; phase = f; page = page }
+    record { part = record { blocks = 1; stored = withBytes status function noStored; wel = wel; armed = armed; asleep = false; live = 0x00; bank = 0x00 }; phase = f; identity = identity; page = page }
 
 -- A5h, 5Ah and 3Ch programmed at 000010h, with k ticks done
 abbrev pub program : ℕ → Operation
@@ -122,7 +122,7 @@ record Answers (a r : ℕ) : Type 0 where
   resets : did idle 1 ≡ transacted (suspended true) a r true (0x99 ∷ []) 1
 
 answers-told : Answers (arrayBytes 1) rowsBytes
-unfolding transacted outcomeOf ticked tickedMemory transactionRefusal tickNumber sizeNumber rowsNumber lengthNumber outputNumber soundNumber ticksNumber commandNumber sound partSound operationOk bitsOk largeOk pageOk sizeOk decoded noData pageData addressIn highFirst question among blockRow cellOf tableCell pagePlace programOf worked _and_ _or_ unless _orElse_
+unfolding transacted outcomeOf ticked tickedMemory transactionRefusal tickNumber sizeNumber rowsNumber lengthNumber outputNumber soundNumber ticksNumber commandNumber soundOf partSound operationOk bitsOk largeOk pageOk sizeOk decoded noData pageData addressIn highFirst question among blockRow cellOf tableCell pagePlace programOf worked _and_ _or_ unless _orElse_
 answers-told =
     record { enables = refl; programs = refl; ticks-run = refl; array-ticked = λ xs. refl; rows-ticked = λ rs. refl; suspends = refl; wakes = refl; arms = refl; resets = refl }
 

@@ -91,7 +91,6 @@ pub fn change_by(
 ) -> Change
     ensures { λ r. ⌜ r ≡ changeBy effect form work part phase (now (input .entry)) ⌝ }
 {
-    let identity = part.identity;
     let stored = part.stored;
     match effect {
         Effect::Looks => Change::Marked(false),
@@ -112,7 +111,7 @@ pub fn change_by(
         Effect::Wakes => Change::Anew(unarm(rest(part, false))),
         Effect::Arms => Change::Marked(true),
         Effect::Resets => {
-            let next = record::fresh_part(part.blocks, identity, stored);
+            let next = record::fresh_part(part.blocks, stored);
             Change::Clears(next)
         }
         Effect::SetsLive => {
@@ -176,6 +175,7 @@ fn page_after(becomes: Data, input: &[u8], page: [u8; 256]) -> [u8; 256]
 pub fn apply(change: Change, input: &[u8], state: Record) -> Record
     ensures { λ r. ⌜ r ≡ changed change (now (input .entry)) state ⌝ }
 {
+    let identity = state.identity;
     let page = state.page;
     match change {
         Change::Same => state,
@@ -184,6 +184,7 @@ pub fn apply(change: Change, input: &[u8], state: Record) -> Record
             let phase = state.phase;
             let next = mark(part, armed);
             Record {
+                identity: identity,
                 part: next,
                 phase: phase,
                 page: page,
@@ -194,6 +195,7 @@ pub fn apply(change: Change, input: &[u8], state: Record) -> Record
             let phase = state.phase;
             let next = set_live(mark(part, false), live);
             Record {
+                identity: identity,
                 part: next,
                 phase: phase,
                 page: page,
@@ -202,6 +204,7 @@ pub fn apply(change: Change, input: &[u8], state: Record) -> Record
         Change::Anew(part) => {
             let phase = state.phase;
             Record {
+                identity: identity,
                 part: part,
                 phase: phase,
                 page: page,
@@ -212,6 +215,7 @@ pub fn apply(change: Change, input: &[u8], state: Record) -> Record
             let working = phases::running_in(phase, work);
             let held = page_after(becomes, input, page);
             Record {
+                identity: identity,
                 part: part,
                 phase: working,
                 page: held,
@@ -221,6 +225,7 @@ pub fn apply(change: Change, input: &[u8], state: Record) -> Record
             let phase = state.phase;
             let halted = phases::suspended_in(phase);
             Record {
+                identity: identity,
                 part: part,
                 phase: halted,
                 page: page,
@@ -230,6 +235,7 @@ pub fn apply(change: Change, input: &[u8], state: Record) -> Record
             let phase = state.phase;
             let resumed = phases::resumed_in(phase);
             Record {
+                identity: identity,
                 part: part,
                 phase: resumed,
                 page: page,
@@ -238,6 +244,7 @@ pub fn apply(change: Change, input: &[u8], state: Record) -> Record
         Change::Clears(part) => {
             let none = record::no_data();
             Record {
+                identity: identity,
                 part: part,
                 phase: Phase::Idle,
                 page: none,

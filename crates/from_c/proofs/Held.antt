@@ -14,9 +14,11 @@ use Rattle.paper.specs.Soundness.{sound}
 use Rattle.paper.specs.Calls.{transacted, transactedOutput, ticked, tickedMemory}
 use Rattle.paper.proofs.Numbers.{transaction-taken}
 use Rattle.record_bytes.specs.Layout.{recordBytes}
-use Rattle.record_bytes.specs.Read.{held, recordIn}
-use Rattle.yawlspar.specs.Face.{packed, onHeld, transactAnswer, transactBytes, transactOutput, tickAnswer, tickBytes, tickMemory}
-use Rattle.yawlspar.proofs.Face.{unheld-bytes, unheld-tick-bytes, unheld-memory}
+use Rattle.record_bytes.specs.Read.{held, recordIn, onHeld}
+use Rattle.ticks.specs.InBytes.{heldWorked, tickBytes, tickMemory}
+use Rattle.ticks.proofs.InBytes.{unheld-tick-bytes, unheld-memory}
+use Rattle.yawlspar.specs.Face.{packed, transactAnswer, transactBytes, transactOutput, tickAnswer}
+use Rattle.yawlspar.proofs.Face.{unheld-bytes}
 use Rattle.yawlspar.proofs.Refused.{refused-bytes}
 use Rattle.from_c.specs.Driven.{Lent, lent, CCall, transact, tick, gives}
 
@@ -45,7 +47,7 @@ module _ (l : Lent) (p : Record) (e : recordIn (l .bytes) ≡ held p) where
     ran = ticked p (length (l .array)) (length (l .rows)) n
 
     pub held-ticks-answer : gives (tick n) l .answer ≡ packed (ran .number) (ran .done)
-    unfolding onHeld tickAnswer
+    unfolding onHeld heldWorked tickAnswer
     held-ticks-answer = rw e refl
 
     pub held-ticked : gives (tick n) l .left .bytes ≡ recordBytes (ran .next)
@@ -73,4 +75,4 @@ unheld-left (tick n) l e =
     let h = recordIn (l .bytes) in
     let a = length (l .array) in
     let r = length (l .rows) in
-    rw (← unheld-tick-bytes h e a r n (l .bytes), ← unheld-memory h e Array a r n (l .array), ← unheld-memory h e Rows a r n (l .rows)) refl
+    rw (← unheld-tick-bytes h e a r n (l .bytes), ← unheld-memory h e a r n Array (l .array), ← unheld-memory h e a r n Rows (l .rows)) refl

@@ -10,7 +10,8 @@ use Rattle.types.specs.declared.Record.{Record}
 use Rattle.paper.specs.History.{Call, transaction, ticks, recordAfterCalls}
 use Rattle.history.specs.Course.{Step, sent, waited}
 use Rattle.record_bytes.specs.Read.{recordIn}
-use Rattle.yawlspar.specs.Face.{packed, transactAnswer, transactBytes, transactOutput, tickAnswer, tickBytes, tickMemory}
+use Rattle.ticks.specs.InBytes.{tickBytes, tickMemory}
+use Rattle.yawlspar.specs.Face.{packed, transactAnswer, transactBytes, transactOutput, tickAnswer}
 
 -- what every call is lent: the record's bytes, the array and the rows
 pub record Lent : Type 0 where

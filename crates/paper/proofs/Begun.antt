@@ -30,7 +30,7 @@ use Rattle.paper.specs.Registers.{heldByte, writeOf}
 use Rattle.paper.specs.Phases.{isErase}
 use Rattle.paper.specs.Records.{settled}
 use Rattle.paper.specs.Operations.{targetFree, outside}
-use Rattle.paper.specs.Soundness.{latchOk, largeOk, operationOk, phaseOk, keptIn, pageOk, sound}
+use Rattle.paper.specs.Soundness.{latchOk, largeOk, operationOk, phaseOk, keptIn, pageOk, sound, soundOf}
 use Rattle.paper.proofs.Addresses.{row-inside}
 use Rattle.paper.proofs.Sizes.{size-range}
 use Rattle.paper.proofs.KeptBytes.{zeros-after}
@@ -128,14 +128,14 @@ write-ok r n g i =
 -- an awake part in another phase
 module _ (p : Part) (size : sizeOk (p .blocks) ≡ true) (large : largeOk (p .blocks) (p .stored .function) (p .bank) ≡ true) (awake : p .asleep ≡ false) where
   pub settled-sound : (f : Phase) (wel : Bool) (d : List ℕ) → latchOk f wel ≡ true → phaseOk f (p .blocks) (p .stored) ≡ true → pageOk f d ≡ true
-      → sound (recordOf (settled p f wel) f d) ≡ true
+      → soundOf (settled p f wel) f d ≡ true
   settled-sound f wel d l o g =
       sound-of (settled p f wel) f d (made-sound p (p .stored) f wel size (rw awake (awake-ok f)) l o large) g
 
   -- a program, whose address is sent in one way or the other
   module _ (w : Addressing) (i : List ℕ) (long : 2 + addressCount w ≤ length i) where
     pub program-begun : (m : Memory) → Valid m w i → targetFree (programOf m w (p .blocks) i) (p .blocks) (p .stored) ≡ true
-        → sound (recordOf (settled p (Busy (programOf m w (p .blocks) i)) true) (Busy (programOf m w (p .blocks) i)) (pageData (dataSent w i))) ≡ true
+        → soundOf (settled p (Busy (programOf m w (p .blocks) i)) true) (Busy (programOf m w (p .blocks) i)) (pageData (dataSent w i)) ≡ true
     unfolding programOf pageOk
     program-begun m v f =
         settled-sound (Busy (programOf m w (p .blocks) i)) true (pageData (dataSent w i)) refl
@@ -144,7 +144,7 @@ module _ (p : Part) (size : sizeOk (p .blocks) ≡ true) (large : largeOk (p .bl
     -- the same within a suspended erase, of a page of the array outside of its unit
     pub program-nested : (e : Operation) → isErase e ≡ true → phaseOk (Suspended e) (p .blocks) (p .stored) ≡ true
         → targetFree (programOf Array w (p .blocks) i) (p .blocks) (p .stored) ≡ true → outside e (p .blocks) (programOf Array w (p .blocks) i) ≡ true
-        → sound (recordOf (settled p (Nested (programOf Array w (p .blocks) i) e) true) (Nested (programOf Array w (p .blocks) i) e) (pageData (dataSent w i))) ≡ true
+        → soundOf (settled p (Nested (programOf Array w (p .blocks) i) e) true) (Nested (programOf Array w (p .blocks) i) e) (pageData (dataSent w i)) ≡ true
     unfolding programOf pageOk
     program-nested e h g f a =
         let o = programOf Array w (p .blocks) i in
@@ -155,17 +155,17 @@ module _ (p : Part) (size : sizeOk (p .blocks) ≡ true) (large : largeOk (p .bl
   -- a phase that keeps no page data, where there is none
   module _ (d : List ℕ) (none : allZero d ≡ true) where
     pub settled-empty : (f : Phase) (wel : Bool) → latchOk f wel ≡ true → phaseOk f (p .blocks) (p .stored) ≡ true → keptIn f ≡ 0
-        → sound (recordOf (settled p f wel) f d) ≡ true
+        → soundOf (settled p f wel) f d ≡ true
     unfolding pageOk
     settled-empty f wel l o k = settled-sound f wel d l o (ap (λ (n : ℕ). allZero (drop n d)) k ∙ none)
 
     pub erase-begun : (u : EraseUnit) (w : Addressing) (i : List ℕ) → Valid (memoryOf u) w i → targetFree (eraseOf u w (p .blocks) i) (p .blocks) (p .stored) ≡ true
-        → sound (recordOf (settled p (Busy (eraseOf u w (p .blocks) i)) true) (Busy (eraseOf u w (p .blocks) i)) d) ≡ true
+        → soundOf (settled p (Busy (eraseOf u w (p .blocks) i)) true) (Busy (eraseOf u w (p .blocks) i)) d ≡ true
     unfolding eraseOf
     erase-begun u w i v f =
         settled-empty (Busy (eraseOf u w (p .blocks) i)) true refl (erase-ok u w (p .blocks) (p .stored) i (size-range (p .blocks) size .0) v f) refl
 
-    pub write-begun : (r : Register) (i : List ℕ) → sound (recordOf (settled p (Busy (writeOf r i)) true) (Busy (writeOf r i)) d) ≡ true
+    pub write-begun : (r : Register) (i : List ℕ) → soundOf (settled p (Busy (writeOf r i)) true) (Busy (writeOf r i)) d ≡ true
     unfolding writeOf
     write-begun r i = settled-empty (Busy (writeOf r i)) true refl (write-ok r (p .blocks) (p .stored) i) refl
 

@@ -14,7 +14,7 @@ use Rattle.paper.specs.Sizes.{isLarge}
 use Rattle.paper.specs.Phases.{halted, workIs, isProgram, eraseHalted, isBusy}
 use Rattle.paper.specs.Registers.{bitAt, bitsAt, WEL, WIP, ESUS, PSUS, TBS, bankLoaded}
 use Rattle.paper.specs.Records.{wip, esus, psus, statusLow, functionLow}
-use Rattle.paper.specs.Soundness.{bitsOk, largeOk}
+use Rattle.paper.specs.Soundness.{bitsOk, largeOk, sound}
 use Rattle.paper.specs.Numbers.{givenOk}
 
 -- the last bit of a byte, the last two, the two before them, and these four

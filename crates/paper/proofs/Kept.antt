@@ -24,14 +24,14 @@ use Rattle.words.specs.Lists.{allZero}
 use Rattle.words.proofs.Tests.{and-l, and-r, and-in, or-true, unless-zero, orElse-zero, bit-le}
 use Rattle.paper.specs.Sizes.{sizeOk}
 use Rattle.paper.specs.Program.{noData}
-use Rattle.paper.specs.Phases.{running, isProgram, isErase, isBusy, workingOn}
+use Rattle.paper.specs.Phases.{running, isProgram, isErase, isBusy, workingOn, restOf}
 use Rattle.paper.specs.Records.{made, freshPart, fresh}
 use Rattle.paper.specs.Operations.{ticksInAll, ticksDone, advancedBy, keptBy}
 use Rattle.paper.specs.Registers.{TBS, storedAfter, bankLoaded}
-use Rattle.paper.specs.Soundness.{latchOk, nestOk, bitsOk, largeOk, pageOk, sound}
+use Rattle.paper.specs.Soundness.{latchOk, nestOk, bitsOk, largeOk, pageOk, sound, soundOf}
 use Rattle.paper.specs.Numbers.{powerUpNumber}
 use Rattle.paper.specs.Calls.{noIdentity, noStored, zeroRecord, poweredUp}
-use Rattle.paper.specs.Ticks.{finished, advanced, worked, tickedAt, tickOnce, recordAfter, workingTicks}
+use Rattle.paper.specs.Ticks.{finishedPart, finished, advanced, worked, tickedAt, tickOnce, recordAfter, workingTicks}
 use Rattle.paper.proofs.Phases.{no-work-at, at-same}
 use Rattle.paper.proofs.Bits.{given-as}
 use Rattle.paper.proofs.MadeSound.{made-sound}
@@ -42,13 +42,13 @@ unfolding noData _and_
 no-data-zero = refl
 
 -- an idle part with WEL 0 and page data zero, asleep or awake
-pub idle-sound : (p : Part) (g : Stored) → sizeOk (p .blocks) ≡ true → largeOk (p .blocks) (g .function) (p .bank) ≡ true → sound (recordOf (made p g Idle false) Idle noData) ≡ true
+pub idle-sound : (p : Part) (g : Stored) → sizeOk (p .blocks) ≡ true → largeOk (p .blocks) (g .function) (p .bank) ≡ true → soundOf (made p g Idle false) Idle noData ≡ true
 unfolding _or_ pageOk
 idle-sound p g s b =
     sound-of (made p g Idle false) Idle noData (made-sound p g Idle false s refl refl refl b) no-data-zero
 
 pub fresh-sound : (n : ℕ) (id : Identity) (g : Stored) → sizeOk n ≡ true → largeOk n (g .function) bankLoaded ≡ true → sound (fresh n id g) ≡ true
-fresh-sound n id g s b = idle-sound (freshPart n id g) g s b
+fresh-sound n id g s b = idle-sound (freshPart n g) g s b
 
 -- a bank register of 0 goes with TBS as any does
 pub unbanked : (n function bank : ℕ) → largeOk n function bank ≡ true → largeOk n function bankLoaded ≡ true
@@ -129,14 +129,14 @@ erase-keeps (Write r v) e = refl
 
 -- a tick that is not the last
 module _ (p : Part) (g : List ℕ) where
-  busy-sound : (o : Operation) → Sound p (Busy o) g → ticksDone o + 1 < ticksInAll o (p .blocks) → sound (recordOf p (Busy (advancedBy 1 o)) g) ≡ true
+  busy-sound : (o : Operation) → Sound p (Busy o) g → ticksDone o + 1 < ticksInAll o (p .blocks) → soundOf p (Busy (advancedBy 1 o)) g ≡ true
   unfolding bitsOk pageOk
   busy-sound o s h =
       let i = advanced-in-order 1 (p .blocks) (p .stored) o (in-order o (p .blocks) (p .stored) (s .phase-ok)) h in
       sound-whole p (Busy (advancedBy 1 o)) g
       (record { size = s .size; sleep = s .sleep; latch = s .latch; phase-ok = in-order-whole (advancedBy 1 o) (p .blocks) (p .stored) i; bits = s .bits; large = s .large; page-ok = ap (λ (k : ℕ). allZero (drop k g)) (advanced-keeps 1 o) ∙ s .page-ok })
 
-  nested-sound : (e o : Operation) → Sound p (Nested o e) g → ticksDone o + 1 < ticksInAll o (p .blocks) → sound (recordOf p (Nested (advancedBy 1 o) e) g) ≡ true
+  nested-sound : (e o : Operation) → Sound p (Nested o e) g → ticksDone o + 1 < ticksInAll o (p .blocks) → soundOf p (Nested (advancedBy 1 o) e) g ≡ true
   unfolding bitsOk pageOk
   nested-sound e o s h =
       let both-ok = and-r _ _ (s .phase-ok) in
@@ -152,14 +152,14 @@ module _ (p : Part) (g : List ℕ) where
         page-ok = ap (λ (k : ℕ). allZero (drop k g)) (advanced-keeps 1 o) ∙ s .page-ok;
       })
 
-  going-sound : (f : Phase) (o : Operation) → running f ≡ At o → Sound p f g → ticksDone o + 1 < ticksInAll o (p .blocks) → sound (recordOf p (workingOn f (advancedBy 1 o)) g) ≡ true
+  going-sound : (f : Phase) (o : Operation) → running f ≡ At o → Sound p f g → ticksDone o + 1 < ticksInAll o (p .blocks) → soundOf p (workingOn f (advancedBy 1 o)) g ≡ true
   going-sound Idle o e s h = absurd (no-work-at e)
   going-sound (Busy x) o e s h = busy-sound o (subst (λ (y : Operation). Sound p (Busy y) g) (at-same e) s) h
   going-sound (Suspended x) o e s h = absurd (no-work-at e)
   going-sound (Nested x y) o e s h = nested-sound y o (subst (λ (z : Operation). Sound p (Nested z y) g) (at-same e) s) h
 
   -- and the last: a part that was nested is suspended from the outer erase again
-  outer-sound : (e o : Operation) → Sound p (Nested o e) g → sound (finished (recordOf p (Nested o e) g) o) ≡ true
+  outer-sound : (e o : Operation) → Sound p (Nested o e) g → soundOf (finishedPart p (Nested o e) o) (Suspended e) noData ≡ true
   unfolding pageOk
   outer-sound e o s =
       let i = in-nest e o (p .blocks) (and-l _ _ (s .phase-ok)) in
@@ -169,7 +169,7 @@ module _ (p : Part) (g : List ℕ) where
       (sound-of (made p (p .stored) (Suspended e) false) (Suspended e) noData
       (made-sound p (p .stored) (Suspended e) false (s .size) (s .sleep) l (and-in (i .suspends) (and-l _ _ (and-r _ _ (s .phase-ok)))) (s .large)) k)
 
-  finished-sound : (f : Phase) (o : Operation) → running f ≡ At o → Sound p f g → sound (finished (recordOf p f g) o) ≡ true
+  finished-sound : (f : Phase) (o : Operation) → running f ≡ At o → Sound p f g → soundOf (finishedPart p f o) (restOf f) noData ≡ true
   finished-sound Idle o e s = absurd (no-work-at e)
   finished-sound (Busy x) o e s = idle-sound p (storedAfter o (p .stored)) (s .size) (after-large o (p .blocks) (p .stored) (p .bank) ∙ s .large)
   finished-sound (Suspended x) o e s = absurd (no-work-at e)

@@ -113,9 +113,9 @@ program-nests p e a r wp i o k f d c z =
     (ap (λ (t : Record). t .phase) q ∙ ap (λ (g : Phase). workingOn g (programOf Array w (p .part .blocks) i)) f, ap (λ (t : Record). t .part .wel) q, ap (λ (t : Record). t .page) q)
 
 -- its ticks that are not the last go on with it
-pub nested-goes-on : (p : Record) (e o : Operation) (n : ℕ) → p .phase ≡ Nested o e → ticksDone o + n < ticksInAll o (p .part .blocks) → recordAfter n p ≡ recordOf (p .part) (Nested (advancedBy n o) e) (p .page)
+pub nested-goes-on : (p : Record) (e o : Operation) (n : ℕ) → p .phase ≡ Nested o e → ticksDone o + n < ticksInAll o (p .part .blocks) → recordAfter n p ≡ recordOf (p .identity) (p .part) (Nested (advancedBy n o) e) (p .page)
 nested-goes-on p e o n f h =
-    run-record p o (ap running f) n h ∙ ap (λ (g : Phase). recordOf (p .part) (workingOn g (advancedBy n o)) (p .page)) f
+    run-record p o (ap running f) n h ∙ ap (λ (g : Phase). recordOf (p .identity) (p .part) (workingOn g (advancedBy n o)) (p .page)) f
 
 -- its last leaves the part suspended from the erase, with WEL 0 and page data zero; ticks past it change nothing
 pub nested-ends : (p : Record) (e o : Operation) (n : ℕ) → p .phase ≡ Nested o e → ticksDone o < ticksInAll o (p .part .blocks) → ticksInAll o (p .part .blocks) ≤ ticksDone o + n

@@ -73,16 +73,16 @@ module _ (p : Record) (o : Operation) (e : running (p .phase) ≡ At o) where
   runs-at x = other-runs (p .phase) (At x)
 
   advanced-again : (x y : Operation) → advanced (advanced p x) y ≡ advanced p y
-  advanced-again x y = ap (λ (f : Phase). recordOf (p .part) f (p .page)) (other-again (p .phase) (At x) (At y))
+  advanced-again x y = ap (λ (f : Phase). recordOf (p .identity) (p .part) f (p .page)) (other-again (p .phase) (At x) (At y))
 
   advanced-none : advanced p (advancedBy 0 o) ≡ p
   advanced-none =
-      ap (λ (f : Phase). recordOf (p .part) f (p .page)) (ap (workingOn (p .phase)) (by-none o) ∙ other-same (p .phase) (At o) e)
+      ap (λ (f : Phase). recordOf (p .identity) (p .part) f (p .page)) (ap (workingOn (p .phase)) (by-none o) ∙ other-same (p .phase) (At o) e)
 
   finished-from : (t : ℕ) → finished (advanced p (advancedBy t o)) (advancedBy t o) ≡ finished p o
   finished-from t =
-      ap (λ (f : Phase). recordOf (made (p .part) (storedAfter (advancedBy t o) (p .part .stored)) f false) f noData) (other-again (p .phase) (At (advancedBy t o)) NoWork)
-      ∙ ap (λ (g : Stored). recordOf (made (p .part) g (restOf (p .phase)) false) (restOf (p .phase)) noData) (by-stored t o (p .part .stored))
+      ap (λ (f : Phase). recordOf (p .identity) (made (p .part) (storedAfter (advancedBy t o) (p .part .stored)) f false) f noData) (other-again (p .phase) (At (advancedBy t o)) NoWork)
+      ∙ ap (λ (g : Stored). recordOf (p .identity) (made (p .part) g (restOf (p .phase)) false) (restOf (p .phase)) noData) (by-stored t o (p .part .stored))
 
   -- its record after k ticks that are not the last: so many ticks more are done
   pub run-record : (k : ℕ) → ticksDone o + k < ticksInAll o (p .part .blocks) → recordAfter k p ≡ advanced p (advancedBy k o)

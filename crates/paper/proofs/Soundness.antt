@@ -8,6 +8,7 @@ use Rattle.types.specs.declared.Operation.{Operation}
 use Rattle.types.specs.declared.Phase.{Phase}
 use Rattle.types.specs.declared.Phase.the-variants.{Idle, Busy, Suspended, Nested}
 use Rattle.types.specs.declared.Work.the-variants.{At}
+use Rattle.types.specs.declared.Identity.{Identity}
 use Rattle.types.specs.declared.Stored.{Stored}
 use Rattle.types.specs.declared.Part.{Part}
 use Rattle.types.specs.declared.Record.{Record}
@@ -18,7 +19,7 @@ use Rattle.paper.specs.Phases.{running, halted, isProgram, isErase}
 use Rattle.paper.specs.Records.{marked, withLive}
 use Rattle.paper.specs.Operations.{ticksInAll, ticksDone, aligned, inside, targetFree, canSuspend, outside}
 use Rattle.paper.proofs.Phases.{no-work-at, at-same}
-use Rattle.paper.specs.Soundness.{sleepOk, latchOk, contentOk, operationOk, nestOk, phaseOk, bitsOk, largeOk, pageOk, partSound, sound}
+use Rattle.paper.specs.Soundness.{sleepOk, latchOk, contentOk, operationOk, nestOk, phaseOk, bitsOk, largeOk, pageOk, partSound, soundOf, sound}
 
 -- the parts of soundness, of a part in a phase with page data
 pub record Sound (p : Part) (f : Phase) (g : List ℕ) : Type 0 where
@@ -30,12 +31,12 @@ pub record Sound (p : Part) (f : Phase) (g : List ℕ) : Type 0 where
   pub large : largeOk (p .blocks) (p .stored .function) (p .bank) ≡ true
   pub page-ok : pageOk f g ≡ true
 
--- a record that is sound by what it is made of
-abbrev pub recordOf : Part → Phase → List ℕ → Record
-recordOf p f g = record { part = p; phase = f; page = g }
+-- a record of what it is made of
+abbrev pub recordOf : Identity → Part → Phase → List ℕ → Record
+recordOf id p f g = record { identity = id; part = p; phase = f; page = g }
 
 pub sound-parts : (p : Record) → sound p ≡ true → Sound (p .part) (p .phase) (p .page)
-unfolding sound partSound
+unfolding soundOf partSound
 sound-parts p h =
     let h0 = and-l _ _ h in
     let h1 = and-r _ _ h0 in
@@ -48,26 +49,26 @@ pub part-whole : (p : Part) (f : Phase) (g : List ℕ) → Sound p f g → partS
 unfolding partSound
 part-whole p f g s = and-in (s .size) (and-in (s .sleep) (and-in (s .latch) (and-in (s .phase-ok) (and-in (s .bits) (s .large)))))
 
-pub sound-of : (p : Part) (f : Phase) (g : List ℕ) → partSound p f ≡ true → pageOk f g ≡ true → sound (recordOf p f g) ≡ true
-unfolding sound
+pub sound-of : (p : Part) (f : Phase) (g : List ℕ) → partSound p f ≡ true → pageOk f g ≡ true → soundOf p f g ≡ true
+unfolding soundOf
 sound-of p f g s k = and-in s k
 
-pub sound-whole : (p : Part) (f : Phase) (g : List ℕ) → Sound p f g → sound (recordOf p f g) ≡ true
+pub sound-whole : (p : Part) (f : Phase) (g : List ℕ) → Sound p f g → soundOf p f g ≡ true
 sound-whole p f g s = sound-of p f g (part-whole p f g s) (s .page-ok)
 
 -- the parts of a record whose phase is known
 pub sound-in : (p : Record) (f : Phase) → p .phase ≡ f → sound p ≡ true → Sound (p .part) f (p .page)
 sound-in p f e h =
-    sound-parts (recordOf (p .part) f (p .page)) (ap (λ (g : Phase). sound (recordOf (p .part) g (p .page))) (sym e) ∙ h)
+    sound-parts (recordOf (p .identity) (p .part) f (p .page)) (ap (λ (g : Phase). soundOf (p .part) g (p .page)) (sym e) ∙ h)
 
 -- the armed mark does not matter
-pub marked-sound : (p : Part) (f : Phase) (g : List ℕ) (armed : Bool) → sound (recordOf p f g) ≡ true → sound (recordOf (marked p armed) f g) ≡ true
-unfolding sound partSound
+pub marked-sound : (p : Part) (f : Phase) (g : List ℕ) (armed : Bool) → soundOf p f g ≡ true → soundOf (marked p armed) f g ≡ true
+unfolding soundOf partSound
 marked-sound p f g armed h = h
 
 -- nor does the live byte
-pub live-sound : (p : Part) (f : Phase) (g : List ℕ) (v : ℕ) → sound (recordOf p f g) ≡ true → sound (recordOf (withLive p v) f g) ≡ true
-unfolding sound partSound
+pub live-sound : (p : Part) (f : Phase) (g : List ℕ) (v : ℕ) → soundOf p f g ≡ true → soundOf (withLive p v) f g ≡ true
+unfolding soundOf partSound
 live-sound p f g v h = h
 
 -- an awake part may be in any phase

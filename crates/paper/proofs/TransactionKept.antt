@@ -38,7 +38,8 @@ use Rattle.types.specs.declared.Part.{Part}
 use Rattle.types.specs.declared.Record.{Record}
 use Rattle.types.specs.declared.Data.{Data}
 use Rattle.types.specs.declared.Data.the-variants.{Kept, Sent}
-use Rattle.types.specs.declared.Change.the-variants.{Marked, Live}
+use Rattle.types.specs.declared.Change.{Change}
+use Rattle.types.specs.declared.Change.the-variants.{Same, Marked, Live, Anew, Runs, Halts, GoesOn, Clears}
 use Rattle.types.specs.declared.Outcome.{Outcome}
 use Rattle.words.specs.Logic.{_or_}
 use Rattle.words.specs.Lists.{allZero}
@@ -52,7 +53,7 @@ use Rattle.paper.specs.Phases.{halted, isErase, eraseHalted, isBusy, isS
 use Rattle.paper.specs.Records.{settled, marked, resting, withLive, withBank}
 use Rattle.paper.specs.Operations.{targetFree, outsideOf}
 use Rattle.paper.specs.Suspend.{suspendable, resumable}
-use Rattle.paper.specs.Soundness.{sleepOk, latchOk, largeOk, pageOk, sound}
+use Rattle.paper.specs.Soundness.{sleepOk, latchOk, largeOk, pageOk, sound, soundOf}
 use Rattle.paper.specs.Table.{decoded, line, WEL, columns, addressingOn}
 use Rattle.paper.specs.Commands.{changed, begun, starts, changeBy, errorsOf, changeBarred, changeIgnored}
 use Rattle.paper.specs.Numbers.{freeOk, ignoredNumber, transactionRefusal}
@@ -106,44 +107,53 @@ module _ (P : Record → Type 0) (p : Record) (wp : Bool) (i : List ℕ) (same :
   unfolding transacted
   after-transaction = any-outcome (λ (u : Outcome). P (changed (u .change) i p)) (p .part) (p .phase) wp i (λ n. same) ignored-so did (sound p)
 
--- a part of the same size and identity
-abbrev SamePart : Part → Record → Type 0
-SamePart p q = (q .part .blocks ≡ p .blocks) × (q .part .identity ≡ p .identity)
+-- no change of a record changes its identity
+same-identity : (c : Change) (i : List ℕ) (p : Record) → changed c i p .identity ≡ p .identity
+same-identity Same i p = refl
+same-identity (Marked armed) i p = refl
+same-identity (Live v) i p = refl
+same-identity (Anew q) i p = refl
+same-identity (Runs q d w) i p = refl
+same-identity (Halts q) i p = refl
+same-identity (GoesOn q) i p = refl
+same-identity (Clears q) i p = refl
+
+-- a part of the same size
+abbrev SameSize : Part → Record → Type 0
+SameSize p q = q .part .blocks ≡ p .blocks
 
 module _ (p : Record) (i : List ℕ) where
-  starts-same : (w : Work) (d : Data) → SamePart (p .part) (changed (starts w (p .part) (p .phase) d) i p)
-  starts-same NoWork d = (refl, refl)
-  starts-same (At o) d = (refl, refl)
+  starts-same : (w : Work) (d : Data) → SameSize (p .part) (changed (starts w (p .part) (p .phase) d) i p)
+  starts-same NoWork d = refl
+  starts-same (At o) d = refl
 
-  change-same : (e : Effect) (a : Addressing) (w : Work) → SamePart (p .part) (changed (changeBy e a w (p .part) (p .phase) i) i p)
-  change-same Looks a w = (refl, refl)
-  change-same Enables a w = (refl, refl)
-  change-same Disables a w = (refl, refl)
+  change-same : (e : Effect) (a : Addressing) (w : Work) → SameSize (p .part) (changed (changeBy e a w (p .part) (p .phase) i) i p)
+  change-same Looks a w = refl
+  change-same Enables a w = refl
+  change-same Disables a w = refl
   change-same (Programs m) a w = starts-same w (Sent a)
   change-same (Erases u) a w = starts-same w Kept
   change-same (Writes r) a w = starts-same w Kept
-  change-same Suspends a w = (refl, refl)
-  change-same Resumes a w = (refl, refl)
-  change-same Sleeps a w = (refl, refl)
-  change-same Wakes a w = (refl, refl)
-  change-same Arms a w = (refl, refl)
-  change-same Resets a w = (refl, refl)
-  change-same SetsLive a w = (refl, refl)
-  change-same ClearsErrors a w = (refl, refl)
-  change-same SetsBank a w = (refl, refl)
-  change-same (SetsFar far) a w = (refl, refl)
+  change-same Suspends a w = refl
+  change-same Resumes a w = refl
+  change-same Sleeps a w = refl
+  change-same Wakes a w = refl
+  change-same Arms a w = refl
+  change-same Resets a w = refl
+  change-same SetsLive a w = refl
+  change-same ClearsErrors a w = refl
+  change-same SetsBank a w = refl
+  change-same (SetsFar far) a w = refl
 
   module _ (a r : ℕ) (wp : Bool) (o : ℕ) where
-    transaction-same : SamePart (p .part) (transacted p a r wp i o .next)
-    transaction-same =
-        after-transaction (SamePart (p .part)) p wp i (refl, refl) (refl, refl) (λ v. (refl, refl))
+    pub transaction-size : transacted p a r wp i o .next .part .blocks ≡ p .part .blocks
+    transaction-size =
+        after-transaction (SameSize (p .part)) p wp i refl refl (λ v. refl)
         (λ k c e. change-same (columns k .effect) (addressingOn (columns k) (p .part)) (begun (columns k) (p .part) i)) a r o
 
-    pub transaction-size : transacted p a r wp i o .next .part .blocks ≡ p .part .blocks
-    transaction-size = transaction-same .0
-
-    pub transaction-identity : transacted p a r wp i o .next .part .identity ≡ p .part .identity
-    transaction-identity = transaction-same .1
+    pub transaction-identity : transacted p a r wp i o .next .identity ≡ p .identity
+    unfolding transacted
+    transaction-identity = same-identity (outcomeOf (p .part) (p .phase) (sound p) a r wp i o .change) i p
 
 -- a bank register that is written has bits 6..1 zero
 turned-large : (n function : ℕ) (far : Bool) (b : ℕ) → isLarge n ≡ true → largeOk n function (bankTurned far b) ≡ true
@@ -154,18 +164,18 @@ turned-large n function false b e =
 
 -- what commands that are taken make of a sound record
 module _ (p : Record) (s : sound p ≡ true) where
-  marks : (armed : Bool) → sound (recordOf (marked (p .part) armed) (p .phase) (p .page)) ≡ true
+  marks : (armed : Bool) → soundOf (marked (p .part) armed) (p .phase) (p .page) ≡ true
   marks armed = marked-sound (p .part) (p .phase) (p .page) armed s
 
   -- the live byte does not matter
-  lives : (v : ℕ) → sound (recordOf (withLive (marked (p .part) false) v) (p .phase) (p .page)) ≡ true
+  lives : (v : ℕ) → soundOf (withLive (marked (p .part) false) v) (p .phase) (p .page) ≡ true
   lives v = live-sound (marked (p .part) false) (p .phase) (p .page) v (marks false)
 
   -- a part that is made anew, unarmed
-  unarms : (q : Part) (f : Phase) (g : List ℕ) → sound (recordOf q f g) ≡ true → sound (recordOf (marked q false) f g) ≡ true
+  unarms : (q : Part) (f : Phase) (g : List ℕ) → soundOf q f g ≡ true → soundOf (marked q false) f g ≡ true
   unarms q f g h = marked-sound q f g false h
 
-  suspends : (f : Phase) → p .phase ≡ f → suspendable f ≡ true → sound (recordOf (settled (p .part) (suspendedIn f) false) (suspendedIn f) (p .page)) ≡ true
+  suspends : (f : Phase) → p .phase ≡ f → suspendable f ≡ true → soundOf (settled (p .part) (suspendedIn f) false) (suspendedIn f) (p .page) ≡ true
   unfolding pageOk
   suspends Idle e h = absurd (false≢true (and-l _ _ h))
   suspends (Busy o) e h =
@@ -175,7 +185,7 @@ module _ (p : Record) (s : sound p ≡ true) where
   suspends (Suspended o) e h = absurd (false≢true (and-l _ _ h))
   suspends (Nested o x) e h = absurd (false≢true (and-r _ _ h))
 
-  resumes : (f : Phase) → p .phase ≡ f → resumable f ≡ true → sound (recordOf (settled (p .part) (resumedIn f) true) (resumedIn f) (p .page)) ≡ true
+  resumes : (f : Phase) → p .phase ≡ f → resumable f ≡ true → soundOf (settled (p .part) (resumedIn f) true) (resumedIn f) (p .page) ≡ true
   unfolding pageOk
   resumes Idle e h = absurd (false≢true h)
   resumes (Busy o) e h = absurd (false≢true h)
@@ -185,7 +195,7 @@ module _ (p : Record) (s : sound p ≡ true) where
       (made-sound (p .part) (p .part .stored) (Busy o) true (q .size) (q .sleep) refl (and-r _ _ (q .phase-ok)) (q .large)) (q .page-ok)
   resumes (Nested o x) e h = absurd (false≢true h)
 
-  rests : (asleep : Bool) → sleepOk (p .phase) asleep ≡ true → sound (recordOf (resting (p .part) asleep) (p .phase) (p .page)) ≡ true
+  rests : (asleep : Bool) → sleepOk (p .phase) asleep ≡ true → soundOf (resting (p .part) asleep) (p .phase) (p .page) ≡ true
   rests asleep h =
       let q = sound-parts p s in
       sound-whole (resting (p .part) asleep) (p .phase) (p .page) (record { size = q .size; sleep = h; latch = q .latch; phase-ok = q .phase-ok; bits = q .bits; large = q .large; page-ok = q .page-ok })
@@ -193,7 +203,7 @@ module _ (p : Record) (s : sound p ≡ true) where
   -- what is taken by an awake part that is idle or suspended from an erase
   module _ (awake : p .part .asleep ≡ false) where
     -- WEL is set or cleared
-    latches : (wel : Bool) (f : Phase) → p .phase ≡ f → isBusy f ≡ false → (eraseHalted f or not (isSuspended f)) ≡ true → sound (recordOf (settled (p .part) f wel) f (p .page)) ≡ true
+    latches : (wel : Bool) (f : Phase) → p .phase ≡ f → isBusy f ≡ false → (eraseHalted f or not (isSuspended f)) ≡ true → soundOf (settled (p .part) f wel) f (p .page) ≡ true
     unfolding _or_
     latches wel Idle e b h =
         let q = sound-in p Idle e s in
@@ -209,7 +219,7 @@ module _ (p : Record) (s : sound p ≡ true) where
     begins-program : (w : Addressing) (i : List ℕ) → 2 + addressCount w ≤ length i → (f : Phase) → p .phase ≡ f → isBusy f ≡ false → (eraseHalted f or not (isSuspended f)) ≡ true
         → let o = programOf Array w (p .part .blocks) i in
         targetFree o (p .part .blocks) (p .part .stored) ≡ true → outsideOf (halted f) (p .part .blocks) o ≡ true
-        → sound (recordOf (settled (p .part) (workingOn f o) true) (workingOn f o) (pageData (dataSent w i))) ≡ true
+        → soundOf (settled (p .part) (workingOn f o) true) (workingOn f o) (pageData (dataSent w i)) ≡ true
     begins-program w i l Idle e b h g a =
         let q = sound-in p Idle e s in
         program-begun (p .part) (q .size) (q .large) awake w i l Array tt g
@@ -229,7 +239,7 @@ module _ (p : Record) (s : sound p ≡ true) where
       unfolding _or_
       not-busy-then = not-true (isBusy (p .phase)) (t .not-busy)
 
-      latched : (wel : Bool) → sound (recordOf (settled (p .part) (p .phase) wel) (p .phase) (p .page)) ≡ true
+      latched : (wel : Bool) → soundOf (settled (p .part) (p .phase) wel) (p .phase) (p .page) ≡ true
       latched wel = latches awake-then wel (p .phase) refl not-busy-then (t .not-suspended)
 
     -- a command that is taken only by an awake and idle part
@@ -246,12 +256,12 @@ module _ (p : Record) (s : sound p ≡ true) where
       empty = idle-empty p idle s
 
       -- what it begins runs alone
-      starting : (o : Operation) (d : List ℕ) → sound (recordOf (settled (p .part) (Busy o) true) (Busy o) d) ≡ true
-          → sound (recordOf (settled (p .part) (workingOn (p .phase) o) true) (workingOn (p .phase) o) d) ≡ true
+      starting : (o : Operation) (d : List ℕ) → soundOf (settled (p .part) (Busy o) true) (Busy o) d ≡ true
+          → soundOf (settled (p .part) (workingOn (p .phase) o) true) (workingOn (p .phase) o) d ≡ true
       starting o d h =
-          ap (λ (f : Phase). sound (recordOf (settled (p .part) (workingOn f o) true) (workingOn f o) d)) idle ∙ h
+          ap (λ (f : Phase). soundOf (settled (p .part) (workingOn f o) true) (workingOn f o) d) idle ∙ h
 
-      sleeps : sound (recordOf (resting (p .part) true) (p .phase) (p .page)) ≡ true
+      sleeps : soundOf (resting (p .part) true) (p .phase) (p .page) ≡ true
       unfolding _or_
       sleeps = rests true (ap (λ (f : Phase). sleepOk f true) idle)
 
@@ -289,7 +299,7 @@ module _ (p : Record) (s : sound p ≡ true) where
         unarms _ _ _ (starting t (writeOf r i) (p .page) (write-begun (p .part) (sound-parts p s .size) (sound-parts p s .large) (awake t) (p .page) (empty t) r i))
 
     -- the bank register is written, on the large part
-    banks : (far : Bool) (b : ℕ) → isLarge (p .part .blocks) ≡ true → sound (recordOf (marked (withBank (p .part) (bankTurned far b)) false) (p .phase) (p .page)) ≡ true
+    banks : (far : Bool) (b : ℕ) → isLarge (p .part .blocks) ≡ true → soundOf (marked (withBank (p .part) (bankTurned far b)) false) (p .phase) (p .page) ≡ true
     banks far b e =
         let q = sound-parts p s in
         unarms _ _ _
@@ -318,7 +328,7 @@ module _ (p : Record) (s : sound p ≡ true) where
     executed-sound Resume c t = unarms _ _ _ (resumes (p .phase) refl (t .state-ok))
     executed-sound Sleep c t = unarms _ _ _ (sleeps t)
     executed-sound ArmReset c t = marks true
-    executed-sound Reset c t = fresh-sound (p .part .blocks) (p .part .identity) (p .part .stored) (sound-parts p s .size) (unbanked (p .part .blocks) (p .part .stored .function) (p .part .bank) (sound-parts p s .large))
+    executed-sound Reset c t = fresh-sound (p .part .blocks) (p .identity) (p .part .stored) (sound-parts p s .size) (unbanked (p .part .blocks) (p .part .stored .function) (p .part .bank) (sound-parts p s .large))
     executed-sound RowErase c t = erases Row (Three false) (t .address-ok) t
     executed-sound RowProgram c t = programs-at-rest (Three false) refl Rows (t .address-ok) t
     executed-sound ReadExtended c t = marks false

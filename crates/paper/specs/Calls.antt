@@ -80,20 +80,20 @@ unfoldable pub transacted : Record → ℕ → ℕ → Bool → List ℕ → ℕ
 transacted p a r wp i o = answered (outcomeOf (p .part) (p .phase) (sound p) a r wp i o) i p
 
 -- the output bytes of a part that takes or ignores a command: ignored, all FFh
-abbrev pub outputTo : Decoded → Part → Phase → List ℕ → List ℕ → Bool → List ℕ → List ℕ
-outputTo (Known k) p f xs rs wp i =
-    whenZero (ignoredNumber (Known k) p f i wp) (outputOf (columns k) p xs rs i) (undriven (length i))
-outputTo Unknown p f xs rs wp i = undriven (length i)
+abbrev pub outputTo : Decoded → Identity → Part → Phase → List ℕ → List ℕ → Bool → List ℕ → List ℕ
+outputTo (Known k) id p f xs rs wp i =
+    whenZero (ignoredNumber (Known k) p f i wp) (outputOf (columns k) id p xs rs i) (undriven (length i))
+outputTo Unknown id p f xs rs wp i = undriven (length i)
 
 -- the output buffer after a transaction: refusals write nothing
-unfoldable pub outputAfter : Part → Phase → Bool → List ℕ → List ℕ → Bool → List ℕ → List ℕ → List ℕ
-outputAfter p f s xs rs wp i o =
+unfoldable pub outputAfter : Identity → Part → Phase → Bool → List ℕ → List ℕ → Bool → List ℕ → List ℕ → List ℕ
+outputAfter id p f s xs rs wp i o =
     whenZero (transactionRefusal (p .blocks) s (length xs) (length rs) (length i) (length o))
-    (outputTo (decoded (p .blocks) (p .bank) (getD i 0 0)) p f xs rs wp i)
+    (outputTo (decoded (p .blocks) (p .bank) (getD i 0 0)) id p f xs rs wp i)
     o
 
 abbrev pub transactedOutput : Record → List ℕ → List ℕ → Bool → List ℕ → List ℕ → List ℕ
-transactedOutput p xs rs wp i o = outputAfter (p .part) (p .phase) (sound p) xs rs wp i o
+transactedOutput p xs rs wp i o = outputAfter (p .identity) (p .part) (p .phase) (sound p) xs rs wp i o
 
 -- a tick call's answer, for an array of a and rows of r bytes; it reports how many ticks did work. Refusals return the given record and report 0 ticks
 unfoldable pub ticked : Record → ℕ → ℕ → ℕ → Ticked

@@ -36,13 +36,13 @@ pageAfter Zero i g = noData
 -- the record after a change by a call with the input i
 abbrev pub changed : Change → List ℕ → Record → Record
 changed Same i p = p
-changed (Marked armed) i p = record { part = marked (p .part) armed; phase = p .phase; page = p .page }
-changed (Live v) i p = record { part = withLive (marked (p .part) false) v; phase = p .phase; page = p .page }
-changed (Anew q) i p = record { part = q; phase = p .phase; page = p .page }
-changed (Runs q d w) i p = record { part = q; phase = runningIn (p .phase) w; page = pageAfter d i (p .page) }
-changed (Halts q) i p = record { part = q; phase = suspendedIn (p .phase); page = p .page }
-changed (GoesOn q) i p = record { part = q; phase = resumedIn (p .phase); page = p .page }
-changed (Clears q) i p = record { part = q; phase = Idle; page = noData }
+changed (Marked armed) i p = record { identity = p .identity; part = marked (p .part) armed; phase = p .phase; page = p .page }
+changed (Live v) i p = record { identity = p .identity; part = withLive (marked (p .part) false) v; phase = p .phase; page = p .page }
+changed (Anew q) i p = record { identity = p .identity; part = q; phase = p .phase; page = p .page }
+changed (Runs q d w) i p = record { identity = p .identity; part = q; phase = runningIn (p .phase) w; page = pageAfter d i (p .page) }
+changed (Halts q) i p = record { identity = p .identity; part = q; phase = suspendedIn (p .phase); page = p .page }
+changed (GoesOn q) i p = record { identity = p .identity; part = q; phase = resumedIn (p .phase); page = p .page }
+changed (Clears q) i p = record { identity = p .identity; part = q; phase = Idle; page = noData }
 
 -- what a command begins on a part of n blocks, with the input i, in which its address is sent as g says
 abbrev pub begins : Effect → Addressing → ℕ → List ℕ → Work
@@ -91,8 +91,8 @@ changeBy Resumes g w p f i = GoesOn (unarmed (settled p (resumedIn f) true))
 changeBy Sleeps g w p f i = Anew (unarmed (resting p true))
 changeBy Wakes g w p f i = Anew (unarmed (resting p false))
 changeBy Arms g w p f i = Marked true
--- both operations dropped, WEL 0, awake, unarmed, the live byte loaded, the bank register 00h: what power-up gives for the same size, identity and stored register bits
-changeBy Resets g w p f i = Clears (freshPart (p .blocks) (p .identity) (p .stored))
+-- both operations dropped, WEL 0, awake, unarmed, the live byte loaded, the bank register 00h: what power-up gives for the same size and stored register bits
+changeBy Resets g w p f i = Clears (freshPart (p .blocks) (p .stored))
 -- 83h and 82h act at once, and leave WEL
 changeBy SetsLive g w p f i = Live (liveSet (getD i 1 0) (p .live))
 changeBy ClearsErrors g w p f i = Live (liveCleared (p .live))

@@ -7,6 +7,7 @@ use lib.Dec.{leb}
 use Rattle.types.specs.declared.Source.{Source}
 use Rattle.types.specs.declared.Source.the-variants.{None, ArrayBytes, RowBytes, StatusByte, FunctionByte, IdentityBytes, MakerPair, DeviceByte, ExtendedByte, BankByte}
 use Rattle.types.specs.declared.Columns.{Columns}
+use Rattle.types.specs.declared.Identity.{Identity}
 use Rattle.types.specs.declared.Part.{Part}
 use Rattle.types.specs.declared.Addressing.{Addressing}
 use Rattle.words.specs.Logic.{_and_}
@@ -25,18 +26,18 @@ abbrev pub undriven : ℕ → List ℕ
 undriven n = replicate n undrivenByte
 
 -- the bytes that a command drives, round and round: array reads run on past the end to address 0, row reads wrap inside the row,
--- status, function, the extended read register and the bank register repeat, 9Fh repeats M, T, C, 90h alternates M and D, ABh repeats D
-abbrev pub sourceBytes : Source → Addressing → Part → List ℕ → List ℕ → List ℕ → List ℕ
-sourceBytes None g p xs rs i = []
-sourceBytes ArrayBytes g p xs rs i = xs
-sourceBytes RowBytes g p xs rs i = take pageBytes (drop (rowBase g i) rs)
-sourceBytes StatusByte g p xs rs i = p .stored .status ∷ []
-sourceBytes FunctionByte g p xs rs i = p .stored .function ∷ []
-sourceBytes IdentityBytes g p xs rs i = p .identity .maker ∷ p .identity .kind ∷ p .identity .capacity ∷ []
-sourceBytes MakerPair g p xs rs i = p .identity .maker ∷ p .identity .device ∷ []
-sourceBytes DeviceByte g p xs rs i = p .identity .device ∷ []
-sourceBytes ExtendedByte g p xs rs i = extendedRead (p .live) (p .stored .status) ∷ []
-sourceBytes BankByte g p xs rs i = p .bank ∷ []
+-- status, function, the extended read register and the bank register repeat, 9Fh repeats M, T, C, 90h alternates M and D, ABh repeats D of the identity id
+abbrev pub sourceBytes : Source → Addressing → Identity → Part → List ℕ → List ℕ → List ℕ → List ℕ
+sourceBytes None g id p xs rs i = []
+sourceBytes ArrayBytes g id p xs rs i = xs
+sourceBytes RowBytes g id p xs rs i = take pageBytes (drop (rowBase g i) rs)
+sourceBytes StatusByte g id p xs rs i = p .stored .status ∷ []
+sourceBytes FunctionByte g id p xs rs i = p .stored .function ∷ []
+sourceBytes IdentityBytes g id p xs rs i = id .maker ∷ id .kind ∷ id .capacity ∷ []
+sourceBytes MakerPair g id p xs rs i = id .maker ∷ id .device ∷ []
+sourceBytes DeviceByte g id p xs rs i = id .device ∷ []
+sourceBytes ExtendedByte g id p xs rs i = extendedRead (p .live) (p .stored .status) ∷ []
+sourceBytes BankByte g id p xs rs i = p .bank ∷ []
 
 -- at which of them it begins: at A, at the row's byte address; 90h with bit 0 of the third address byte clear: M first, set: D first
 abbrev pub sourceStart : Source → Addressing → ℕ → List ℕ → ℕ
@@ -52,17 +53,17 @@ sourceStart ExtendedByte g n i = 0
 sourceStart BankByte g n i = 0
 
 -- the byte at place j of an executed command's output
-abbrev pub outputByte : Columns → Part → List ℕ → List ℕ → List ℕ → ℕ → ℕ
-outputByte k p xs rs i j =
+abbrev pub outputByte : Columns → Identity → Part → List ℕ → List ℕ → List ℕ → ℕ → ℕ
+outputByte k id p xs rs i j =
     cond (isRead k and leb (k .from) j)
-    (round (sourceBytes (k .source) (addressingOn k p) p xs rs i)
+    (round (sourceBytes (k .source) (addressingOn k p) id p xs rs i)
     (sourceStart (k .source) (addressingOn k p) (p .blocks) i)
     (j - k .from))
     undrivenByte
 
 -- its whole output, as long as the input
-unfoldable pub outputOf : Columns → Part → List ℕ → List ℕ → List ℕ → List ℕ
-outputOf k p xs rs i = upTo (length i) (outputByte k p xs rs i)
+unfoldable pub outputOf : Columns → Identity → Part → List ℕ → List ℕ → List ℕ → List ℕ
+outputOf k id p xs rs i = upTo (length i) (outputByte k id p xs rs i)
 
 -- the first driven place of n; it equals the transaction length where nothing is driven
 abbrev pub firstDriven : Columns → ℕ → ℕ

@@ -36,40 +36,40 @@ abbrev pub registersIn : Phase → Bool → Stored → Stored
 registersIn f wel s =
     withBytes (storedBits s .status + statusLow f wel) (storedBits s .function + functionLow f) (storedBits s)
 
--- the part made for a phase, of registers s and a latch: WEL is the latch, and the registers are s in that phase and with that latch. Size, identity, marks, live byte and bank register stay
+-- the part made for a phase, of registers s and a latch: WEL is the latch, and the registers are s in that phase and with that latch. Size, marks, live byte and bank register stay
 abbrev pub made : Part → Stored → Phase → Bool → Part
 made p s f wel =
-    record { blocks = p .blocks; identity = p .identity; stored = registersIn f wel s; wel = wel; armed = p .armed; asleep = p .asleep; live = p .live; bank = p .bank }
+    record { blocks = p .blocks; stored = registersIn f wel s; wel = wel; armed = p .armed; asleep = p .asleep; live = p .live; bank = p .bank }
 
 -- the part made for another phase and another latch, of its own registers: WEL changes, and the bits WIP, WEL, ESUS and PSUS
 abbrev pub settled : Part → Phase → Bool → Part
 settled p f wel = made p (p .stored) f wel
 
--- the part made anew for an idle phase: of n blocks, with an identity and the stored bits of s, WEL 0, unarmed, awake, the live byte loaded, the bank register 00h
-abbrev pub freshPart : ℕ → Identity → Stored → Part
-freshPart n id s =
-    record { blocks = n; identity = id; stored = registersIn Idle false s; wel = false; armed = false; asleep = false; live = liveLoaded s; bank = bankLoaded }
+-- the part made anew for an idle phase: of n blocks, with the stored bits of s, WEL 0, unarmed, awake, the live byte loaded, the bank register 00h
+abbrev pub freshPart : ℕ → Stored → Part
+freshPart n s =
+    record { blocks = n; stored = registersIn Idle false s; wel = false; armed = false; asleep = false; live = liveLoaded s; bank = bankLoaded }
 
--- the record of such a part: idle, page data zero
+-- the record of such a part with an identity: idle, page data zero
 abbrev pub fresh : ℕ → Identity → Stored → Record
-fresh n id s = record { part = freshPart n id s; phase = Idle; page = noData }
+fresh n id s = record { identity = id; part = freshPart n s; phase = Idle; page = noData }
 
 -- the part with another armed mark; all else stays
 abbrev pub marked : Part → Bool → Part
 marked p armed =
-    record { blocks = p .blocks; identity = p .identity; stored = p .stored; wel = p .wel; armed = armed; asleep = p .asleep; live = p .live; bank = p .bank }
+    record { blocks = p .blocks; stored = p .stored; wel = p .wel; armed = armed; asleep = p .asleep; live = p .live; bank = p .bank }
 
 -- the part with another asleep mark; all else stays
 abbrev pub resting : Part → Bool → Part
 resting p asleep =
-    record { blocks = p .blocks; identity = p .identity; stored = p .stored; wel = p .wel; armed = p .armed; asleep = asleep; live = p .live; bank = p .bank }
+    record { blocks = p .blocks; stored = p .stored; wel = p .wel; armed = p .armed; asleep = asleep; live = p .live; bank = p .bank }
 
 -- the part with another live byte; all else stays
 abbrev pub withLive : Part → ℕ → Part
 withLive p live =
-    record { blocks = p .blocks; identity = p .identity; stored = p .stored; wel = p .wel; armed = p .armed; asleep = p .asleep; live = live; bank = p .bank }
+    record { blocks = p .blocks; stored = p .stored; wel = p .wel; armed = p .armed; asleep = p .asleep; live = live; bank = p .bank }
 
 -- the part with another bank register; all else stays
 abbrev pub withBank : Part → ℕ → Part
 withBank p bank =
-    record { blocks = p .blocks; identity = p .identity; stored = p .stored; wel = p .wel; armed = p .armed; asleep = p .asleep; live = p .live; bank = bank }
+    record { blocks = p .blocks; stored = p .stored; wel = p .wel; armed = p .armed; asleep = p .asleep; live = p .live; bank = bank }

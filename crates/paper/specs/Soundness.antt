@@ -94,6 +94,10 @@ partSound p f =
     and bitsOk f (p .wel) (p .stored)
     and largeOk (p .blocks) (p .stored .function) (p .bank)
 
--- the whole
-unfoldable pub sound : Record → Bool
-sound p = partSound (p .part) (p .phase) and pageOk (p .phase) (p .page)
+-- a part in a phase with page data
+unfoldable pub soundOf : Part → Phase → List ℕ → Bool
+soundOf p f g = partSound p f and pageOk f g
+
+-- the record. Its identity may be any
+abbrev pub sound : Record → Bool
+sound p = soundOf (p .part) (p .phase) (p .page)

@@ -69,8 +69,8 @@ fn registers_in(phase: Phase, wel: bool, stored: Stored) -> Stored
     next
 }
 
-// A part in a phase, with the stored bits of some registers and with a latch. Size, identity, marks, live byte and bank
-// register stay.
+// A part in a phase, with the stored bits of some registers and with a latch. Size, marks, live byte and bank register
+// stay.
 pub fn make(part: Part, stored: Stored, phase: Phase, wel: bool) -> Part
     ensures { λ r. ⌜ r ≡ made part stored phase wel ⌝ }
 {
@@ -90,13 +90,12 @@ pub fn settle(part: Part, phase: Phase, wel: bool) -> Part
 }
 
 // An awake, unarmed part with WEL 0, the live byte loaded and the bank register 00h, for an idle phase.
-pub fn fresh_part(blocks: u16, identity: Identity, stored: Stored) -> Part
-    ensures { λ r. ⌜ r ≡ freshPart blocks identity stored ⌝ }
+pub fn fresh_part(blocks: u16, stored: Stored) -> Part
+    ensures { λ r. ⌜ r ≡ freshPart blocks stored ⌝ }
 {
     let registers = registers_in(Phase::Idle, false, stored);
     Part {
         blocks: blocks,
-        identity: identity,
         stored: registers,
         wel: false,
         armed: false,
@@ -109,9 +108,10 @@ pub fn fresh_part(blocks: u16, identity: Identity, stored: Stored) -> Part
 fn make_fresh(blocks: u16, identity: Identity, stored: Stored) -> Record
     ensures { λ r. ⌜ r ≡ fresh blocks identity stored ⌝ }
 {
-    let part = fresh_part(blocks, identity, stored);
+    let part = fresh_part(blocks, stored);
     let page = no_data();
     Record {
+        identity: identity,
         part: part,
         phase: Phase::Idle,
         page: page,

@@ -20,7 +20,7 @@ use Rattle.record_bytes.specs.Read.{recordIn}
 use Rattle.record_bytes.proofs.Back.{held-length, held-bytes}
 
 -- the armed mark at its place
-mark-set : (p : Record) (armed : Bool) → set (recordBytes p) armedAt (bit armed) ≡ recordBytes (recordOf (marked (p .part) armed) (p .phase) (p .page))
+mark-set : (p : Record) (armed : Bool) → set (recordBytes p) armedAt (bit armed) ≡ recordBytes (recordOf (p .identity) (marked (p .part) armed) (p .phase) (p .page))
 unfolding recordBytes partBytes worksBytes operationBytes
 mark-set p armed = refl
 

@@ -1,14 +1,15 @@
 -- Bytes that are copied to their places, and read from them.
-use Prim.Native.Nat.{ℕ, _+_, _*_, _/_, _%_, _≤_}
+use Prim.Native.Nat.{ℕ, suc, _+_, _*_, _/_, _%_, _<_, _≤_}
 use mathlib.Core.Path.{_≡_, refl, sym, ap, _∙_}
 use mathlib.Core.List.{List, [], _∷_, _++_, append-nil, append-assoc}
 use native.Mathlib.Omega.{arith}
-use lib.ListN.{length, take, drop, getD, replicate, set, length-append, length-take, length-drop, drop-of-length-le, take-append-drop}
-use lib.Seq.{take-all, take-length, take-at, drop-at, drop-drop}
+use lib.ListN.{length, take, drop, getD, replicate, set, length-set, length-append, length-take, length-drop, drop-of-length-le, take-append-drop}
+use lib.Seq.{take-all, take-length, take-at, drop-at, drop-drop, drop-set-add}
 use Rattle.types.specs.declared.Phase.{Phase}
 use Rattle.types.specs.declared.Phase.the-variants.{Idle}
 use Rattle.types.specs.declared.Work.{Work}
 use Rattle.types.specs.declared.Work.the-variants.{NoWork}
+use Rattle.types.specs.declared.Identity.{Identity}
 use Rattle.types.specs.declared.Part.{Part}
 use Rattle.words.specs.Logic.{bit}
 use Rattle.paper.specs.Sizes.{pageBytes}
@@ -19,7 +20,7 @@ use Rattle.runs.proofs.Laws.{copied-whole}
 use Rattle.address.specs.Bytes.{highFirstBytes}
 use Rattle.cells.specs.declared.Cells.{Cells}
 use Rattle.cells.specs.Operations.{workCells}
-use Rattle.record_bytes.specs.Layout.{baseAt, countAt, doneAt, operationLength, runningAt, haltedAt, spareAt, spareLength, partLength, phaseLength, headerLength, recordLength, storedBytes, partBytes, operationBytes, worksBytes, phaseBytes, header, headerRunning, worksLaid}
+use Rattle.record_bytes.specs.Layout.{baseAt, countAt, doneAt, operationLength, runningAt, haltedAt, identityAt, identityLength, partLength, phaseLength, headerLength, recordLength, storedBytes, partBytes, operationBytes, worksBytes, phaseBytes, identityBytes, header, headerRunning, worksLaid, headerIdle}
 
 -- of at most eight bytes the first eight are all
 pub take-few : (k : ℕ) (l : List ℕ) → k ≤ 8 → take 8 (take k l) ≡ take k l
@@ -28,6 +29,16 @@ take-few k l h = take-all 8 (take k l) (simp length-take (omega arith))
 -- the number that two bytes are
 pub two-bytes : (bs : List ℕ) → 2 ≤ length bs → getD bs 0 0 * 256 + getD bs 1 0 ≡ highFirst (take 2 bs)
 two-bytes bs h = omega (arith, high-first-more bs 1 (omega arith), high-first-more bs 0 (omega arith), high-first-none bs)
+
+-- and the one that eight are
+pub eight-bytes : (bs : List ℕ) → length bs ≡ 8
+    → getD bs 7 0 + getD bs 6 0 * 256 + getD bs 5 0 * 65536 + getD bs 4 0 * 16777216 + getD bs 3 0 * 4294967296 + getD bs 2 0 * 1099511627776 + getD bs 1 0 * 281474976710656 + getD bs 0 0 * 72057594037927936
+    ≡ highFirst bs
+eight-bytes bs h =
+    let m : (i : ℕ) → i < length bs → highFirst (take (suc i) bs) ≡ highFirst (take i bs) * 256 + getD bs i 0 = high-first-more bs in
+    let e : getD bs 7 0 + getD bs 6 0 * 256 + getD bs 5 0 * 65536 + getD bs 4 0 * 16777216 + getD bs 3 0 * 4294967296 + getD bs 2 0 * 1099511627776 + getD bs 1 0 * 281474976710656 + getD bs 0 0 * 72057594037927936 ≡ highFirst (take 8 bs) =
+    omega (arith, high-first-none bs, m 0 (omega arith), m 1 (omega arith), m 2 (omega arith), m 3 (omega arith), m 4 (omega arith), m 5 (omega arith), m 6 (omega arith), m 7 (omega arith)) in
+    e ∙ ap highFirst (take-all 8 bs (omega arith))
 
 -- bytes that were copied over the first n of others
 pub copied-over : (bs s : List ℕ) (n : ℕ) → length s ≡ n → take (length s) s ++ drop (length s) bs ≡ s ++ drop n bs
@@ -68,9 +79,13 @@ pub operation-length : (s : Cells) → length (operationBytes s) ≡ operationLe
 unfolding operationBytes
 operation-length s = refl
 
-pub header-length : (p : Part) (f : Phase) → length (header p f) ≡ headerLength
+pub header-length : (p : Part) (f : Phase) (d : Identity) → length (header p f d) ≡ headerLength
 unfolding partBytes worksBytes operationBytes
-header-length p f = refl
+header-length p f d = refl
+
+pub header-front : (p : Part) (f : Phase) → length (partBytes p ++ phaseBytes f) ≡ identityAt
+unfolding partBytes worksBytes operationBytes
+header-front p f = refl
 
 -- a record's bytes with what a part does written in its place, and then what it is before
 module _ (bs : List ℕ) (l : length bs ≡ recordLength) where
@@ -81,26 +96,39 @@ module _ (bs : List ℕ) (l : length bs ≡ recordLength) where
     abbrev doing : List ℕ
     doing = take partLength bs ++ (y ++ drop phaseLength (drop partLength bs))
 
-    pub part-laid : (p : Part) → partBytes p ++ drop partLength doing ≡ header p f ++ drop headerLength bs
+    pub part-laid : (p : Part) → partBytes p ++ drop partLength doing ≡ (partBytes p ++ phaseBytes f) ++ drop identityAt bs
     part-laid p =
         let t : length (take partLength bs) ≡ partLength = simp length-take (omega arith) in
         ap (λ (x : List ℕ). partBytes p ++ x) (drop-at (take partLength bs) (y ++ drop phaseLength (drop partLength bs)) partLength t ∙ rw (e, drop-drop) refl)
-        ∙ sym (append-assoc (partBytes p) (phaseBytes f) (drop headerLength bs))
+        ∙ sym (append-assoc (partBytes p) (phaseBytes f) (drop identityAt bs))
+
+  -- of a part that does nothing: the header, with the identity that was there, and page data behind it
+  pub idle-laid : (p : Part) → (partBytes p ++ phaseBytes Idle) ++ drop identityAt bs ≡ headerIdle p bs ++ drop headerLength bs
+  idle-laid p =
+      let d : drop identityLength (drop identityAt bs) ≡ drop headerLength bs = drop-drop identityLength identityAt bs in
+      ap (λ (x : List ℕ). (partBytes p ++ phaseBytes Idle) ++ x) (sym (take-append-drop identityLength (drop identityAt bs)))
+      ∙ sym (append-assoc (partBytes p ++ phaseBytes Idle) (take identityLength (drop identityAt bs)) (drop identityLength (drop identityAt bs)))
+      ∙ ap (λ (x : List ℕ). headerIdle p bs ++ x) d
+
+  pub idle-header-length : (p : Part) → length (headerIdle p bs) ≡ headerLength
+  idle-header-length p =
+      length-append (partBytes p ++ phaseBytes Idle) (take identityLength (drop identityAt bs))
+      ∙ rw (header-front p Idle) (simp (length-take, length-drop) (omega arith))
 
   -- the same of what runs alone, where what is suspended stays
   pub running-room : length (take operationLength (drop partLength bs)) ≡ operationLength
   running-room = simp (length-take, length-drop) (omega arith)
 
   abbrev kept : List ℕ
-  kept = take (operationLength + spareLength) (drop haltedAt bs)
+  kept = take (operationLength + identityLength) (drop haltedAt bs)
 
   running-rest : drop operationLength (drop partLength bs) ≡ kept ++ drop headerLength bs
   running-rest =
       drop-drop operationLength partLength bs
-      ∙ sym (take-append-drop (operationLength + spareLength) (drop haltedAt bs))
-      ∙ ap (λ (x : List ℕ). kept ++ x) (drop-drop (operationLength + spareLength) haltedAt bs)
+      ∙ sym (take-append-drop (operationLength + identityLength) (drop haltedAt bs))
+      ∙ ap (λ (x : List ℕ). kept ++ x) (drop-drop (operationLength + identityLength) haltedAt bs)
 
-  pub kept-length : length kept ≡ operationLength + spareLength
+  pub kept-length : length kept ≡ operationLength + identityLength
   kept-length = simp (length-take, length-drop) (omega arith)
 
   module _ (w : Work) (y : List ℕ) (e : y ≡ operationBytes (workCells w)) where
@@ -145,7 +173,6 @@ none-bytes = refl
 -- a part, byte by byte
 pub part-as : (p : Part) (w a z : ℕ) → w ≡ bit (p .wel) → a ≡ bit (p .armed) → z ≡ bit (p .asleep)
     → p .blocks / 256 % 256 ∷ p .blocks % 256
-    ∷ p .identity .maker ∷ p .identity .kind ∷ p .identity .capacity ∷ p .identity .device
     ∷ (storedBytes (p .stored) ++ (w ∷ a ∷ z ∷ p .live ∷ p .bank ∷ []))
     ≡ partBytes p
 unfolding partBytes
@@ -178,9 +205,9 @@ module _ (bs : List ℕ) (l : length bs ≡ recordLength) (a y : List ℕ) (la :
       ap (λ (x : List ℕ). partBytes q ++ x)
       (ap (drop partLength)
       (laid bs (t ++ a) haltedAt operationLength put front-length put-as (omega arith) z b ez
-      ∙ append-assoc (t ++ a) b (drop spareAt bs)
-      ∙ append-assoc t a (b ++ drop spareAt bs))
-      ∙ drop-at t (a ++ (b ++ drop spareAt bs)) partLength part-there)
+      ∙ append-assoc (t ++ a) b (drop identityAt bs)
+      ∙ append-assoc t a (b ++ drop identityAt bs))
+      ∙ drop-at t (a ++ (b ++ drop identityAt bs)) partLength part-there)
 
 -- the bytes of a part that does nothing, and of no page data
 pub idle-bytes : replicate phaseLength 0 ≡ phaseBytes Idle
@@ -190,6 +217,34 @@ idle-bytes = refl
 pub no-data-bytes : replicate pageBytes 0 ≡ noData
 unfolding noData
 no-data-bytes = refl
+
+-- four bytes written one by one
+four-set : (ys : List ℕ) (m k c d : ℕ) → 4 ≤ length ys → take 4 (set (set (set (set ys 0 m) 1 k) 2 c) 3 d) ≡ m ∷ k ∷ c ∷ d ∷ []
+four-set [] m k c d h = absurd (let b : ⊥ = omega arith in b)
+four-set (x ∷ []) m k c d h = absurd (let b : ⊥ = omega arith in b)
+four-set (x ∷ y ∷ []) m k c d h = absurd (let b : ⊥ = omega arith in b)
+four-set (x ∷ y ∷ z ∷ []) m k c d h = absurd (let b : ⊥ = omega arith in b)
+four-set (x ∷ y ∷ z ∷ w ∷ ys) m k c d h = refl
+
+-- a record's bytes with an identity written in its place, byte by byte
+module _ (bs : List ℕ) (d : Identity) where
+  abbrev signed : List ℕ
+  signed = set (set (set (set bs identityAt (d .maker)) (identityAt + 1) (d .kind)) (identityAt + 2) (d .capacity)) (identityAt + 3) (d .device)
+
+  pub signed-length : length signed ≡ length bs
+  signed-length = simp length-set
+
+  pub signed-as : length bs ≡ recordLength → take identityLength (drop identityAt signed) ≡ identityBytes d
+  signed-as l =
+      let a = set bs identityAt (d .maker) in
+      let b = set a (identityAt + 1) (d .kind) in
+      let c = set b (identityAt + 2) (d .capacity) in
+      let e0 : drop identityAt a ≡ set (drop identityAt bs) 0 (d .maker) = drop-set-add identityAt bs 0 (d .maker) in
+      let e1 = drop-set-add identityAt a 1 (d .kind) ∙ ap (λ (x : List ℕ). set x 1 (d .kind)) e0 in
+      let e2 = drop-set-add identityAt b 2 (d .capacity) ∙ ap (λ (x : List ℕ). set x 2 (d .capacity)) e1 in
+      let e3 = drop-set-add identityAt c 3 (d .device) ∙ ap (λ (x : List ℕ). set x 3 (d .device)) e2 in
+      ap (take identityLength) e3
+      ∙ four-set (drop identityAt bs) (d .maker) (d .kind) (d .capacity) (d .device) (simp length-drop (omega arith))
 
 -- zeros with the kind and the value written in their places, and then the numbers
 module _ (s : Cells) (z : List ℕ) (ez : z ≡ replicate operationLength 0) where

@@ -1,34 +1,43 @@
--- Part and phase of what bytes hold: when the header is the one that the fields have.
+-- What bytes hold: when the header is the one that the fields have.
 use Prim.Native.Nat.{ℕ, zero, suc, _+_, _*_, _/_, _%_, _^_, _<_, _≤_}
 use mathlib.Core.Path.{_≡_, refl, sym, ap, _∙_}
-use mathlib.Core.Bool.{Bool, true, false, not}
+use mathlib.Core.Bool.{Bool, true, false, not, cond}
 use mathlib.Core.List.{List, [], _∷_, _++_}
 use native.Mathlib.Omega.{arith}
 use lib.Dec.{eqb, leb}
-use lib.ListN.{length, take, drop, getD, replicate, length-take, length-drop}
+use lib.ListN.{length, take, drop, getD, length-append, length-take, length-drop}
 use lib.Seq.{take-all, take-add, drop-drop, getD-take, getD-drop}
 use borrow.Author.Tests.{eq-eqb, ne-eqb, lt-leb, eqb-true, eqb-false, not-true, not-false}
-use Rattle.words.proofs.Tests.{and-true, and-false, and-assoc}
-use Rattle.paper.specs.Sizes.{pageBytes}
-use Rattle.types.specs.declared.Phase.{Phase}
-use Rattle.types.specs.declared.Phase.the-variants.{Idle, Busy, Suspended, Nested}
-use Rattle.types.specs.declared.Work.the-variants.{NoWork, At}
+use Rattle.types.specs.declared.Memory.{Memory}
+use Rattle.types.specs.declared.Memory.the-variants.{Array, Rows}
+use Rattle.types.specs.declared.EraseUnit.{EraseUnit}
+use Rattle.types.specs.declared.EraseUnit.the-variants.{Sector, Block32, Block64, Chip, Row}
+use Rattle.types.specs.declared.Register.{Register}
+use Rattle.types.specs.declared.Register.the-variants.{Status, Function, Extended}
 use Rattle.types.specs.declared.Operation.{Operation}
+use Rattle.types.specs.declared.Phase.{Phase}
+use Rattle.types.specs.declared.Phase.the-variants.{Idle}
+use Rattle.types.specs.declared.Work.{Work}
+use Rattle.types.specs.declared.Work.the-variants.{NoWork, At}
 use Rattle.types.specs.declared.Part.{Part}
 use Rattle.words.specs.Logic.{_and_, bit}
 use Rattle.words.specs.Lists.{upTo, allZero}
 use Rattle.words.proofs.Lists.{upTo-part}
-use Rattle.paper.specs.Phases.{isIdle}
+use Rattle.words.proofs.Tests.{and-true}
+use Rattle.paper.specs.Sizes.{pageBytes}
+use Rattle.paper.specs.Phases.{phaseOf}
+use Rattle.paper.specs.Soundness.{pageOk, partSound, soundOf}
+use Rattle.paper.proofs.Addresses.{high-first-fits}
 use Rattle.paper.proofs.Phases.{phase-runs, phase-halts}
 use Rattle.address.specs.Bytes.{highFirstBytes}
 use Rattle.cells.specs.declared.Cells.{Cells}
-use Rattle.cells.specs.Operations.{cellsOf, workCells, operationIn}
+use Rattle.cells.specs.Operations.{cellsOf, workCells, programIn, eraseIn, writeIn, operationOf, operationIn, workOf}
+use Rattle.record_bytes.specs.declared.Doing.{Doing}
 use Rattle.record_bytes.specs.declared.Found.{Found}
-use Rattle.record_bytes.specs.declared.Seen.{Seen}
-use Rattle.record_bytes.specs.Layout.{welAt, armedAt, asleepAt, liveAt, bankAt, baseAt, countAt, doneAt, operationLength, runningAt, haltedAt, spareAt, spareLength, phaseLength, headerLength, recordLength, partBytes, operationBytes, worksBytes, phaseBytes, operationAt}
-use Rattle.record_bytes.specs.Read.{numberAt, marksIn, sameCells, sameBytes, cellsIn, workAt, storedOf, partIn, phaseIn, fieldsIn, holds, nothing, recordIn, found, seen, Fitting}
-use Rattle.record_bytes.proofs.Laws.{two-bytes, operation-length, none-bytes}
-use Rattle.record_bytes.proofs.Same.{same-append, same-number}
+use Rattle.record_bytes.specs.Layout.{welAt, armedAt, asleepAt, liveAt, bankAt, baseAt, countAt, doneAt, operationLength, runningAt, haltedAt, identityAt, identityLength, phaseLength, headerLength, recordLength, partBytes, operationBytes, worksBytes, phaseBytes, identityBytes, operationAt}
+use Rattle.record_bytes.specs.Read.{numberAt, marksIn, sameCells, sameBytes, cellsIn, workAt, storedOf, partIn, phaseIn, identityIn, fieldsIn, ownCells, doingIn, holds, nothing, recordIn, found, Fitting}
+use Rattle.record_bytes.proofs.Laws.{two-bytes, operation-length, header-front}
+use Rattle.record_bytes.proofs.Same.{same-bytes, same-append, same-number}
 use Rattle.record_bytes.proofs.Back.{taken}
 
 -- the byte of a mark that a byte is read as is that byte where it is 0 or 1
@@ -53,7 +62,7 @@ regroup false b c d = refl
 -- a part with its fields in the bytes f 0, f 1, ..
 abbrev partOf : (ℕ → ℕ) → Part
 partOf f =
-    record { blocks = f 0 * 256 + f 1; identity = record { maker = f 2; kind = f 3; capacity = f 4; device = f 5 }; stored = storedOf f; wel = eqb (f welAt) 1; armed = eqb (f armedAt) 1; asleep = eqb (f asleepAt) 1; live = f liveAt; bank = f bankAt }
+    record { blocks = f 0 * 256 + f 1; stored = storedOf f; wel = eqb (f welAt) 1; armed = eqb (f armedAt) 1; asleep = eqb (f asleepAt) 1; live = f liveAt; bank = f bankAt }
 
 -- an operation compared with bytes: its cells are with theirs
 module _ (xs : List ℕ) (l : length xs ≡ operationLength) (low : (j : ℕ) → getD xs j 0 < 256) where
@@ -91,24 +100,54 @@ module _ (xs : List ℕ) (l : length xs ≡ operationLength) (low : (j : ℕ) �
       ∙ ap (λ (t : Bool). eqb (s .base) (numberAt xs baseAt 8) and t) (more-same (s .count) countAt (highFirstBytes 8 (s .done)) (eight doneAt) (omega arith) (h .count)
       ∙ ap (λ (t : Bool). eqb (s .count) (numberAt xs countAt 8) and t) (number-same (s .done) doneAt (omega arith) (h .done))))
 
--- a byte is compared with zero
-zero-same : (x : ℕ) → eqb 0 x ≡ eqb x 0
-zero-same zero = refl
-zero-same (suc x) = rw (ne-eqb 0 (suc x) (λ q. omega (arith, q)), ne-eqb (suc x) 0 (λ q. omega (arith, q)))
+  -- and the numbers of cells that are read fit their fields
+  pub cells-fit : Fitting (cellsIn xs)
+  unfolding cellsIn
+  cells-fit =
+      let fits : (at : ℕ) → at + 8 ≤ operationLength → numberAt xs at 8 < 2 ^ 64 = λ at h. high-first-fits (drop at xs) (λ j. rw getD-drop (low (at + j))) 8 (simp length-drop (omega arith)) in
+      record { base = fits baseAt (omega arith); count = fits countAt (omega arith); done = fits doneAt (omega arith) }
 
--- four tests, in the order in which they are made
-turned : (m a k z : Bool) → (m and a and k and z) ≡ ((m and k) and z and a)
-unfolding _and_
-turned true true true z = sym (and-true z)
-turned true true false z = refl
-turned true false true z = sym (and-false z)
-turned true false false z = refl
-turned false a k z = refl
+-- so do those of the operation that cells are read as
+either-fits : (b : Bool) (x y : Operation) → Fitting (cellsOf x) → Fitting (cellsOf y) → Fitting (cellsOf (cond b x y))
+either-fits true x y f g = f
+either-fits false x y f g = g
 
--- the bytes of no operation with the zeros behind them
-none-and-zeros : operationBytes (workCells NoWork) ++ replicate spareLength 0 ≡ replicate (operationLength + spareLength) 0
-unfolding operationBytes
-none-and-zeros = refl
+module _ (c : Cells) (h : Fitting c) where
+  program-fits : (m : Memory) → Fitting (cellsOf (programIn m c))
+  program-fits m = record { base = h .base; count = h .count; done = h .done }
+
+  erase-fits : (u : EraseUnit) → Fitting (cellsOf (eraseIn u c))
+  erase-fits u = record { base = h .base; count = omega arith; done = h .done }
+
+  write-fits : (r : Register) → Fitting (cellsOf (writeIn r c))
+  write-fits r = record { base = omega arith; count = omega arith; done = omega arith }
+
+  operation-fits : Fitting (cellsOf (operationIn c))
+  unfolding operationOf
+  operation-fits =
+      let k = c .kind in
+      either-fits (eqb k 1) _ _ (program-fits Array)
+      (either-fits (eqb k 2) _ _ (program-fits Rows)
+      (either-fits (eqb k 3) _ _ (erase-fits Sector)
+      (either-fits (eqb k 4) _ _ (erase-fits Block32)
+      (either-fits (eqb k 5) _ _ (erase-fits Block64)
+      (either-fits (eqb k 6) _ _ (erase-fits Chip)
+      (either-fits (eqb k 7) _ _ (erase-fits Row)
+      (either-fits (eqb k 8) _ _ (write-fits Status) (either-fits (eqb k 9) _ _ (write-fits Function) (write-fits Extended)))))))))
+
+  or-none-fits : (b : Bool) → Fitting (workCells (cond b NoWork (At (operationIn c))))
+  or-none-fits true = record { base = omega arith; count = omega arith; done = omega arith }
+  or-none-fits false = operation-fits
+
+  pub work-fits : Fitting (workCells (workOf c))
+  work-fits = or-none-fits (eqb (c .kind) 0)
+
+-- what cells are read as: none where the kind is 0, else an operation
+pub no-work : (c : Cells) → c .kind ≡ 0 → NoWork ≡ workOf c
+no-work c e = rw (eq-eqb (c .kind) 0 e)
+
+pub some-work : (c : Cells) (o : Operation) → (c .kind ≡ 0 → ⊥) → o ≡ operationIn c → At o ≡ workOf c
+some-work c o n e = rw (ne-eqb (c .kind) 0 n, e)
 
 -- bytes that are taken from others are bytes
 taken-low : (xs : List ℕ) → ((j : ℕ) → getD xs j 0 < 256) → (n j : ℕ) → getD (take n xs) j 0 < 256
@@ -117,14 +156,7 @@ taken-low [] low (suc n) j = omega arith
 taken-low (x ∷ xs) low (suc n) zero = low 0
 taken-low (x ∷ xs) low (suc n) (suc j) = taken-low xs (λ k. low (suc k)) n j
 
--- bytes are compared with zeros by looking whether they are zero
-zeros-same : (k : ℕ) (xs : List ℕ) → length xs ≡ k → sameBytes (replicate k 0) xs ≡ allZero xs
-zeros-same zero [] e = refl
-zeros-same zero (x ∷ xs) e = absurd (let b : ⊥ = omega arith in b)
-zeros-same (suc k) [] e = absurd (let b : ⊥ = omega arith in b)
-zeros-same (suc k) (x ∷ xs) e = rw (zeros-same k xs (omega arith), zero-same x)
-
--- the header of a part compared with bytes, of which the fields of one byte agree but for the marks
+-- the front of a header compared with bytes, of which the fields of one byte agree but for the marks
 same-front : (f : ℕ → ℕ) (us rest : List ℕ) → f 0 < 256 → f 1 < 256
     → sameBytes (partBytes (partOf f) ++ us) (upTo runningAt f ++ rest) ≡ ((leb (f welAt) 1 and leb (f armedAt) 1 and leb (f asleepAt) 1) and sameBytes us rest)
 unfolding partBytes _and_
@@ -137,43 +169,34 @@ module _ (bs : List ℕ) (l : length bs ≡ recordLength) (low : (j : ℕ) → g
   abbrev byte : ℕ → ℕ
   byte j = getD bs j 0
 
-  -- those of what runs, of what is suspended, and the zeros behind them; and all of them
+  -- those of what runs and of what is suspended, of both, and of the identity
   abbrev ran : List ℕ
   ran = operationAt bs runningAt
 
   abbrev stood : List ℕ
   stood = operationAt bs haltedAt
 
-  abbrev spare : List ℕ
-  spare = take spareLength (drop spareAt bs)
-
   abbrev doing : List ℕ
   doing = take phaseLength (drop runningAt bs)
+
+  abbrev sign : List ℕ
+  sign = take identityLength (drop identityAt bs)
 
   at-length : (at : ℕ) → at + operationLength ≤ recordLength → length (operationAt bs at) ≡ operationLength
   at-length at h = simp (length-take, length-drop) (omega arith)
 
-  spare-length : length spare ≡ spareLength
-  spare-length = simp (length-take, length-drop) (omega arith)
-
   at-low : (at j : ℕ) → getD (operationAt bs at) j 0 < 256
   at-low at j = taken-low (drop at bs) (λ k. rw getD-drop (low (at + k))) operationLength j
 
-  -- what stands behind what runs
-  abbrev behind : List ℕ
-  behind = take (operationLength + spareLength) (drop haltedAt bs)
-
-  behind-as : behind ≡ stood ++ spare
-  behind-as =
-      let d : drop operationLength (drop haltedAt bs) ≡ drop spareAt bs = drop-drop operationLength haltedAt bs in
-      take-add operationLength spareLength (drop haltedAt bs) ∙ ap (λ (x : List ℕ). stood ++ take spareLength x) d
-
-  doing-as : doing ≡ ran ++ behind
+  doing-as : doing ≡ ran ++ stood
   doing-as =
       let d : drop operationLength (drop runningAt bs) ≡ drop haltedAt bs = drop-drop operationLength runningAt bs in
-      take-add operationLength (operationLength + spareLength) (drop runningAt bs) ∙ ap (λ (x : List ℕ). ran ++ take (operationLength + spareLength) x) d
+      take-add operationLength operationLength (drop runningAt bs) ∙ ap (λ (x : List ℕ). ran ++ take operationLength x) d
 
-  front-bytes : take headerLength bs ≡ upTo runningAt byte ++ doing
+  sign-as : identityBytes (identityIn bs) ≡ sign
+  sign-as = upTo-part bs identityAt identityLength (λ j. byte (identityAt + j)) (omega arith) (λ j h. refl)
+
+  front-bytes : take identityAt bs ≡ upTo runningAt byte ++ doing
   front-bytes =
       let f : upTo runningAt byte ≡ take runningAt bs = upTo-part bs 0 runningAt byte (omega arith) (λ j h. let q : j ≡ 0 + j = omega arith in ap byte q) in
       take-add runningAt phaseLength bs ∙ ap (λ (x : List ℕ). x ++ doing) (sym f)
@@ -182,112 +205,96 @@ module _ (bs : List ℕ) (l : length bs ≡ recordLength) (low : (j : ℕ) → g
   unfolding partIn
   part-bytes = rw (two-bytes bs (omega arith))
 
+  -- the identity agrees whatever it is
+  but-identity : (p : Part) (f : Phase)
+      → sameBytes ((partBytes p ++ phaseBytes f) ++ identityBytes (identityIn bs)) (take headerLength bs) ≡ sameBytes (partBytes p ++ phaseBytes f) (take identityAt bs)
+  but-identity p f =
+      let n : identityAt ≡ length (take identityAt bs) = sym (simp length-take (omega arith)) in
+      ap (sameBytes ((partBytes p ++ phaseBytes f) ++ identityBytes (identityIn bs))) (take-add identityAt identityLength bs)
+      ∙ same-append (partBytes p ++ phaseBytes f) (take identityAt bs) (identityBytes (identityIn bs)) sign (header-front p f ∙ n)
+      ∙ ap (λ (t : Bool). sameBytes (partBytes p ++ phaseBytes f) (take identityAt bs) and t) (ap (sameBytes (identityBytes (identityIn bs))) (sym sign-as) ∙ same-bytes (identityBytes (identityIn bs)))
+      ∙ and-true _
+
   -- bytes hold a record where the marks are 0 or 1, and the bytes of the phase are those of the phase that they are read as
   holds-as : holds bs ≡ (marksIn bs and sameBytes (phaseBytes (phaseIn bs)) doing)
   unfolding holds marksIn _and_
   holds-as =
-      rw (eq-eqb _ _ l, ← part-bytes, front-bytes) (same-front byte (phaseBytes (phaseIn bs)) doing (low 0) (low 1))
+      let f = phaseIn bs in
+      rw (eq-eqb _ _ l)
+      (but-identity (partIn bs) f
+      ∙ ap (λ (x : Part). sameBytes (partBytes x ++ phaseBytes f) (take identityAt bs)) (sym part-bytes)
+      ∙ ap (sameBytes (partBytes (partOf byte) ++ phaseBytes f)) front-bytes
+      ∙ same-front byte (phaseBytes f) doing (low 0) (low 1))
+
+  -- those are the bytes of an operation, or of none, where the cells are its own
+  own-same : (at : ℕ) → at + operationLength ≤ recordLength → sameBytes (operationBytes (workCells (workAt bs at))) (operationAt bs at) ≡ ownCells bs at
+  unfolding ownCells
+  own-same at h =
+      let xs = operationAt bs at in
+      operation-same xs (at-length at h) (at-low at) (workCells (workAt bs at)) (work-fits (cellsIn xs) (cells-fit xs (at-length at h) (at-low at)))
+
+  phase-same : sameBytes (phaseBytes (phaseIn bs)) doing ≡ (ownCells bs runningAt and ownCells bs haltedAt)
+  unfolding worksBytes
+  phase-same =
+      let w = workAt bs runningAt in
+      let h = workAt bs haltedAt in
+      let n : operationLength ≡ length ran = sym (at-length runningAt (omega arith)) in
+      let s : worksBytes w h ≡ phaseBytes (phaseIn bs) = rw (phase-runs w h, phase-halts w h) in
+      ap (λ (x : List ℕ). sameBytes x doing) (sym s)
+      ∙ ap (sameBytes (worksBytes w h)) doing-as
+      ∙ same-append (operationBytes (workCells w)) ran (operationBytes (workCells h)) stood (operation-length (workCells w) ∙ n)
+      ∙ ap (λ (t : Bool). t and sameBytes (operationBytes (workCells h)) stood) (own-same runningAt (omega arith))
+      ∙ ap (λ (t : Bool). ownCells bs runningAt and t) (own-same haltedAt (omega arith))
+
+  holds-own : holds bs ≡ (marksIn bs and (ownCells bs runningAt and ownCells bs haltedAt))
+  holds-own = holds-as ∙ ap (λ (t : Bool). marksIn bs and t) phase-same
 
   -- what runs, or is suspended, goes by its kind
   kind-at : (at : ℕ) → cellsIn (operationAt bs at) .kind ≡ byte at
   unfolding cellsIn
   kind-at at = getD-take operationLength (drop at bs) 0 0 (omega arith) ∙ getD-drop at bs 0 0 ∙ let q : at + 0 ≡ at = omega arith in ap byte q
 
-  no-work-in : (at : ℕ) → byte at ≡ 0 → workAt bs at ≡ NoWork
-  no-work-in at e = rw (eq-eqb (cellsIn (operationAt bs at) .kind) 0 (kind-at at ∙ e))
+  none-at : (at : ℕ) → byte at ≡ 0 → NoWork ≡ workAt bs at
+  none-at at e = no-work (cellsIn (operationAt bs at)) (kind-at at ∙ e)
 
-  some-work-in : (at : ℕ) → (byte at ≡ 0 → ⊥) → workAt bs at ≡ At (operationIn (cellsIn (operationAt bs at)))
-  some-work-in at e = rw (ne-eqb (cellsIn (operationAt bs at) .kind) 0 (λ q. e (sym (kind-at at) ∙ q)))
+  -- bytes in which a mark is none hold no record
+  pub unmarked : marksIn bs ≡ false → holds bs ≡ false
+  unfolding _and_
+  unmarked e = holds-own ∙ rw e
 
-  -- its bytes are those of the operation that they are read as where the cells are
-  cells-same : (at : ℕ) (o : Operation) → at + operationLength ≤ recordLength → Fitting (cellsOf o) → sameBytes (operationBytes (cellsOf o)) (operationAt bs at) ≡ sameCells (cellsOf o) (cellsIn (operationAt bs at))
-  cells-same at o h f = operation-same (operationAt bs at) (at-length at h) (at-low at) (cellsOf o) f
+  module _ (m : marksIn bs ≡ true) where
+    -- of what is told by the cells
+    pub held-doing : (d : Doing) → d ≡ doingIn bs → holds bs ≡ d .ok
+    unfolding doingIn _and_
+    held-doing d e = holds-own ∙ rw (m, e)
 
-  -- what a record's bytes hold in each phase: of the marks m, and what else is tested
-  module _ (m : Bool) (em : m ≡ marksIn bs) where
-    held-as : (g : Phase) (t : Bool) → g ≡ phaseIn bs → sameBytes (phaseBytes g) doing ≡ t → holds bs ≡ (m and t)
-    held-as g t eg et = holds-as ∙ rw (← em, ← eg, et)
+    -- of an idle part: that the cells are those of no operation
+    module _ (r : byte runningAt ≡ 0) (h : byte haltedAt ≡ 0) where
+      pub idle-phase : Idle ≡ phaseIn bs
+      idle-phase = rw (← none-at runningAt r, ← none-at haltedAt h)
 
-    pub idle-phase : byte runningAt ≡ 0 → byte haltedAt ≡ 0 → Idle ≡ phaseIn bs
-    idle-phase r h = rw (no-work-in runningAt r, no-work-in haltedAt h)
+      own-none : (at : ℕ) → byte at ≡ 0 → (c : Cells) → c ≡ cellsIn (operationAt bs at) → (t : Bool) → t ≡ sameCells (workCells NoWork) c → ownCells bs at ≡ t
+      unfolding ownCells
+      own-none at e c ec t et = rw (← none-at at e, ← ec, et)
 
-    pub idle-held : byte runningAt ≡ 0 → byte haltedAt ≡ 0 → (z : Bool) → z ≡ allZero doing → holds bs ≡ (m and z)
-    unfolding worksBytes operationBytes
-    idle-held r h z ez =
-        held-as Idle z (idle-phase r h) (zeros-same phaseLength doing (simp (length-take, length-drop) (omega arith)) ∙ sym ez)
+      pub idle-held : (c d : Cells) → c ≡ cellsIn ran → d ≡ cellsIn stood → (t u : Bool) → t ≡ sameCells (workCells NoWork) c → u ≡ sameCells (workCells NoWork) d → holds bs ≡ (t and u)
+      unfolding _and_
+      idle-held c d ec ed t u et eu = holds-own ∙ rw (m, own-none runningAt r c ec t et, own-none haltedAt h d ed u eu)
 
-    module _ (c : Cells) (o : Operation) (ec : c ≡ cellsIn ran) (eo : o ≡ operationIn c) (f : Fitting (cellsOf o)) (k : Bool) (ek : k ≡ sameCells (cellsOf o) c) where
-      runs-as : (byte runningAt ≡ 0 → ⊥) → At o ≡ workAt bs runningAt
-      runs-as r = ap At (eo ∙ ap operationIn ec) ∙ sym (some-work-in runningAt r)
+  -- what the bytes say that a part does, by the cells of what runs and of what is suspended
+  module _ (c d : Cells) (ec : c ≡ cellsIn ran) (ed : d ≡ cellsIn stood) where
+    pub doing-told : (w h : Work) (f : Phase) (t u k : Bool) → w ≡ workOf c → h ≡ workOf d → f ≡ phaseOf w h → t ≡ sameCells (workCells w) c → u ≡ sameCells (workCells h) d → k ≡ (t and u)
+        → _≡_ {A = Doing} record { ok = k; phase = f } (doingIn bs)
+    unfolding doingIn ownCells
+    doing-told w h f t u k ew eh ef et eu ek = rw (ek, et, eu, ef, ew, eh, ec, ed)
 
-      runs-same : sameBytes (operationBytes (cellsOf o)) ran ≡ k
-      runs-same = cells-same runningAt o (omega arith) f ∙ rw (← ec) (sym ek)
+  pub doing-phase : (d : Doing) → d ≡ doingIn bs → d .phase ≡ phaseIn bs
+  unfolding doingIn
+  doing-phase d e = ap (λ (x : Doing). x .phase) e
 
-      pub busy-phase : (byte runningAt ≡ 0 → ⊥) → byte haltedAt ≡ 0 → Busy o ≡ phaseIn bs
-      busy-phase r h = rw (← runs-as r, no-work-in haltedAt h)
-
-      pub busy-held : (byte runningAt ≡ 0 → ⊥) → byte haltedAt ≡ 0 → (z : Bool) → z ≡ allZero behind → holds bs ≡ (m and k and z)
-      unfolding worksBytes
-      busy-held r h z ez =
-          let n : operationLength ≡ length ran = sym (at-length runningAt (omega arith)) in
-          held-as (Busy o) (k and z) (busy-phase r h)
-          (ap (sameBytes (phaseBytes (Busy o))) doing-as
-          ∙ same-append (operationBytes (cellsOf o)) ran _ behind (operation-length (cellsOf o) ∙ n)
-          ∙ rw (runs-same, none-and-zeros) (ap (λ (t : Bool). k and t) (zeros-same (operationLength + spareLength) behind (simp (length-take, length-drop) (omega arith)) ∙ sym ez)))
-
-    module _ (c : Cells) (e : Operation) (ec : c ≡ cellsIn stood) (ee : e ≡ operationIn c) (h : byte haltedAt ≡ 0 → ⊥) where
-      stands-as : At e ≡ workAt bs haltedAt
-      stands-as = ap At (ee ∙ ap operationIn ec) ∙ sym (some-work-in haltedAt h)
-
-      pub suspended-phase : byte runningAt ≡ 0 → Suspended e ≡ phaseIn bs
-      suspended-phase r = rw (no-work-in runningAt r, ← stands-as)
-
-      pub nested-phase : (byte runningAt ≡ 0 → ⊥) → (d : Cells) (o : Operation) → d ≡ cellsIn ran → o ≡ operationIn d → Nested o e ≡ phaseIn bs
-      nested-phase r d o ed eo = rw (some-work-in runningAt r, ← stands-as, eo, ed)
-
-      -- whatever runs, the bytes of the phase are those of its work and of what is suspended
-      works-as : phaseBytes (phaseIn bs) ≡ worksBytes (workAt bs runningAt) (At e)
-      works-as =
-          rw (phase-runs (workAt bs runningAt) (workAt bs haltedAt), phase-halts (workAt bs runningAt) (workAt bs haltedAt), ← stands-as)
-
-      module _ (f : Fitting (cellsOf e)) (k : Bool) (ek : k ≡ sameCells (cellsOf e) c) (t : Bool) (et : t ≡ (m and k)) where
-        -- what stands behind what runs: what is suspended, and the zeros
-        behind-same : sameBytes (operationBytes (cellsOf e) ++ replicate spareLength 0) behind ≡ (k and allZero spare)
-        behind-same =
-            let n : operationLength ≡ length stood = sym (at-length haltedAt (omega arith)) in
-            ap (sameBytes (operationBytes (cellsOf e) ++ replicate spareLength 0)) behind-as
-            ∙ same-append (operationBytes (cellsOf e)) stood (replicate spareLength 0) spare (operation-length (cellsOf e) ∙ n)
-            ∙ rw (cells-same haltedAt e (omega arith) f, zeros-same spareLength spare spare-length, ← ec, ← ek)
-
-        -- the bytes of what runs are those of the work that they are read as, an operation or none
-        abbrev own : Bool
-        own = sameBytes (operationBytes (workCells (workAt bs runningAt))) ran
-
-        -- a record is held where the tests hold: of the marks and what is suspended, then of the zeros, and then of what runs
-        halted-held : (z : Bool) → z ≡ allZero spare → (a : Bool) → own ≡ a → holds bs ≡ (t and z and a)
-        unfolding worksBytes
-        halted-held z ez a ea =
-            let n : operationLength ≡ length ran = sym (at-length runningAt (omega arith)) in
-            held-as (phaseIn bs) (a and k and z) refl
-            (ap (λ (x : List ℕ). sameBytes x doing) works-as
-            ∙ ap (sameBytes (worksBytes (workAt bs runningAt) (At e))) doing-as
-            ∙ same-append (operationBytes (workCells (workAt bs runningAt))) ran _ behind (operation-length (workCells (workAt bs runningAt)) ∙ n)
-            ∙ rw (behind-same, ea, ← ez))
-            ∙ turned m a k z
-            ∙ rw (← et)
-
-        -- so no record is held where the first of them fails
-        pub halted-none : t ≡ false → holds bs ≡ false
-        unfolding _and_
-        halted-none n = halted-held (allZero spare) refl own refl ∙ rw n
-
-        pub suspended-held : byte runningAt ≡ 0 → (z : Bool) → z ≡ allZero spare → (a : Bool) → a ≡ allZero ran → holds bs ≡ (t and z and a)
-        suspended-held r z ez a ea =
-            halted-held z ez a (rw (no-work-in runningAt r, ← none-bytes, ea) (zeros-same operationLength ran (at-length runningAt (omega arith))))
-
-        pub nested-held : (byte runningAt ≡ 0 → ⊥) → (d : Cells) (o : Operation) → d ≡ cellsIn ran → o ≡ operationIn d → Fitting (cellsOf o) → (z : Bool) → z ≡ allZero spare → (a : Bool) → a ≡ sameCells (cellsOf o) d → holds bs ≡ (t and z and a)
-        nested-held r d o ed eo g z ez a ea =
-            halted-held z ez a (rw (← runs-as d o ed eo g a ea r) (runs-same d o ed eo g a ea))
+  -- page data as it is lent
+  pub lent-page : take pageBytes (drop headerLength bs) ≡ drop headerLength bs
+  lent-page = take-all pageBytes (drop headerLength bs) (simp length-drop (omega arith))
 
 -- a kind is 0, or is not, as the code tests it
 pub none-there : (b : ℕ) → not (not (eqb b 0)) ≡ true → b ≡ 0
@@ -300,45 +307,21 @@ some-there b e = eqb-false b 0 (not-true _ (not-false _ e))
 pub left-fails : (a b : Bool) → (a and b) ≡ false → b ≡ true → a ≡ false
 left-fails a b e h = sym (and-true a) ∙ rw h at e
 
-pub right-fails : (a b : Bool) → (a and b) ≡ false → a ≡ true → b ≡ false
-unfolding _and_
-right-fails a b e h = rw h at e
+-- an idle part is sound by fewer tests
+pub idle-judged : (p : Part) (g g′ : List ℕ) (e s : Bool) → g ≡ g′ → e ≡ allZero (drop 0 g) → s ≡ (partSound p Idle and e) → s ≡ soundOf p Idle g′
+unfolding soundOf pageOk
+idle-judged p g g′ e s eg ee es = es ∙ rw (ee, eg)
 
--- bytes and what stands behind them are zero where both are
-zero-append : (xs ys : List ℕ) → allZero (xs ++ ys) ≡ (allZero xs and allZero ys)
-unfolding _and_
-zero-append [] ys = refl
-zero-append (x ∷ xs) ys = rw (zero-append xs ys) (and-assoc (eqb x 0) (allZero xs) (allZero ys))
-
--- what an idle part does and its page data, looked at in a row
-pub quiet-as : (bs : List ℕ) → length bs ≡ recordLength → allZero (take (phaseLength + pageBytes) (drop runningAt bs)) ≡ (allZero (take phaseLength (drop runningAt bs)) and allZero (drop headerLength bs))
-quiet-as bs l =
-    let d : drop phaseLength (drop runningAt bs) ≡ drop headerLength bs = drop-drop phaseLength runningAt bs in
-    ap (λ (x : List ℕ). allZero x) (take-add phaseLength pageBytes (drop runningAt bs) ∙ ap (λ (x : List ℕ). take phaseLength (drop runningAt bs) ++ x) (ap (take pageBytes) d ∙ take-all pageBytes (drop headerLength bs) (simp length-drop (omega arith))))
-    ∙ zero-append (take phaseLength (drop runningAt bs)) (drop headerLength bs)
-
--- what was found: part and phase of the fields
-pub found-some : (bs : List ℕ) (p : Part) (f : Phase) → holds bs ≡ true → p ≡ partIn bs → f ≡ phaseIn bs → _≡_ {A = Found} record { ok = true; part = p; phase = f } (found (recordIn bs))
-unfolding fieldsIn
-found-some bs p f e ep ef = rw (ep, ef, taken bs e)
-
--- the same, told whether an idle part has no page data
-pub seen-idle : (bs : List ℕ) (p : Part) (e : Bool) → holds bs ≡ true → p ≡ partIn bs → Idle ≡ phaseIn bs → e ≡ allZero (drop headerLength bs) → _≡_ {A = Seen} record { ok = true; part = p; phase = Idle; empty = e } (seen (recordIn bs))
+-- what was found: part and phase of the fields, and whether they are sound
+pub found-some : (bs : List ℕ) (p : Part) (f : Phase) (s : Bool) → holds bs ≡ true → p ≡ partIn bs → f ≡ phaseIn bs → s ≡ soundOf p f (drop headerLength bs)
+    → _≡_ {A = Found} record { ok = true; sound = s; part = p; phase = f } (found (recordIn bs))
 unfolding fieldsIn _and_
-seen-idle bs p e h ep ef ee = rw (ee, ep, taken bs h, ← ef)
-
-pub seen-working : (bs : List ℕ) (p : Part) (f : Phase) → isIdle f ≡ false → holds bs ≡ true → p ≡ partIn bs → f ≡ phaseIn bs → _≡_ {A = Seen} record { ok = true; part = p; phase = f; empty = false } (seen (recordIn bs))
-unfolding fieldsIn _and_
-seen-working bs p f n h ep ef = rw (ep, taken bs h, ← ef, n)
+found-some bs p f s e ep ef es = rw (es, ep, ef, taken bs e)
 
 -- or none
 pub found-none : (bs : List ℕ) (n : Found) → holds bs ≡ false → n ≡ found nothing → n ≡ found (recordIn bs)
 unfolding recordIn
 found-none bs n e q = q ∙ rw e
-
-pub seen-none : (bs : List ℕ) (n : Seen) → holds bs ≡ false → n ≡ seen nothing → n ≡ seen (recordIn bs)
-unfolding recordIn
-seen-none bs n e q = q ∙ rw e
 
 pub holds-not : (bs : List ℕ) → (length bs ≡ recordLength → ⊥) → holds bs ≡ false
 unfolding holds _and_

@@ -7,20 +7,21 @@ use lib.Dec.{eqb, leb}
 use lib.ListN.{length, getD, take, drop}
 use Rattle.types.specs.declared.Phase.{Phase}
 use Rattle.types.specs.declared.Work.{Work}
+use Rattle.types.specs.declared.Identity.{Identity}
 use Rattle.types.specs.declared.Stored.{Stored}
 use Rattle.types.specs.declared.Part.{Part}
 use Rattle.types.specs.declared.Record.{Record}
 use Rattle.words.specs.Logic.{_and_}
-use Rattle.words.specs.Lists.{allZero}
 use Rattle.paper.specs.Sizes.{pageBytes}
-use Rattle.paper.specs.Phases.{running, halted, isIdle, phaseOf}
+use Rattle.paper.specs.Soundness.{sound}
+use Rattle.paper.specs.Phases.{running, halted, phaseOf}
 use Rattle.paper.specs.Address.{highFirst}
 use Rattle.paper.specs.Calls.{zeroRecord}
 use Rattle.cells.specs.declared.Cells.{Cells}
 use Rattle.cells.specs.Operations.{cells, workCells, workOf}
 use Rattle.record_bytes.specs.declared.Found.{Found}
-use Rattle.record_bytes.specs.declared.Seen.{Seen}
-use Rattle.record_bytes.specs.Layout.{storedAt, welAt, armedAt, asleepAt, liveAt, bankAt, baseAt, countAt, doneAt, runningAt, haltedAt, headerLength, recordLength, header, operationAt}
+use Rattle.record_bytes.specs.declared.Doing.{Doing}
+use Rattle.record_bytes.specs.Layout.{storedAt, welAt, armedAt, asleepAt, liveAt, bankAt, baseAt, countAt, doneAt, runningAt, haltedAt, identityAt, headerLength, recordLength, header, operationAt}
 
 -- the number that k bytes from a place on are
 abbrev pub numberAt : List ℕ → ℕ → ℕ → ℕ
@@ -41,15 +42,21 @@ storedOf f = record { status = f storedAt; function = f (storedAt + 1); extended
 -- the fields of a part at their places, whatever stands there
 unfoldable pub partIn : List ℕ → Part
 partIn bs =
-    record { blocks = numberAt bs 0 2; identity = record { maker = getD bs 2 0; kind = getD bs 3 0; capacity = getD bs 4 0; device = getD bs 5 0 }; stored = storedOf (λ j. getD bs j 0); wel = eqb (getD bs welAt 0) 1; armed = eqb (getD bs armedAt 0) 1; asleep = eqb (getD bs asleepAt 0) 1; live = getD bs liveAt 0; bank = getD bs bankAt 0 }
+    record { blocks = numberAt bs 0 2; stored = storedOf (λ j. getD bs j 0); wel = eqb (getD bs welAt 0) 1; armed = eqb (getD bs armedAt 0) 1; asleep = eqb (getD bs asleepAt 0) 1; live = getD bs liveAt 0; bank = getD bs bankAt 0 }
 
 -- the phase so
 abbrev pub phaseIn : List ℕ → Phase
 phaseIn bs = phaseOf (workAt bs runningAt) (workAt bs haltedAt)
 
+-- the identity
+abbrev pub identityIn : List ℕ → Identity
+identityIn bs =
+    record { maker = getD bs identityAt 0; kind = getD bs (identityAt + 1) 0; capacity = getD bs (identityAt + 2) 0; device = getD bs (identityAt + 3) 0 }
+
 -- and the whole record
 unfoldable pub fieldsIn : List ℕ → Record
-fieldsIn bs = record { part = partIn bs; phase = phaseIn bs; page = drop headerLength bs }
+fieldsIn bs =
+    record { part = partIn bs; phase = phaseIn bs; identity = identityIn bs; page = drop headerLength bs }
 
 -- WEL and the marks are 0 or 1
 unfoldable pub marksIn : List ℕ → Bool
@@ -64,6 +71,14 @@ sameCells s t =
     and eqb (s .count) (t .count)
     and eqb (s .done) (t .done)
 
+-- the cells at a place are those of the operation that they are read as, or of none
+unfoldable pub ownCells : List ℕ → ℕ → Bool
+ownCells bs at = sameCells (workCells (workAt bs at)) (cellsIn (operationAt bs at))
+
+-- what the bytes say that a part does, and that they are the bytes of that
+unfoldable pub doingIn : List ℕ → Doing
+doingIn bs = record { ok = ownCells bs runningAt and ownCells bs haltedAt; phase = phaseIn bs }
+
 -- two lists are one
 abbrev pub sameBytes : List ℕ → List ℕ → Bool
 sameBytes [] [] = true
@@ -75,7 +90,7 @@ sameBytes (x ∷ xs) (y ∷ ys) = eqb x y and sameBytes xs ys
 unfoldable pub holds : List ℕ → Bool
 holds bs =
     eqb (length bs) recordLength
-    and sameBytes (header (partIn bs) (phaseIn bs)) (take headerLength bs)
+    and sameBytes (header (partIn bs) (phaseIn bs) (identityIn bs)) (take headerLength bs)
 
 -- what bytes hold: a record, or none where ok is false
 pub record Held : Type 0 where
@@ -94,17 +109,14 @@ held p = record { ok = true; state = p }
 unfoldable pub recordIn : List ℕ → Held
 recordIn bs = cond (holds bs) (held (fieldsIn bs)) nothing
 
--- a record is held that is idle and has no page data
-abbrev pub emptyIn : Held → Bool
-emptyIn h = h .ok and isIdle (h .state .phase) and allZero (h .state .page)
+-- what a call makes of bytes that hold a record, and of bytes that hold none
+unfoldable pub onHeld : {A : Type 0} → Held → (Record → A) → A → A
+onHeld h call none = cond (h .ok) (call (h .state)) none
 
--- what is held, but for page data
+-- what is held, but for identity and page data, and that it is sound
 abbrev pub found : Held → Found
-found h = record { ok = h .ok; part = h .state .part; phase = h .state .phase }
-
--- and the same, told whether an idle part has no page data
-abbrev pub seen : Held → Seen
-seen h = record { ok = h .ok; part = h .state .part; phase = h .state .phase; empty = emptyIn h }
+found h =
+    record { ok = h .ok; sound = h .ok and sound (h .state); part = h .state .part; phase = h .state .phase }
 
 -- the numbers of an operation, and those of a record, fit their fields, as they do in code
 pub record Fitting (s : Cells) : Type 0 where

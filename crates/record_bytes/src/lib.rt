@@ -8,18 +8,17 @@ pub mod writing;
 use types::Part;
 use types::Phase;
 
-// What bytes hold, but for page data, which stays where it is: the part and the phase of a record, or none where ok is
-// false.
+// What bytes hold, but for identity and page data, which stay where they are: the part and the phase of a record, and whether
+// the record is sound; or none where ok is false.
 pub struct Found {
     pub ok: bool,
+    pub sound: bool,
     pub part: Part,
     pub phase: Phase,
 }
 
-// The same, told whether it is a record that is idle and has no page data.
-pub struct Seen {
+// What bytes say that a part does, and whether they are the bytes of that.
+pub struct Doing {
     pub ok: bool,
-    pub part: Part,
     pub phase: Phase,
-    pub empty: bool,
 }

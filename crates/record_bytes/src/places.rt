@@ -1,18 +1,10 @@
 // The places of a record's fields in its bytes. Numbers stand high byte first. Each place is given by the one before it.
 
-// What the part is: two bytes of blocks, the identity M, T, C, D, the stored registers, WEL, the marks, the live byte of the
-// extended read register, and the bank register.
+// What the part is: two bytes of blocks, the stored registers, WEL, the marks, the live byte of the extended read register, and
+// the bank register.
 pub const BLOCKS: usize = 0;
 
-pub const MAKER: usize = BLOCKS + 2;
-
-pub const KIND: usize = MAKER + 1;
-
-pub const CAPACITY: usize = KIND + 1;
-
-pub const DEVICE: usize = CAPACITY + 1;
-
-pub const STATUS: usize = DEVICE + 1;
+pub const STATUS: usize = BLOCKS + 2;
 
 pub const FUNCTION: usize = STATUS + 1;
 
@@ -28,16 +20,22 @@ pub const LIVE: usize = ASLEEP + 1;
 
 pub const BANK: usize = LIVE + 1;
 
-// What it does, in cells: what runs, and what is suspended. Zeros stand behind them, so many that with page data an idle
-// part has 320 bytes in a row that are 0: they are looked at in wide steps, with none left over.
+// What it does, in cells: what runs, and what is suspended.
 pub const RUNNING: usize = BANK + 1;
 
 pub const HALTED: usize = RUNNING + OPERATION_BYTES;
 
-pub const SPARE: usize = HALTED + OPERATION_BYTES;
+// The identity M, T, C, D.
+pub const MAKER: usize = HALTED + OPERATION_BYTES;
+
+pub const KIND: usize = MAKER + 1;
+
+pub const CAPACITY: usize = KIND + 1;
+
+pub const DEVICE: usize = CAPACITY + 1;
 
 // Page data, and the end of the record.
-pub const PAGE: usize = SPARE + 12;
+pub const PAGE: usize = DEVICE + 1;
 
 pub const END: usize = PAGE + types::PAGE_BYTES;
 

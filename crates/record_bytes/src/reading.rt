@@ -1,26 +1,48 @@
 // The record that bytes hold.
 ghost use mathlib.Core.Path.{_≡_};
 ghost use lib.ListN.{length, getD};
-ghost use Rattle.paper.specs.Calls.{zeroRecord};
+ghost use Rattle.types.specs.declared.Work.the-variants.{NoWork};
+ghost use Rattle.paper.specs.Address.{highFirst};
+ghost use Rattle.cells.specs.Operations.{workCells};
 ghost use Rattle.record_bytes.specs.Layout.{operationLength, recordLength};
-ghost use Rattle.record_bytes.specs.Read.{sameCells, marksIn, cellsIn, storedOf, partIn, nothing, recordIn, found, seen};
+ghost use Rattle.record_bytes.specs.Read.{sameCells, marksIn, cellsIn, storedOf, partIn, doingIn, nothing, recordIn, found};
+use crate::Doing;
 use crate::Found;
-use crate::Seen;
 use crate::places;
 use cells::Cells;
-use types::Identity;
 use types::Part;
 use types::Phase;
 use types::Stored;
+
+fn wide(byte: u8) -> usize
+    ensures { λ r. ⌜ r ≡ byte ⌝ }
+{
+    byte as usize
+}
+
+// The number that eight bytes are, high byte first. Written out as a sum, it is one load.
+fn number_in(bytes: &[u8]) -> usize
+    requires { ⌜ length (now bytes) ≡ 8 ⌝ }
+    ensures { λ r. ⌜ r ≡ highFirst (now (bytes .entry)) ⌝ }
+{
+    wide(bytes[7])
+        + wide(bytes[6]) * 256
+        + wide(bytes[5]) * 65536
+        + wide(bytes[4]) * 16777216
+        + wide(bytes[3]) * 4294967296
+        + wide(bytes[2]) * 1099511627776
+        + wide(bytes[1]) * 281474976710656
+        + wide(bytes[0]) * 72057594037927936
+}
 
 // The cells of an operation in its bytes, whatever stands there.
 fn cells_in(bytes: &[u8]) -> Cells
     requires { ⌜ length (now bytes) ≡ operationLength ⌝ }
     ensures { λ r. ⌜ r ≡ cellsIn (now (bytes .entry)) ⌝ }
 {
-    let base = address::high_first(&bytes[places::BASE..places::COUNT]);
-    let count = address::high_first(&bytes[places::COUNT..places::DONE]);
-    let done = address::high_first(&bytes[places::DONE..places::OPERATION_BYTES]);
+    let base = number_in(&bytes[places::BASE..places::COUNT]);
+    let count = number_in(&bytes[places::COUNT..places::DONE]);
+    let done = number_in(&bytes[places::DONE..places::OPERATION_BYTES]);
     Cells {
         kind: bytes[places::OPERATION],
         value: bytes[places::VALUE],
@@ -49,16 +71,9 @@ fn part_in(bytes: &[u8]) -> Part
 {
     let high = bytes[places::BLOCKS] as u16;
     let low = bytes[places::BLOCKS + 1] as u16;
-    let identity = Identity {
-        maker: bytes[places::MAKER],
-        kind: bytes[places::KIND],
-        capacity: bytes[places::CAPACITY],
-        device: bytes[places::DEVICE],
-    };
     let stored = stored_in(bytes);
     Part {
         blocks: high * 256 + low,
-        identity: identity,
         stored: stored,
         wel: bytes[places::WEL] == 1,
         armed: bytes[places::ARMED] == 1,
@@ -92,193 +107,114 @@ fn same_cells(a: Cells, b: Cells) -> bool
     words::both(kind, words::both(value, last))
 }
 
-// The part of no record: that of a refused power-up.
-fn no_part() -> Part
-    ensures { λ r. ⌜ r ≡ zeroRecord .part ⌝ }
+// Whether cells are those of no operation.
+fn is_none(cells: Cells) -> bool
+    ensures { λ r. ⌜ r ≡ sameCells (workCells NoWork) cells ⌝ }
 {
-    let identity = Identity {
-        maker: 0,
+    let none = Cells {
         kind: 0,
-        capacity: 0,
-        device: 0,
+        value: 0,
+        base: 0,
+        count: 0,
+        done: 0,
     };
-    let stored = record::no_stored();
-    record::fresh_part(1, identity, stored)
+    same_cells(none, cells)
+}
+
+// What the bytes say that a part does: what runs and what is suspended, each an operation or none, as the kinds say; and
+// whether the cells are those of the operations that they are read as.
+fn doing_in(bytes: &[u8]) -> Doing
+    requires { ⌜ length (now bytes) ≡ recordLength ⌝ }
+    ensures { λ r. ⌜ r ≡ doingIn (now (bytes .entry)) ⌝ }
+{
+    let running = cells_in(&bytes[places::RUNNING..places::HALTED]);
+    let halted = cells_in(&bytes[places::HALTED..places::MAKER]);
+    let runs = running.kind != 0;
+    let stands = halted.kind != 0;
+    if words::both(!runs, !stands) {
+        return Doing {
+            ok: words::both(is_none(running), is_none(halted)),
+            phase: Phase::Idle,
+        };
+    }
+    if !stands {
+        let op = cells::operation_in(running);
+        let kept = same_cells(cells::cells_of(op), running);
+        return Doing {
+            ok: words::both(kept, is_none(halted)),
+            phase: Phase::Busy(op),
+        };
+    }
+    let outer = cells::operation_in(halted);
+    let beneath = same_cells(cells::cells_of(outer), halted);
+    if !runs {
+        return Doing {
+            ok: words::both(is_none(running), beneath),
+            phase: Phase::Suspended(outer),
+        };
+    }
+    let op = cells::operation_in(running);
+    let kept = same_cells(cells::cells_of(op), running);
+    Doing {
+        ok: words::both(kept, beneath),
+        phase: Phase::Nested(op, outer),
+    }
 }
 
 // No record: part and phase are those of a refused power-up.
 fn none_found() -> Found
     ensures { λ r. ⌜ r ≡ found nothing ⌝ }
 {
-    let part = no_part();
+    let stored = record::no_stored();
+    let part = record::fresh_part(1, stored);
     Found {
         ok: false,
+        sound: false,
         part: part,
         phase: Phase::Idle,
     }
 }
 
-fn none_seen() -> Seen
-    ensures { λ r. ⌜ r ≡ seen nothing ⌝ }
-{
-    let part = no_part();
-    Seen {
-        ok: false,
-        part: part,
-        phase: Phase::Idle,
-        empty: false,
-    }
-}
-
-// The part and the phase of the record that bytes hold, or none, and whether it is idle and has no page data. Page data
-// stays where it is.
-// Bytes hold a record where the marks are marks, the cells are those of the operations that they are read as, and all else
-// is zero. A transaction asks this, which mostly finds the part idle.
-pub fn read_part(bytes: &[u8]) -> Seen
-    ensures { λ r. ⌜ r ≡ seen (recordIn (now (bytes .entry))) ⌝ }
-{
-    let n = bytes.len();
-    if n != places::END {
-        return none_seen();
-    }
-    let part = part_in(bytes);
-    let marks = marks_in(bytes);
-    let runs = bytes[places::RUNNING] != 0;
-    let stands = bytes[places::HALTED] != 0;
-    if words::both(!runs, !stands) {
-        let quiet = runs::zero_from(&bytes[places::RUNNING..places::END], 0);
-        if words::both(marks, quiet) {
-            return Seen {
-                ok: true,
-                part: part,
-                phase: Phase::Idle,
-                empty: true,
-            };
-        }
-        let idle = runs::zero_from(&bytes[places::RUNNING..places::PAGE], 0);
-        if words::both(marks, idle) {
-            return Seen {
-                ok: true,
-                part: part,
-                phase: Phase::Idle,
-                empty: false,
-            };
-        }
-        return none_seen();
-    }
-    if !stands {
-        let running = cells_in(&bytes[places::RUNNING..places::HALTED]);
-        let op = cells::operation_in(running);
-        let kept = same_cells(cells::cells_of(op), running);
-        let alone = runs::zero_from(&bytes[places::HALTED..places::PAGE], 0);
-        if words::both(marks, words::both(kept, alone)) {
-            return Seen {
-                ok: true,
-                part: part,
-                phase: Phase::Busy(op),
-                empty: false,
-            };
-        }
-        return none_seen();
-    }
-    let halted = cells_in(&bytes[places::HALTED..places::SPARE]);
-    let outer = cells::operation_in(halted);
-    let beneath = same_cells(cells::cells_of(outer), halted);
-    let held = words::both(marks, beneath);
-    if !held {
-        return none_seen();
-    }
-    let spare = runs::zero_from(&bytes[places::SPARE..places::PAGE], 0);
-    if !runs {
-        let rests = runs::zero_from(&bytes[places::RUNNING..places::HALTED], 0);
-        if words::both(spare, rests) {
-            return Seen {
-                ok: true,
-                part: part,
-                phase: Phase::Suspended(outer),
-                empty: false,
-            };
-        }
-        return none_seen();
-    }
-    let running = cells_in(&bytes[places::RUNNING..places::HALTED]);
-    let op = cells::operation_in(running);
-    let kept = same_cells(cells::cells_of(op), running);
-    if words::both(spare, kept) {
-        return Seen {
-            ok: true,
-            part: part,
-            phase: Phase::Nested(op, outer),
-            empty: false,
-        };
-    }
-    none_seen()
-}
-
-// The same, and page data is not looked at. Ticks ask this. Each of the two has one caller in the archive for C, so that it
-// is compiled in place there.
-pub fn read_any(bytes: &[u8]) -> Found
+// The part and the phase of the record that bytes hold, and whether it is sound; or none. Identity and page data stay where
+// they are. Bytes hold a record where the marks are marks and the cells are those of the operations that they are read as.
+// Most calls find the part idle, and are told so by fewer tests.
+pub fn read(bytes: &[u8]) -> Found
     ensures { λ r. ⌜ r ≡ found (recordIn (now (bytes .entry))) ⌝ }
 {
     if bytes.len() != places::END {
         return none_found();
     }
-    let part = part_in(bytes);
-    let whole = marks_in(bytes);
+    if !marks_in(bytes) {
+        return none_found();
+    }
     let runs = bytes[places::RUNNING] != 0;
     let stands = bytes[places::HALTED] != 0;
     if words::both(!runs, !stands) {
-        let idle = runs::zero_from(&bytes[places::RUNNING..places::PAGE], 0);
-        if words::both(whole, idle) {
+        let running = is_none(cells_in(&bytes[places::RUNNING..places::HALTED]));
+        let halted = is_none(cells_in(&bytes[places::HALTED..places::MAKER]));
+        if words::both(running, halted) {
+            let empty = runs::zero_from(&bytes[places::PAGE..places::END], 0);
+            let part = part_in(bytes);
+            let sound = soundness::is_sound_idle(part, empty);
             return Found {
                 ok: true,
+                sound: sound,
                 part: part,
                 phase: Phase::Idle,
             };
         }
         return none_found();
     }
-    if !stands {
-        let running = cells_in(&bytes[places::RUNNING..places::HALTED]);
-        let op = cells::operation_in(running);
-        let kept = same_cells(cells::cells_of(op), running);
-        let alone = runs::zero_from(&bytes[places::HALTED..places::PAGE], 0);
-        if words::both(whole, words::both(kept, alone)) {
-            return Found {
-                ok: true,
-                part: part,
-                phase: Phase::Busy(op),
-            };
-        }
-        return none_found();
-    }
-    let halted = cells_in(&bytes[places::HALTED..places::SPARE]);
-    let outer = cells::operation_in(halted);
-    let beneath = same_cells(cells::cells_of(outer), halted);
-    let held = words::both(whole, beneath);
-    if !held {
-        return none_found();
-    }
-    let spare = runs::zero_from(&bytes[places::SPARE..places::PAGE], 0);
-    if !runs {
-        let rests = runs::zero_from(&bytes[places::RUNNING..places::HALTED], 0);
-        if words::both(spare, rests) {
-            return Found {
-                ok: true,
-                part: part,
-                phase: Phase::Suspended(outer),
-            };
-        }
-        return none_found();
-    }
-    let running = cells_in(&bytes[places::RUNNING..places::HALTED]);
-    let op = cells::operation_in(running);
-    let kept = same_cells(cells::cells_of(op), running);
-    if words::both(spare, kept) {
+    let doing = doing_in(bytes);
+    if doing.ok {
+        let phase = doing.phase;
+        let part = part_in(bytes);
+        let sound = soundness::is_sound_of(part, phase, &bytes[places::PAGE..places::END]);
         return Found {
             ok: true,
+            sound: sound,
             part: part,
-            phase: Phase::Nested(op, outer),
+            phase: phase,
         };
     }
     none_found()

@@ -13,6 +13,7 @@ ghost use Rattle.record_bytes.specs.Layout.{partLength, operationLength,
 use crate::places;
 use types::Change;
 use types::Data;
+use types::Identity;
 use types::Operation;
 use types::Part;
 use types::Work;
@@ -21,7 +22,6 @@ use types::Work;
 fn part_bytes(part: Part) -> [u8; places::RUNNING]
     ensures { λ r. ⌜ r ≡ partBytes part ⌝ }
 {
-    let identity = part.identity;
     let stored = part.stored;
     let wel = words::bit_of(part.wel);
     let armed = words::bit_of(part.armed);
@@ -29,10 +29,6 @@ fn part_bytes(part: Part) -> [u8; places::RUNNING]
     [
         (part.blocks / 256 % 256) as u8,
         (part.blocks % 256) as u8,
-        identity.maker,
-        identity.kind,
-        identity.capacity,
-        identity.device,
         stored.status,
         stored.function,
         stored.extended,
@@ -121,7 +117,7 @@ fn write_works(
     ensures { λ _. ⌜ now (bytes .exit) ≡ worksLaid part running halted (now (bytes .entry)) ⌝ }
 {
     bytes::copy(&running, &mut bytes[places::RUNNING..places::HALTED]);
-    bytes::copy(&halted, &mut bytes[places::HALTED..places::SPARE]);
+    bytes::copy(&halted, &mut bytes[places::HALTED..places::MAKER]);
     write_part(part, bytes);
 }
 
@@ -140,29 +136,33 @@ fn write_resumed(part: Part, bytes: &mut [u8])
     requires { ⌜ length (now bytes) ≡ recordLength ⌝ }
     ensures { λ _. ⌜ now (bytes .exit) ≡ bytesResumed part (now (bytes .entry)) ⌝ }
 {
-    let held = operation_at(&bytes[places::HALTED..places::SPARE]);
+    let held = operation_at(&bytes[places::HALTED..places::MAKER]);
     let none = [0u8; places::OPERATION_BYTES];
     write_works(part, held, none, bytes);
 }
 
-// A part that does nothing and has no page data. The zeros are written in two runs with the part between them, which is
-// less than one run of them all.
+// A part that does nothing and has no page data. The identity stays.
 fn write_cleared(part: Part, bytes: &mut [u8])
     requires { ⌜ length (now bytes) ≡ recordLength ⌝ }
-    ensures { λ _. ⌜ now (bytes .exit) ≡ bytesCleared part ⌝ }
+    ensures { λ _. ⌜ now (bytes .exit) ≡ bytesCleared part (now (bytes .entry)) ⌝ }
 {
-    runs::fill(&mut bytes[places::RUNNING..places::PAGE], 0);
+    runs::fill(&mut bytes[places::RUNNING..places::MAKER], 0);
     write_part(part, bytes);
     runs::fill(&mut bytes[places::PAGE..places::END], 0);
 }
 
-// The record of an idle part with no page data written as its bytes. A buffer of another length is left as it is.
-pub fn write_idle(part: Part, bytes: &mut [u8])
-    ensures { λ _. ⌜ now (bytes .exit) ≡ written (recordOf part Idle noData) (now (bytes .entry)) ⌝ }
+// The record of an idle part with no page data and with an identity, written as its bytes. A buffer of another length is left
+// as it is.
+pub fn write_idle(part: Part, identity: Identity, bytes: &mut [u8])
+    ensures { λ _. ⌜ now (bytes .exit) ≡ written (recordOf identity part Idle noData) (now (bytes .entry)) ⌝ }
 {
     if bytes.len() != places::END {
         return;
     }
+    bytes[places::MAKER] = identity.maker;
+    bytes[places::KIND] = identity.kind;
+    bytes[places::CAPACITY] = identity.capacity;
+    bytes[places::DEVICE] = identity.device;
     write_cleared(part, bytes);
 }
 

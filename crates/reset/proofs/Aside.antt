@@ -25,7 +25,7 @@ use Rattle.reset.specs.Closing.{allAside}
 
 -- a part of the same identity and marks
 pub record Alike (p q : Record) : Type 0 where
-  pub identity : q .part .identity ≡ p .part .identity
+  pub identity : q .identity ≡ p .identity
   pub armed : q .part .armed ≡ p .part .armed
   pub asleep : q .part .asleep ≡ p .part .asleep
 
@@ -67,12 +67,12 @@ module _ (p : Record) where
   aside-alike (ticks n) h = ticks-alike n
 
 -- every call keeps the identity
-call-identity : (c : Call) (p : Record) → recordAfterCall c p .part .identity ≡ p .part .identity
+call-identity : (c : Call) (p : Record) → recordAfterCall c p .identity ≡ p .identity
 call-identity (transaction wp i o) p = transaction-identity p i (arrayBytes (p .part .blocks)) rowsBytes wp o
 call-identity (ticks n) p = ticks-alike p n .identity
 
 -- so do all calls
-pub calls-identity : (cs : List Call) (p : Record) → recordAfterCalls cs p .part .identity ≡ p .part .identity
+pub calls-identity : (cs : List Call) (p : Record) → recordAfterCalls cs p .identity ≡ p .identity
 calls-identity [] p = refl
 calls-identity (c ∷ cs) p = calls-identity cs (recordAfterCall c p) ∙ call-identity c p
 

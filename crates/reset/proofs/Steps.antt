@@ -60,11 +60,11 @@ module _ (p : Record) (s : sound p ≡ true) (wp : Bool) where
 
   -- 66h arms an awake part
   module _ (awake : p .part .asleep ≡ false) where
-    pub armed-now : recordAfterCall (arm wp) p ≡ recordOf (marked (p .part) true) (p .phase) (p .page)
+    pub armed-now : recordAfterCall (arm wp) p ≡ recordOf (p .identity) (marked (p .part) true) (p .phase) (p .page)
     armed-now = ap (λ (t : Answer). t .next) (executes p s wp ArmReset (0x66 ∷ []) (omega arith) (omega arith) (known 0x66 ArmReset refl refl (p .part .blocks) (p .part .bank)) (arm-number (p .part) (p .phase) awake wp))
 
     -- 99h resets an awake and armed part
-    pub reset-now : p .part .armed ≡ true → answerToReset wp p ≡ record { next = fresh (p .part .blocks) (p .part .identity) (p .part .stored); number = 0; first = 1 }
+    pub reset-now : p .part .armed ≡ true → answerToReset wp p ≡ record { next = fresh (p .part .blocks) (p .identity) (p .part .stored); number = 0; first = 1 }
     unfolding unless
     reset-now a = executes p s wp Reset (0x99 ∷ []) (omega arith) (omega arith) (known 0x99 Reset refl refl (p .part .blocks) (p .part .bank)) (reset-number (p .part) (p .phase) awake wp true a)
 

@@ -35,7 +35,7 @@ module _ (w1 w2 w3 : Bool) (b c : List Call) (p : Record) where
 
   -- the part freshly powered, with the size, identity and stored register bits that it has just before 99h
   abbrev freshened : Record
-  freshened = fresh (atReset .part .blocks) (atReset .part .identity) (atReset .part .stored)
+  freshened = fresh (atReset .part .blocks) (atReset .identity) (atReset .part .stored)
 
   armed-here : recordAfterCalls (untilArmed w1 w2 b) p ≡ recordAfterCall (arm w2) atArm
   armed-here = calls-append b (arm w2 ∷ []) (recordAfterCall (wake w1) p)
@@ -63,7 +63,7 @@ module _ (w1 w2 w3 : Bool) (b c : List Call) (p : Record) where
     arm-awake : atArm .part .asleep ≡ false
     arm-awake = all-aside-alike b (recordAfterCall (wake w1) p) hb .asleep ∙ woken p s w1
 
-    armed-as : recordAfterCalls (untilArmed w1 w2 b) p ≡ recordOf (marked (atArm .part) true) (atArm .phase) (atArm .page)
+    armed-as : recordAfterCalls (untilArmed w1 w2 b) p ≡ recordOf (atArm .identity) (marked (atArm .part) true) (atArm .phase) (atArm .page)
     armed-as = armed-here ∙ armed-now atArm arm-sound w2 arm-awake
 
     ready : Armed atReset
@@ -78,15 +78,15 @@ module _ (w1 w2 w3 : Bool) (b c : List Call) (p : Record) where
     answer : answerToReset w3 atReset ≡ record { next = freshened; number = 0; first = 1 }
     answer = reset-now atReset (ready .is-sound) w3 (ready .awake) (ready .is-armed)
 
-    powered : (n : ℕ) (id : Identity) → p .part .blocks ≡ n → p .part .identity ≡ id → poweredAs n id atReset ≡ record { next = freshened; number = 0 }
+    powered : (n : ℕ) (id : Identity) → p .part .blocks ≡ n → p .identity ≡ id → poweredAs n id atReset ≡ record { next = freshened; number = 0 }
     powered n id en ei =
         let m : atReset .part .blocks ≡ n = calls-size (untilReset w1 w2 b c) p ∙ en in
-        let i : atReset .part .identity ≡ id = calls-identity (untilReset w1 w2 b c) p ∙ ei in
+        let i : atReset .identity ≡ id = calls-identity (untilReset w1 w2 b c) p ∙ ei in
         ap (λ (k : ℕ). poweredAs k id atReset) (sym m)
         ∙ ap (λ (j : Identity). poweredAs (atReset .part .blocks) j atReset) (sym i)
-        ∙ powered-as (atReset .part .blocks) (atReset .part .identity) (atReset .part .stored) (sound-parts atReset (ready .is-sound) .size) (unbanked (atReset .part .blocks) (atReset .part .stored .function) (atReset .part .bank) (sound-parts atReset (ready .is-sound) .large))
+        ∙ powered-as (atReset .part .blocks) (atReset .identity) (atReset .part .stored) (sound-parts atReset (ready .is-sound) .size) (unbanked (atReset .part .blocks) (atReset .part .stored .function) (atReset .part .bank) (sound-parts atReset (ready .is-sound) .large))
 
-    fresh-as : (n : ℕ) (id : Identity) → p .part .blocks ≡ n → p .part .identity ≡ id → FreshAfter n id w1 w2 w3 b c p
+    fresh-as : (n : ℕ) (id : Identity) → p .part .blocks ≡ n → p .identity ≡ id → FreshAfter n id w1 w2 w3 b c p
     fresh-as n id en ei =
         record {
           executed = ap (λ (t : Answer). t .number) answer;
@@ -98,8 +98,8 @@ module _ (w1 w2 w3 : Bool) (b c : List Call) (p : Record) where
 -- from every sound record, whatever its phase, asleep or awake
 pub wake-arm-reset : (p : Record) (w1 w2 w3 : Bool) (b c : List Call) → sound p ≡ true
     → allAside b (recordAfterCall (wake w1) p) ≡ true → allAside c (recordAfterCalls (untilArmed w1 w2 b) p) ≡ true
-    → FreshAfter (p .part .blocks) (p .part .identity) w1 w2 w3 b c p
-wake-arm-reset p w1 w2 w3 b c s hb hc = fresh-as w1 w2 w3 b c p s hb hc (p .part .blocks) (p .part .identity) refl refl
+    → FreshAfter (p .part .blocks) (p .identity) w1 w2 w3 b c p
+wake-arm-reset p w1 w2 w3 b c s hb hc = fresh-as w1 w2 w3 b c p s hb hc (p .part .blocks) (p .identity) refl refl
 
 -- from a power-up that was not refused on
 module _ (n : ℕ) (id : Identity) (g : Stored) where
@@ -112,4 +112,4 @@ module _ (n : ℕ) (id : Identity) (g : Stored) where
       let o = poweredUp n id g .next in
       fresh-as w1 w2 w3 b c (recordAfterCalls a o) (calls-sound a o (power-up-sound n id g)) hb hc n id
       (calls-size a o ∙ ap (λ (q : Record). q .part .blocks) (powered-fresh n id g h))
-      (calls-identity a o ∙ ap (λ (q : Record). q .part .identity) (powered-fresh n id g h))
+      (calls-identity a o ∙ ap (λ (q : Record). q .identity) (powered-fresh n id g h))

@@ -13,13 +13,8 @@ pub fn is_large(blocks: u64) -> bool
 pub fn size_ok(blocks: u64) -> bool
     ensures { λ r. ⌜ r ≡ sizeOk blocks ⌝ }
 {
-    let one = blocks == 1;
-    let four = blocks == 4;
-    let eight = blocks == 8;
-    let sixteen = blocks == 16;
-    let large = is_large(blocks);
-    words::either(
-        one,
-        words::either(four, words::either(eight, words::either(sixteen, large))),
-    )
+    match blocks {
+        1 | 4 | 8 | 16 | 512 => true,
+        _ => false,
+    }
 }

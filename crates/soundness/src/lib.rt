@@ -2,10 +2,7 @@
 ghost use mathlib.Core.Path.{_≡_};
 ghost use Rattle.types.specs.declared.Phase.the-variants.{Idle};
 ghost use Rattle.words.specs.Logic.{_and_};
-ghost use Rattle.paper.specs.Sizes.{sizeOk};
-ghost use Rattle.paper.specs.Soundness.{latchOk, nestOk, phaseOk, bitsOk, largeOk, keptIn, partSound, sound};
-ghost use Rattle.paper.proofs.Soundness.{recordOf};
-ghost use Rattle.soundness.specs.Judged.{soundTold};
+ghost use Rattle.paper.specs.Soundness.{latchOk, nestOk, phaseOk, bitsOk, largeOk, keptIn, partSound, sound, soundOf};
 use types::Operation;
 use types::Part;
 use types::Phase;
@@ -80,51 +77,18 @@ fn registers_ok(part: Part, phase: Phase) -> bool
     words::both(bits, large)
 }
 
-// Whether a part in a phase is sound, whatever its page data, where its size was tested.
-fn is_sound_part(size: bool, part: Part, phase: Phase) -> bool
-    requires { ⌜ size ≡ sizeOk (part .blocks) ⌝ }
-    ensures { λ r. ⌜ r ≡ partSound part phase ⌝ }
-{
-    let stored = part.stored;
-    let sleep = words::either(phases::is_idle(phase), !part.asleep);
-    let latch = latch_ok(phase, part.wel);
-    let operation = phase_ok(phase, part.blocks, stored);
-    let registers = registers_ok(part, phase);
-    words::both(
-        size,
-        words::both(sleep, words::both(latch, words::both(operation, registers))),
-    )
-}
-
-// Whether an idle part is sound, whose size was tested, and which has no page data: the tests that are not met by being
-// idle.
-fn is_sound_idle(size: bool, part: Part, empty: bool) -> bool
-    requires { ⌜ size ≡ sizeOk (part .blocks) ⌝ }
+// Whether an idle part is sound, which is told whether it has no page data: the tests that are not met by being idle.
+pub fn is_sound_idle(part: Part, empty: bool) -> bool
     ensures { λ r. ⌜ r ≡ (partSound part Idle and empty) ⌝ }
 {
+    let size = sizes::size_ok(part.blocks as u64);
     let registers = registers_ok(part, Phase::Idle);
     words::both(size, words::both(registers, empty))
 }
 
-// Whether a record is sound that is a part in a phase with page data, where it is told of an idle one whether it has no
-// page data: an idle one by fewer tests. The size is tested before, so that a caller who tests it too has it tested
-// once. A transaction asks it, which mostly finds the part idle.
-pub fn is_sound_told(part: Part, phase: Phase, empty: bool, page: &[u8]) -> bool
-    ensures { λ r. ⌜ r ≡ soundTold part phase empty (now (page .entry)) ⌝ }
-{
-    let size = sizes::size_ok(part.blocks as u64);
-    if phases::is_idle(phase) {
-        return is_sound_idle(size, part, empty);
-    }
-    let whole = is_sound_part(size, part, phase);
-    let kept = runs::zero_from(page, kept_in(phase));
-    words::both(whole, kept)
-}
-
-// Whether a record is sound that is a part in a phase with page data, one way for every phase. Ticks ask it, which mostly
-// find the part busy. Each of the two has one caller in the archive for C, so that it is compiled in place there.
-pub fn is_sound_any(part: Part, phase: Phase, page: &[u8]) -> bool
-    ensures { λ r. ⌜ r ≡ sound (recordOf part phase (now (page .entry))) ⌝ }
+// Whether a part in a phase with page data is sound.
+pub fn is_sound_of(part: Part, phase: Phase, page: &[u8]) -> bool
+    ensures { λ r. ⌜ r ≡ soundOf part phase (now (page .entry)) ⌝ }
 {
     let stored = part.stored;
     let size = sizes::size_ok(part.blocks as u64);
@@ -150,5 +114,5 @@ pub fn is_sound(state: Record) -> bool
     let part = state.part;
     let phase = state.phase;
     let page = state.page;
-    is_sound_any(part, phase, &page)
+    is_sound_of(part, phase, &page)
 }

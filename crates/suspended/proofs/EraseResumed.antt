@@ -61,23 +61,23 @@ resume-number p o c wp a = rw a
 module _ (p : Record) (o : Operation) (s : sound p ≡ true) (wp : Bool) (c : ℕ) where
   -- a suspend of what runs alone and can be suspended is executed
   pub suspends-now : p .phase ≡ Busy o → canSuspend o ≡ true → Always c Suspend
-      → recordAfterCall (oneByte wp c) p ≡ recordOf (unarmed (settled (p .part) (Suspended o) false)) (Suspended o) (p .page)
+      → recordAfterCall (oneByte wp c) p ≡ recordOf (p .identity) (unarmed (settled (p .part) (Suspended o) false)) (Suspended o) (p .page)
   unfolding _or_
   suspends-now f h e =
       let a : p .part .asleep ≡ false = not-true _ (sound-in p (Busy o) f s .sleep) in
       let n : ignoredNumber (Known Suspend) (p .part) (p .phase) (c ∷ []) wp ≡ 0 = ap (λ (g : Phase). commandNumber (columns Suspend) NoWork (p .part) g (c ∷ []) wp) f ∙ suspend-number (p .part) o c wp a h in
       ap (λ (t : Answer). t .next) (executes p s wp Suspend (c ∷ []) (omega arith) (omega arith) (e (p .part .blocks) (p .part .bank)) n)
-      ∙ ap (λ (g : Phase). recordOf (unarmed (settled (p .part) (suspendedIn g) false)) (suspendedIn g) (p .page)) f
+      ∙ ap (λ (g : Phase). recordOf (p .identity) (unarmed (settled (p .part) (suspendedIn g) false)) (suspendedIn g) (p .page)) f
 
   -- and so is a resume of what is suspended
   pub resumes-now : p .phase ≡ Suspended o → Always c Resume
-      → recordAfterCall (oneByte wp c) p ≡ recordOf (unarmed (settled (p .part) (Busy o) true)) (Busy o) (p .page)
+      → recordAfterCall (oneByte wp c) p ≡ recordOf (p .identity) (unarmed (settled (p .part) (Busy o) true)) (Busy o) (p .page)
   unfolding _or_
   resumes-now f e =
       let a : p .part .asleep ≡ false = not-true _ (sound-in p (Suspended o) f s .sleep) in
       let n : ignoredNumber (Known Resume) (p .part) (p .phase) (c ∷ []) wp ≡ 0 = ap (λ (g : Phase). commandNumber (columns Resume) NoWork (p .part) g (c ∷ []) wp) f ∙ resume-number (p .part) o c wp a in
       ap (λ (t : Answer). t .next) (executes p s wp Resume (c ∷ []) (omega arith) (omega arith) (e (p .part .blocks) (p .part .bank)) n)
-      ∙ ap (λ (g : Phase). recordOf (unarmed (settled (p .part) (resumedIn g) true)) (resumedIn g) (p .page)) f
+      ∙ ap (λ (g : Phase). recordOf (p .identity) (unarmed (settled (p .part) (resumedIn g) true)) (resumedIn g) (p .page)) f
 
 -- a part that is suspended from an erase with d ticks done, the pages done holding FFh: after a resume and the ticks that are left its whole unit does
 pub resume-whole : (p : Record) (u : EraseUnit) (b d : ℕ) (wp : Bool) (c : ℕ) (m : Memory) (at x : ℕ) → sound p ≡ true → p .phase ≡ Suspended (Erase u b d) → Always c Resume

@@ -1,3 +1,4 @@
 pub mod Laws
 pub mod Waited
+pub mod InBytes
 pub mod Tight

@@ -4,8 +4,7 @@ use mathlib.Core.Path.{_≡_, refl, sym, ap, _∙_}
 use mathlib.Core.Bool.{Bool, true, false, cond}
 use mathlib.Core.List.{List, []}
 use lib.Dec.{eqb}
-use lib.ListN.{length}
-use borrow.Author.Tests.{eqb-true, eq-eqb}
+use borrow.Author.Tests.{eqb-true}
 use Rattle.types.specs.declared.Memory.{Memory}
 use Rattle.types.specs.declared.Operation.{Operation}
 use Rattle.types.specs.declared.Work.{Work}
@@ -16,19 +15,17 @@ use Rattle.types.specs.declared.Change.the-variants.{Same, Runs}
 use Rattle.types.specs.declared.Record.{Record}
 use Rattle.types.specs.declared.Ticked.{Ticked}
 use Rattle.types.specs.declared.Waited.{Waited}
-use Rattle.words.specs.Logic.{_and_}
-use Rattle.paper.specs.Sizes.{pageBytes}
 use Rattle.paper.specs.Phases.{running}
 use Rattle.paper.specs.Operations.{advancedBy}
 use Rattle.paper.specs.Soundness.{sound}
 use Rattle.paper.specs.Commands.{changed}
 use Rattle.paper.specs.Numbers.{tickNumber}
-use Rattle.paper.specs.Ticks.{finishedPart, finished, advanced, recordAfter, workingTicks}
+use Rattle.paper.specs.Ticks.{finishedPart, finished, advanced, recordAfter, memoryAfter, workingTicks}
 use Rattle.paper.specs.Calls.{ticked, tickedMemory}
 use Rattle.paper.proofs.Soundness.{running-in-order}
 use Rattle.paper.proofs.Numbers.{ticks-taken}
-use Rattle.paper.proofs.Runs.{ran-all, rest-record}
-use Rattle.ticks.specs.Waited.{ticksLeft, tickChange, soundIn, numberIn, waitedOf, waitedMemory, tickedBy}
+use Rattle.paper.proofs.Runs.{ran-all, rest-record, rest-memory, rest-works}
+use Rattle.ticks.specs.Waited.{ticksLeft, ticksReached, memoryReached, tickChange, waitedOf, waitedMemory, tickedBy}
 
 -- whichever it is
 changed-as : (p : Record) (o : Operation) (k : ℕ) (t : Bool)
@@ -49,28 +46,48 @@ module _ (n : ℕ) (p : Record) (s : sound p ≡ true) where
   pub changed-ticks : changed (tickChange n (running (p .phase)) (p .part) (p .phase)) [] p ≡ recordAfter n p
   changed-ticks = changed-at (running (p .phase)) refl
 
--- a record whose page data has a page's length
-module _ (p : Record) (g : length (p .page) ≡ pageBytes) where
-  pub sound-in-whole : soundIn (p .part) (p .phase) (p .page) ≡ sound p
-  unfolding soundIn _and_
-  sound-in-whole = rw (eq-eqb _ _ g)
+  -- how many of them do work
+  reached-at : (w : Work) → running (p .phase) ≡ w → ticksReached n w (p .part .blocks) ≡ workingTicks n p
+  reached-at NoWork e = sym (rest-works p e n)
+  reached-at (At o) e = sym (ran-all p o e n _ (running-in-order p o e s .going) refl .done)
 
-  number-whole : (a r n : ℕ) → numberIn (p .part) (p .phase) (p .page) a r n ≡ tickNumber (p .part .blocks) (sound p) a r n
-  number-whole a r n = ap (λ (t : Bool). tickNumber (p .part .blocks) t a r n) sound-in-whole
+  pub reached-ticks : ticksReached n (running (p .phase)) (p .part .blocks) ≡ workingTicks n p
+  reached-ticks = reached-at (running (p .phase)) refl
 
-  module _ (a r n : ℕ) where
-    told-as : (t : Bool) → eqb (tickNumber (p .part .blocks) (sound p) a r n) 0 ≡ t
-        → tickedBy (cond {A = Waited} t (record { change = tickChange n (running (p .phase)) (p .part) (p .phase); number = 0; done = workingTicks n p }) (record { change = Same; number = tickNumber (p .part .blocks) (sound p) a r n; done = 0 })) p
-        ≡ cond {A = Ticked} t (record { next = recordAfter n p; number = 0; done = workingTicks n p }) (record { next = p; number = tickNumber (p .part .blocks) (sound p) a r n; done = 0 })
-    told-as true e =
-        ap (λ (q : Record). record { next = q; number = 0; done = workingTicks n p }) (changed-ticks n p (ticks-taken _ _ _ _ _ (eqb-true _ _ e) .is-sound))
-    told-as false e = refl
+  -- and what they make of a memory
+  module _ (m : Memory) (xs : List ℕ) where
+    memory-at : (w : Work) → running (p .phase) ≡ w → memoryReached m n w (p .part .blocks) (p .page) xs ≡ memoryAfter m n p xs
+    memory-at NoWork e = sym (rest-memory p e m xs n)
+    memory-at (At o) e = sym (ran-all p o e n _ (running-in-order p o e s .going) refl .memory m xs)
 
-    -- what a tick call answers, made of the record
-    pub ticked-told : tickedBy (waitedOf (p .part) (p .phase) (p .page) a r n) p ≡ ticked p a r n
-    unfolding waitedOf ticked
-    ticked-told = rw (number-whole a r n) (told-as (eqb (tickNumber (p .part .blocks) (sound p) a r n) 0) refl)
+    pub reached-memory : memoryReached m n (running (p .phase)) (p .part .blocks) (p .page) xs ≡ memoryAfter m n p xs
+    reached-memory = memory-at (running (p .phase)) refl
 
-    pub memory-told : (m : Memory) (xs : List ℕ) → waitedMemory m (p .part) (p .phase) (p .page) a r n xs ≡ tickedMemory m p a r n xs
-    unfolding waitedMemory tickedMemory
-    memory-told m xs = rw (number-whole a r n)
+module _ (p : Record) (a r n : ℕ) where
+  abbrev number : ℕ
+  number = tickNumber (p .part .blocks) (sound p) a r n
+
+  taken : eqb number 0 ≡ true → sound p ≡ true
+  taken e = ticks-taken _ _ _ _ _ (eqb-true _ _ e) .is-sound
+
+  told-as : (t : Bool) → eqb number 0 ≡ t
+      → tickedBy (cond {A = Waited} t (record { change = tickChange n (running (p .phase)) (p .part) (p .phase); number = 0; done = ticksReached n (running (p .phase)) (p .part .blocks) }) (record { change = Same; number = number; done = 0 })) p
+      ≡ cond {A = Ticked} t (record { next = recordAfter n p; number = 0; done = workingTicks n p }) (record { next = p; number = number; done = 0 })
+  told-as true e =
+      ap (λ (q : Record). record { next = q; number = 0; done = ticksReached n (running (p .phase)) (p .part .blocks) }) (changed-ticks n p (taken e))
+      ∙ ap (λ (k : ℕ). record { next = recordAfter n p; number = 0; done = k }) (reached-ticks n p (taken e))
+  told-as false e = refl
+
+  -- what a tick call answers, made of the record
+  pub ticked-told : tickedBy (waitedOf (p .part) (p .phase) (sound p) a r n) p ≡ ticked p a r n
+  unfolding waitedOf ticked
+  ticked-told = told-as (eqb number 0) refl
+
+  memory-as : (m : Memory) (xs : List ℕ) (t : Bool) → eqb number 0 ≡ t
+      → cond {A = List ℕ} t (memoryReached m n (running (p .phase)) (p .part .blocks) (p .page) xs) xs ≡ cond {A = List ℕ} t (memoryAfter m n p xs) xs
+  memory-as m xs true e = reached-memory n p (taken e) m xs
+  memory-as m xs false e = refl
+
+  pub memory-told : (m : Memory) (xs : List ℕ) → waitedMemory m (p .part) (p .phase) (sound p) (p .page) a r n xs ≡ tickedMemory m p a r n xs
+  unfolding waitedMemory tickedMemory
+  memory-told m xs = memory-as m xs (eqb number 0) refl

@@ -1,9 +1,8 @@
--- A tick call told by part, phase and page data, by what it changes: its ticks are done in one step.
+-- A tick call told by part, phase and page data, by what it reaches and what it changes: its ticks are done in one step.
 use Prim.Native.Nat.{ℕ, _-_, min}
 use mathlib.Core.Bool.{Bool, cond}
 use mathlib.Core.List.{List, []}
 use lib.Dec.{eqb}
-use lib.ListN.{length}
 use Rattle.types.specs.declared.Memory.{Memory}
 use Rattle.types.specs.declared.Operation.{Operation}
 use Rattle.types.specs.declared.Phase.{Phase}
@@ -16,16 +15,12 @@ use Rattle.types.specs.declared.Change.{Change}
 use Rattle.types.specs.declared.Change.the-variants.{Same, Runs}
 use Rattle.types.specs.declared.Ticked.{Ticked}
 use Rattle.types.specs.declared.Waited.{Waited}
-use Rattle.words.specs.Logic.{_and_, whenZero}
-use Rattle.paper.specs.Sizes.{pageBytes}
+use Rattle.words.specs.Logic.{whenZero}
 use Rattle.paper.specs.Phases.{running}
 use Rattle.paper.specs.Operations.{ticksInAll, ticksDone, advancedBy}
-use Rattle.paper.specs.Soundness.{sound}
 use Rattle.paper.specs.Commands.{changed}
 use Rattle.paper.specs.Numbers.{tickNumber}
-use Rattle.paper.specs.Ticks.{finishedPart, workingTicks}
-use Rattle.paper.specs.Calls.{memoryBy}
-use Rattle.paper.proofs.Soundness.{recordOf}
+use Rattle.paper.specs.Ticks.{finishedPart, ran}
 
 -- the ticks that an operation has left on a part of so many blocks
 abbrev pub ticksLeft : Operation → ℕ → ℕ
@@ -43,24 +38,27 @@ abbrev pub tickChange : ℕ → Work → Part → Phase → Change
 tickChange n NoWork p f = Same
 tickChange n (At o) p f = changeAfter (min n (ticksLeft o (p .blocks))) o p f
 
--- a part in a phase with page data of a page is a sound record
-unfoldable pub soundIn : Part → Phase → List ℕ → Bool
-soundIn p f g = eqb (length g) pageBytes and sound (recordOf p f g)
+-- what n ticks reach, where w runs on a part of so many blocks: nothing, or the next ticks of an operation, as many of them as it has left
+abbrev pub ticksReached : ℕ → Work → ℕ → ℕ
+ticksReached n NoWork blocks = 0
+ticksReached n (At o) blocks = min n (ticksLeft o blocks)
 
--- the refusals of a tick call
-abbrev pub numberIn : Part → Phase → List ℕ → ℕ → ℕ → ℕ → ℕ
-numberIn p f g a r n = tickNumber (p .blocks) (soundIn p f g) a r n
+-- and what they make of a memory, with the page data g
+abbrev pub memoryReached : Memory → ℕ → Work → ℕ → List ℕ → List ℕ → List ℕ
+memoryReached m n NoWork blocks g xs = xs
+memoryReached m n (At o) blocks g xs = ran m (min n (ticksLeft o blocks)) o g xs
 
--- what a tick call answers, for an array of a and rows of r bytes
-unfoldable pub waitedOf : Part → Phase → List ℕ → ℕ → ℕ → ℕ → Waited
-waitedOf p f g a r n =
-    whenZero (numberIn p f g a r n)
-    (record { change = tickChange n (running f) p f; number = 0; done = workingTicks n (recordOf p f g) })
-    (record { change = Same; number = numberIn p f g a r n; done = 0 })
+-- what a tick call answers, of a part in a phase that is sound or is not, for an array of a and rows of r bytes
+unfoldable pub waitedOf : Part → Phase → Bool → ℕ → ℕ → ℕ → Waited
+waitedOf p f s a r n =
+    whenZero (tickNumber (p .blocks) s a r n)
+    (record { change = tickChange n (running f) p f; number = 0; done = ticksReached n (running f) (p .blocks) })
+    (record { change = Same; number = tickNumber (p .blocks) s a r n; done = 0 })
 
 -- and what it leaves in a memory
-unfoldable pub waitedMemory : Memory → Part → Phase → List ℕ → ℕ → ℕ → ℕ → List ℕ → List ℕ
-waitedMemory m p f g a r n xs = memoryBy (numberIn p f g a r n) m n (recordOf p f g) xs
+unfoldable pub waitedMemory : Memory → Part → Phase → Bool → List ℕ → ℕ → ℕ → ℕ → List ℕ → List ℕ
+waitedMemory m p f s g a r n xs =
+    whenZero (tickNumber (p .blocks) s a r n) (memoryReached m n (running f) (p .blocks) g xs) xs
 
 -- the answer, made of the record
 abbrev pub tickedBy : Waited → Record → Ticked

@@ -10,12 +10,14 @@ ghost use Rattle.paper.specs.Sizes.{arrayBytes, rowsBytes};
 ghost use Rattle.paper.specs.Registers.{registerWritten, storedAfter};
 ghost use Rattle.paper.specs.Phases.{running};
 ghost use Rattle.paper.specs.Operations.{ticksDone, advancedBy};
-ghost use Rattle.paper.specs.Soundness.{sound};
-ghost use Rattle.paper.specs.Ticks.{finishedPart, memoryAfter, workingTicks, ran};
+ghost use Rattle.paper.specs.Soundness.{soundOf};
+ghost use Rattle.paper.specs.Ticks.{finishedPart, ran};
 ghost use Rattle.paper.specs.Calls.{ticked, tickedMemory};
-ghost use Rattle.paper.proofs.Soundness.{recordOf};
+ghost use Rattle.record_bytes.specs.Read.{recordIn};
 ghost use Rattle.ticks.specs.Runs.{pagesErased, bytesNarrowed, Within};
-ghost use Rattle.ticks.specs.Waited.{ticksLeft, changeAfter, tickChange, numberIn, waitedOf, waitedMemory};
+ghost use Rattle.ticks.specs.Waited.{ticksLeft, ticksReached, memoryReached, changeAfter, tickChange, waitedOf, waitedMemory};
+ghost use Rattle.ticks.specs.InBytes.{heldWorked, tickBytes, tickMemory};
+use record_bytes::places;
 use types::Change;
 use types::Data;
 use types::Memory;
@@ -28,6 +30,7 @@ use types::Stored;
 use types::Ticked;
 use types::Waited;
 use types::Work;
+use types::Worked;
 
 // So many pages from a place on set to FFh, lowest first.
 fn erase_pages(memory: &mut [u8], from: usize, count: usize)
@@ -189,8 +192,8 @@ fn work(
     rows: &mut [u8],
     ticks: usize,
 ) -> Waited
-    requires { ⌜ (running phase ≡ At op) × (sound (recordOf part phase (now page)) ≡ true) × (length (now page) ≡ 256) × (length (now array) ≡ arrayBytes (part .blocks)) × (length (now rows) ≡ rowsBytes) ⌝ }
-    ensures { λ r. ⌜ (r ≡ record { change = tickChange ticks (At op) part phase; number = 0; done = workingTicks ticks (recordOf part phase (now (page .entry))) }) × (now (array .exit) ≡ memoryAfter Array ticks (recordOf part phase (now (page .entry))) (now (array .entry))) × (now (rows .exit) ≡ memoryAfter Rows ticks (recordOf part phase (now (page .entry))) (now (rows .entry))) ⌝ }
+    requires { ⌜ (running phase ≡ At op) × (soundOf part phase (now page) ≡ true) × (length (now page) ≡ 256) × (length (now array) ≡ arrayBytes (part .blocks)) × (length (now rows) ≡ rowsBytes) ⌝ }
+    ensures { λ r. ⌜ (r ≡ record { change = tickChange ticks (At op) part phase; number = 0; done = ticksReached ticks (At op) (part .blocks) }) × (now (array .exit) ≡ memoryReached Array ticks (At op) (part .blocks) (now (page .entry)) (now (array .entry))) × (now (rows .exit) ≡ memoryReached Rows ticks (At op) (part .blocks) (now (page .entry)) (now (rows .entry))) ⌝ }
 {
     let left = operations::ticks_in_all(op, part.blocks) - operations::ticks_done(op);
     let count = words::lesser(ticks, left);
@@ -212,8 +215,8 @@ fn run(
     rows: &mut [u8],
     ticks: usize,
 ) -> Waited
-    requires { ⌜ (sound (recordOf part phase (now page)) ≡ true) × (length (now page) ≡ 256) × (length (now array) ≡ arrayBytes (part .blocks)) × (length (now rows) ≡ rowsBytes) ⌝ }
-    ensures { λ r. ⌜ (r ≡ record { change = tickChange ticks (running phase) part phase; number = 0; done = workingTicks ticks (recordOf part phase (now (page .entry))) }) × (now (array .exit) ≡ memoryAfter Array ticks (recordOf part phase (now (page .entry))) (now (array .entry))) × (now (rows .exit) ≡ memoryAfter Rows ticks (recordOf part phase (now (page .entry))) (now (rows .entry))) ⌝ }
+    requires { ⌜ (soundOf part phase (now page) ≡ true) × (length (now page) ≡ 256) × (length (now array) ≡ arrayBytes (part .blocks)) × (length (now rows) ≡ rowsBytes) ⌝ }
+    ensures { λ r. ⌜ (r ≡ record { change = tickChange ticks (running phase) part phase; number = 0; done = ticksReached ticks (running phase) (part .blocks) }) × (now (array .exit) ≡ memoryReached Array ticks (running phase) (part .blocks) (now (page .entry)) (now (array .entry))) × (now (rows .exit) ≡ memoryReached Rows ticks (running phase) (part .blocks) (now (page .entry)) (now (rows .entry))) ⌝ }
 {
     let running = phases::running(phase);
     match running {
@@ -226,29 +229,22 @@ fn run(
     }
 }
 
-fn tick_number(part: Part, phase: Phase, page: &[u8], array: usize, rows: usize, ticks: usize) -> u8
-    ensures { λ r. ⌜ r ≡ numberIn part phase (now (page .entry)) array rows ticks ⌝ }
-{
-    let whole = page.len() == types::PAGE_BYTES;
-    let sound = words::both(whole, soundness::is_sound_any(part, phase, page));
-    refusals::tick_number(part.blocks, sound, array, rows, ticks)
-}
-
-// So many ticks of a part in a phase with page data, which stays where it is. It answers what becomes of the record,
-// the number, and how many ticks did work; refused, with 1, 2, 5 or 6, it writes nothing and the record stays the same.
-pub fn tick_part(
+// So many ticks of a part in a phase with page data, which stays where it is, and of which is told whether it is sound. It
+// answers what becomes of the record, the number, and how many ticks did work; refused, with 1, 2, 5 or 6, it writes nothing
+// and the record stays the same.
+fn tick_told(
     part: Part,
     phase: Phase,
+    sound: bool,
     page: &[u8],
     array: &mut [u8],
     rows: &mut [u8],
     ticks: usize,
 ) -> Waited
-    ensures answer { λ r. ⌜ r ≡ waitedOf part phase (now (page .entry)) (length (now (array .entry))) (length (now (rows .entry))) ticks ⌝ }
-    ensures array { λ _. ⌜ now (array .exit) ≡ waitedMemory Array part phase (now (page .entry)) (length (now (array .entry))) (length (now (rows .entry))) ticks (now (array .entry)) ⌝ }
-    ensures rows { λ _. ⌜ now (rows .exit) ≡ waitedMemory Rows part phase (now (page .entry)) (length (now (array .entry))) (length (now (rows .entry))) ticks (now (rows .entry)) ⌝ }
+    requires { ⌜ (sound ≡ soundOf part phase (now page)) × (length (now page) ≡ 256) ⌝ }
+    ensures { λ r. ⌜ (r ≡ waitedOf part phase sound (length (now (array .entry))) (length (now (rows .entry))) ticks) × (now (array .exit) ≡ waitedMemory Array part phase sound (now (page .entry)) (length (now (array .entry))) (length (now (rows .entry))) ticks (now (array .entry))) × (now (rows .exit) ≡ waitedMemory Rows part phase sound (now (page .entry)) (length (now (array .entry))) (length (now (rows .entry))) ticks (now (rows .entry))) ⌝ }
 {
-    let number = tick_number(part, phase, page, array.len(), rows.len(), ticks);
+    let number = refusals::tick_number(part.blocks, sound, array.len(), rows.len(), ticks);
     if number != 0 {
         return Waited {
             change: Change::Same,
@@ -269,12 +265,42 @@ pub fn tick(state: Record, array: &mut [u8], rows: &mut [u8], ticks: usize) -> T
     let part = state.part;
     let phase = state.phase;
     let page = state.page;
-    let waited = tick_part(part, phase, &page, array, rows, ticks);
+    let sound = soundness::is_sound_of(part, phase, &page);
+    let waited = tick_told(part, phase, sound, &page, array, rows, ticks);
     let change = waited.change;
     let next = effects::apply(change, &page[0..0], state);
     Ticked {
         next: next,
         number: waited.number,
         done: waited.done,
+    }
+}
+
+// So many ticks of the record that bytes hold, which is written over them. It answers the number, and how many ticks did work;
+// refused, with 1, 2, 5 or 6, every buffer is as it was. Where the bytes hold no record, 1 is not judged: there is no size.
+pub fn tick_bytes(bytes: &mut [u8], array: &mut [u8], rows: &mut [u8], ticks: usize) -> Worked
+    ensures answer { λ r. ⌜ r ≡ heldWorked (recordIn (now (bytes .entry))) (length (now (array .entry))) (length (now (rows .entry))) ticks ⌝ }
+    ensures bytes { λ _. ⌜ now (bytes .exit) ≡ tickBytes (recordIn (now (bytes .entry))) (length (now (array .entry))) (length (now (rows .entry))) ticks (now (bytes .entry)) ⌝ }
+    ensures array { λ _. ⌜ now (array .exit) ≡ tickMemory Array (recordIn (now (bytes .entry))) (length (now (array .entry))) (length (now (rows .entry))) ticks (now (array .entry)) ⌝ }
+    ensures rows { λ _. ⌜ now (rows .exit) ≡ tickMemory Rows (recordIn (now (bytes .entry))) (length (now (array .entry))) (length (now (rows .entry))) ticks (now (rows .entry)) ⌝ }
+{
+    let found = record_bytes::reading::read(bytes);
+    if !found.ok {
+        let unread = refusals::rows_number_or(rows.len(), 5);
+        return Worked {
+            number: unread,
+            done: 0,
+        };
+    }
+    let part = found.part;
+    let phase = found.phase;
+    let page = &bytes[places::PAGE..places::END];
+    let told = tick_told(part, phase, found.sound, page, array, rows, ticks);
+    let change = told.change;
+    let none_sent = [0u8; 0];
+    record_bytes::writing::write_change(change, &none_sent, bytes);
+    Worked {
+        number: told.number,
+        done: told.done,
     }
 }

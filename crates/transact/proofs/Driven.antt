@@ -9,6 +9,7 @@ use Rattle.types.specs.declared.Command.{Command}
 use Rattle.types.specs.declared.Command.the-variants.{Read, FastRead, ReadStatus, ReadFunction, ReadIdentity, ReadMakerDevice, Wake, ReadRow, WriteEnable, WriteDisable, WriteStatus, WriteFunction, PageProgram, SectorErase, BlockErase32, BlockErase64, ChipErase, Suspend, Resume, Sleep, ArmReset, Reset, RowErase, RowProgram, ReadExtended, SetStored, SetLive, ClearErrors, FarRead, FarFastRead, FarPageProgram, FarPageProgramAtRest, FarSectorErase, FarBlockErase32, FarBlockErase64, ReadBank, WriteBank, EnterFar, LeaveFar}
 use Rattle.types.specs.declared.Source.{Source}
 use Rattle.types.specs.declared.Source.the-variants.{None, ArrayBytes, RowBytes, StatusByte, FunctionByte, IdentityBytes, MakerPair, DeviceByte, ExtendedByte, BankByte}
+use Rattle.types.specs.declared.Identity.{Identity}
 use Rattle.types.specs.declared.Part.{Part}
 use Rattle.types.specs.declared.Phase.{Phase}
 use Rattle.types.specs.declared.Work.{Work}
@@ -38,8 +39,8 @@ Asked DeviceByte g i = Unit {0}
 Asked ExtendedByte g i = Unit {0}
 Asked BankByte g i = Unit {0}
 
-module _ (p : Part) (xs rs i : List ℕ) (s : sizeOk (p .blocks) ≡ true) (array : length xs ≡ arrayBytes (p .blocks)) (rows : length rs ≡ rowsBytes) where
-  some : (w : Source) (g : Addressing) → Asked w g i → drives w ≡ true → length (sourceBytes w g p xs rs i) ≡ 0 → ⊥
+module _ (id : Identity) (p : Part) (xs rs i : List ℕ) (s : sizeOk (p .blocks) ≡ true) (array : length xs ≡ arrayBytes (p .blocks)) (rows : length rs ≡ rowsBytes) where
+  some : (w : Source) (g : Addressing) → Asked w g i → drives w ≡ true → length (sourceBytes w g id p xs rs i) ≡ 0 → ⊥
   some None g r d z = false≢true d
   some ArrayBytes g r d z = omega (arith, size-range (p .blocks) s)
   some RowBytes g r d z =
@@ -52,10 +53,10 @@ module _ (p : Part) (xs rs i : List ℕ) (s : sizeOk (p .blocks) ≡ true) (arra
   some ExtendedByte g r d z = omega arith
   some BankByte g r d z = omega arith
 
-  sent : (k : Command) (w : Source) → let g = addressingOn (columns k) p in Asked w g i → drives w ≡ true → length (sourceBytes w g p xs rs i) ≡ 0 → ⊥
+  sent : (k : Command) (w : Source) → let g = addressingOn (columns k) p in Asked w g i → drives w ≡ true → length (sourceBytes w g id p xs rs i) ≡ 0 → ⊥
   sent k w = some w (addressingOn (columns k) p)
 
-  pub has-bytes : (k : Command) → addressOk (columns k .named) (addressingOn (columns k) p) i ≡ true → HasBytes (columns k) p xs rs i
+  pub has-bytes : (k : Command) → addressOk (columns k .named) (addressingOn (columns k) p) i ≡ true → HasBytes (columns k) id p xs rs i
   has-bytes Read h = sent Read ArrayBytes tt
   has-bytes FastRead h = sent FastRead ArrayBytes tt
   has-bytes ReadStatus h = sent ReadStatus StatusByte tt

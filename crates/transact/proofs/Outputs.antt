@@ -12,6 +12,7 @@ use Rattle.types.specs.declared.Source.{Source}
 use Rattle.types.specs.declared.Source.the-variants.{None, RowBytes}
 use Rattle.types.specs.declared.Addressing.{Addressing}
 use Rattle.types.specs.declared.Columns.{Columns}
+use Rattle.types.specs.declared.Identity.{Identity}
 use Rattle.types.specs.declared.Part.{Part}
 use Rattle.words.specs.Logic.{_and_}
 use Rattle.words.specs.Lists.{upTo, round}
@@ -21,7 +22,7 @@ use Rattle.paper.specs.Table.{addressingOn, drives}
 use Rattle.paper.specs.Reads.{undrivenByte, undriven, sourceBytes, sourceStart, outputOf}
 use Rattle.transact.specs.Shown.{shown, HasBytes}
 
-module _ (k : Columns) (p : Part) (xs rs i : List ℕ) where
+module _ (k : Columns) (id : Identity) (p : Part) (xs rs i : List ℕ) where
   -- how the address is sent
   abbrev form : Addressing
   form = addressingOn k p
@@ -29,21 +30,21 @@ module _ (k : Columns) (p : Part) (xs rs i : List ℕ) where
   -- the output with what is driven apart
   outputFor : Source → Bool → List ℕ
   outputFor w t =
-      upTo (length i) (λ (j : ℕ). cond (t and leb (k .from) j) (round (sourceBytes w form p xs rs i) (sourceStart w form (p .blocks) i) (j - k .from)) undrivenByte)
+      upTo (length i) (λ (j : ℕ). cond (t and leb (k .from) j) (round (sourceBytes w form id p xs rs i) (sourceStart w form (p .blocks) i) (j - k .from)) undrivenByte)
 
   module _ (w : Source) (e : k .source ≡ w) where
-    pub driven-output : drives w ≡ true → outputOf k p xs rs i ≡ shown (sourceBytes w form p xs rs i) (sourceStart w form (p .blocks) i) (k .from) (length i)
+    pub driven-output : drives w ≡ true → outputOf k id p xs rs i ≡ shown (sourceBytes w form id p xs rs i) (sourceStart w form (p .blocks) i) (k .from) (length i)
     unfolding outputOf outputFor _and_
     driven-output d = ap (λ (x : Source). outputFor x (drives x)) e ∙ ap (outputFor w) d
 
-    pub some-bytes : drives w ≡ true → HasBytes k p xs rs i → 0 < length (sourceBytes w form p xs rs i)
+    pub some-bytes : drives w ≡ true → HasBytes k id p xs rs i → 0 < length (sourceBytes w form id p xs rs i)
     some-bytes d h =
-        let n = subst (λ (x : Source). drives x ≡ true → length (sourceBytes x form p xs rs i) ≡ 0 → ⊥) e h d in
-        ⊎-elim (λ z. absurd (n z)) (λ l. l) (eq-zero-or-pos (length (sourceBytes w form p xs rs i)))
+        let n = subst (λ (x : Source). drives x ≡ true → length (sourceBytes x form id p xs rs i) ≡ 0 → ⊥) e h d in
+        ⊎-elim (λ z. absurd (n z)) (λ l. l) (eq-zero-or-pos (length (sourceBytes w form id p xs rs i)))
 
-  pub blank-output : k .source ≡ None → outputOf k p xs rs i ≡ undriven (length i)
+  pub blank-output : k .source ≡ None → outputOf k id p xs rs i ≡ undriven (length i)
   unfolding outputOf outputFor _and_
   blank-output e = ap (λ (x : Source). outputFor x (drives x)) e ∙ upTo-const (length i) undrivenByte
 
-  pub row-inside : k .source ≡ RowBytes → HasBytes k p xs rs i → rowBase form i < length rs
+  pub row-inside : k .source ≡ RowBytes → HasBytes k id p xs rs i → rowBase form i < length rs
   row-inside e h = omega (arith, simp (length-take, length-drop) at (some-bytes RowBytes e refl h))

@@ -14,7 +14,7 @@ use Rattle.transact.proofs.transact.Reads as transact
 pub transact-part-one : OneResult transact-part.Learnt
 transact-part-one κ a x y s t p q = agree (p .0) (q .0)
 
-pub transact-part-one-output : OneExit transact-part.Learnt (λ κ s. now (s .1 .1 .1 .1 .1 .1 .1 .0))
+pub transact-part-one-output : OneExit transact-part.Learnt (λ κ s. now (s .1 .1 .1 .1 .1 .1 .1 .1 .0))
 transact-part-one-output κ a x y s t p q = agree (p .1) (q .1)
 
 pub transact-one : OneResult transact.Learnt

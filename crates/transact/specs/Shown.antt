@@ -6,6 +6,7 @@ use mathlib.Core.List.{List}
 use lib.Dec.{leb}
 use lib.ListN.{length}
 use Rattle.types.specs.declared.Columns.{Columns}
+use Rattle.types.specs.declared.Identity.{Identity}
 use Rattle.types.specs.declared.Part.{Part}
 use Rattle.words.specs.Lists.{upTo, round}
 use Rattle.paper.specs.Reads.{undrivenByte, sourceBytes}
@@ -16,5 +17,5 @@ abbrev pub shown : List ℕ → ℕ → ℕ → ℕ → List ℕ
 shown s at from n = upTo n (λ (j : ℕ). cond (leb from j) (round s at (j - from)) undrivenByte)
 
 -- a command that drives has something to drive
-abbrev pub HasBytes : Columns → Part → List ℕ → List ℕ → List ℕ → Type 0
-HasBytes k p xs rs i = isRead k ≡ true → length (sourceBytes (k .source) (addressingOn k p) p xs rs i) ≡ 0 → ⊥
+abbrev pub HasBytes : Columns → Identity → Part → List ℕ → List ℕ → List ℕ → Type 0
+HasBytes k id p xs rs i = isRead k ≡ true → length (sourceBytes (k .source) (addressingOn k p) id p xs rs i) ≡ 0 → ⊥

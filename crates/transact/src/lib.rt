@@ -21,6 +21,7 @@ use types::Columns;
 use types::Command;
 use types::Decoded;
 use types::Effect;
+use types::Identity;
 use types::Outcome;
 use types::Part;
 use types::Phase;
@@ -71,18 +72,18 @@ fn drive_row(form: Addressing, rows: &[u8], input: &[u8], output: &mut [u8], fro
 fn show(
     k: Columns,
     form: Addressing,
+    identity: Identity,
     part: Part,
     array: &[u8],
     rows: &[u8],
     input: &[u8],
     output: &mut [u8],
 )
-    requires { ⌜ HasBytes k part (now array) (now rows) (now input) × (length (now output) ≡ length (now input)) × (form ≡ addressingOn k part) ⌝ }
-    ensures { λ _. ⌜ now (output .exit) ≡ outputOf k part (now (array .entry)) (now (rows .entry)) (now (input .entry)) ⌝ }
+    requires { ⌜ HasBytes k identity part (now array) (now rows) (now input) × (length (now output) ≡ length (now input)) × (form ≡ addressingOn k part) ⌝ }
+    ensures { λ _. ⌜ now (output .exit) ≡ outputOf k identity part (now (array .entry)) (now (rows .entry)) (now (input .entry)) ⌝ }
 {
     let source = k.source;
     let from = k.from;
-    let identity = part.identity;
     match source {
         Source::None => runs::blank(output),
         Source::ArrayBytes => {
@@ -135,6 +136,7 @@ fn bar(effect: Effect, number: u8, part: Part, n: usize, output: &mut [u8]) -> O
 // A known command: executed, or ignored with its number.
 fn answer_to(
     command: Command,
+    identity: Identity,
     part: Part,
     phase: Phase,
     array: &[u8],
@@ -144,7 +146,7 @@ fn answer_to(
     output: &mut [u8],
 ) -> Outcome
     requires { ⌜ (sizeOk (part .blocks) ≡ true) × (length (now array) ≡ arrayBytes (part .blocks)) × (length (now rows) ≡ rowsBytes) × (length (now output) ≡ length (now input)) ⌝ }
-    ensures { λ r. ⌜ (r ≡ outcomeTo (Known command) part phase wp (now (input .entry))) × (now (output .exit) ≡ outputTo (Known command) part phase (now (array .entry)) (now (rows .entry)) wp (now (input .entry))) ⌝ }
+    ensures { λ r. ⌜ (r ≡ outcomeTo (Known command) part phase wp (now (input .entry))) × (now (output .exit) ≡ outputTo (Known command) identity part phase (now (array .entry)) (now (rows .entry)) wp (now (input .entry))) ⌝ }
 {
     let k = table::columns_of(command);
     let n = input.len();
@@ -159,7 +161,7 @@ fn answer_to(
     if number != 0 {
         return ignore(number, n, output);
     }
-    show(k, form, part, array, rows, input, output);
+    show(k, form, identity, part, array, rows, input, output);
     let change = effects::change_by(effect, form, work, part, phase, input);
     let first = table::first_driven(k, n);
     Outcome {
@@ -169,10 +171,11 @@ fn answer_to(
     }
 }
 
-// A transaction on a part in a phase, of a record that is sound or is not, as the caller says. WP# is high where wp is
+// A transaction on a part with an identity in a phase, of a record that is sound or is not, as the caller says. WP# is high where wp is
 // true. It answers what becomes of the record, the number and the first driven place, and fills the output; refused,
 // with 1 to 5, it writes nothing and the record stays the same.
 pub fn transact_part(
+    identity: Identity,
     part: Part,
     phase: Phase,
     sound: bool,
@@ -183,7 +186,7 @@ pub fn transact_part(
     output: &mut [u8],
 ) -> Outcome
     ensures answer { λ r. ⌜ r ≡ outcomeOf part phase sound (length (now (array .entry))) (length (now (rows .entry))) wp (now (input .entry)) (length (now (output .entry))) ⌝ }
-    ensures output { λ _. ⌜ now (output .exit) ≡ outputAfter part phase sound (now (array .entry)) (now (rows .entry)) wp (now (input .entry)) (now (output .entry)) ⌝ }
+    ensures output { λ _. ⌜ now (output .exit) ≡ outputAfter identity part phase sound (now (array .entry)) (now (rows .entry)) wp (now (input .entry)) (now (output .entry)) ⌝ }
 {
     let n = input.len();
     let number = refusals::transaction_refusal(
@@ -205,7 +208,17 @@ pub fn transact_part(
     let Decoded::Known(command) = decoded else {
         return ignore(20, n, output);
     };
-    answer_to(command, part, phase, array, rows, wp, input, output)
+    answer_to(
+        command,
+        identity,
+        part,
+        phase,
+        array,
+        rows,
+        wp,
+        input,
+        output,
+    )
 }
 
 // A transaction. WP# is high where wp is true. It answers the next record, the number and the first driven
@@ -221,10 +234,11 @@ pub fn transact(
     ensures answer { λ r. ⌜ r ≡ transacted state (length (now (array .entry))) (length (now (rows .entry))) wp (now (input .entry)) (length (now (output .entry))) ⌝ }
     ensures output { λ _. ⌜ now (output .exit) ≡ transactedOutput state (now (array .entry)) (now (rows .entry)) wp (now (input .entry)) (now (output .entry)) ⌝ }
 {
+    let identity = state.identity;
     let part = state.part;
     let phase = state.phase;
     let sound = soundness::is_sound(state);
-    let outcome = transact_part(part, phase, sound, array, rows, wp, input, output);
+    let outcome = transact_part(identity, part, phase, sound, array, rows, wp, input, output);
     let change = outcome.change;
     let next = effects::apply(change, input, state);
     Answer {

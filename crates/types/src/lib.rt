@@ -113,7 +113,6 @@ pub struct Stored {
 // 3 E_ERR, 2 P_ERR, 1 PROT_E. The bank address register has bit 7 EXTADD and bit 0, the bank bit.
 pub struct Part {
     pub blocks: u16,
-    pub identity: Identity,
     pub stored: Stored,
     pub wel: bool,
     pub armed: bool,
@@ -122,10 +121,11 @@ pub struct Part {
     pub bank: u8,
 }
 
-// The record of a part: what it is, what it does, and the 256 bytes of page data.
+// The record of a part: what it is, what it does, its identity, which no call changes, and the 256 bytes of page data.
 pub struct Record {
     pub part: Part,
     pub phase: Phase,
+    pub identity: Identity,
     pub page: [u8; 256],
 }
 
@@ -324,6 +324,12 @@ pub struct Ticked {
 // What a tick call answers, with what it makes of the record and not the record.
 pub struct Waited {
     pub change: Change,
+    pub number: u8,
+    pub done: usize,
+}
+
+// What a tick call answers, but for the record, which is kept in bytes.
+pub struct Worked {
     pub number: u8,
     pub done: usize,
 }

@@ -2,50 +2,36 @@
 use Prim.Native.Nat.{ℕ, _≤_}
 use mathlib.Core.Path.{_≡_, refl, sym, ap, _∙_}
 use mathlib.Core.Bool.{Bool, true, false, cond}
-use mathlib.Core.List.{List, []}
+use mathlib.Core.List.{List}
 use lib.Dec.{eqb, leb}
 use native.Mathlib.Omega.{arith}
-use lib.ListN.{length, take, drop, length-take, length-drop}
+use lib.ListN.{length}
 use borrow.Author.Tests.{eqb-true, leb-true, eq-eqb, ne-eqb}
-use Rattle.types.specs.declared.Memory.{Memory}
 use Rattle.types.specs.declared.Identity.{Identity}
 use Rattle.types.specs.declared.Phase.the-variants.{Idle}
 use Rattle.types.specs.declared.Stored.{Stored}
 use Rattle.types.specs.declared.Record.{Record}
 use Rattle.types.specs.declared.Outcome.{Outcome}
-use Rattle.types.specs.declared.Ticked.{Ticked}
-use Rattle.types.specs.declared.Waited.{Waited}
 use Rattle.types.specs.declared.PoweredUp.{PoweredUp}
 use Rattle.words.specs.Logic.{_and_, unless, _orElse_}
 use Rattle.words.proofs.Tests.{and-l, and-r, unless-zero, orElse-zero, orElse-on, orElse-first}
-use Rattle.paper.specs.Sizes.{pageBytes}
-use Rattle.paper.specs.Soundness.{sound}
+use Rattle.paper.specs.Soundness.{sound, soundOf}
 use Rattle.paper.specs.Registers.{withBytes, withExtended}
 use Rattle.paper.specs.Program.{noData}
 use Rattle.paper.specs.Records.{fresh}
 use Rattle.paper.specs.Commands.{changed}
-use Rattle.paper.specs.Numbers.{powerUpNumber, rowsNumber, soundNumber, laterRefusal}
-use Rattle.paper.specs.Calls.{noStored, zeroRecord, poweredUp, outcomeOf, outputAfter, ticked, tickedMemory}
+use Rattle.paper.specs.Numbers.{powerUpNumber, laterRefusal}
+use Rattle.paper.specs.Calls.{noStored, zeroRecord, poweredUp, outcomeOf, outputAfter, ticked}
 use Rattle.paper.proofs.Sizes.{size-range, limit-range}
 use Rattle.paper.proofs.Soundness.{recordOf}
 use Rattle.paper.proofs.CallKept.{done-at-most}
-use Rattle.ticks.specs.Waited.{waitedOf, waitedMemory, tickedBy}
-use Rattle.ticks.proofs.Waited.{ticked-told, memory-told}
+use Rattle.ticks.specs.InBytes.{heldWorked}
 use Rattle.record_bytes.specs.declared.Found.{Found}
-use Rattle.record_bytes.specs.Layout.{headerLength, recordLength, recordBytes, changeWritten}
-use Rattle.record_bytes.specs.Read.{Held, recordIn, found}
-use Rattle.record_bytes.proofs.Back.{held-length, held-state}
+use Rattle.record_bytes.specs.Layout.{recordLength, recordBytes, changeWritten}
+use Rattle.record_bytes.specs.Read.{Held, identityIn, recordIn, found}
+use Rattle.record_bytes.proofs.Back.{held-identity, found-sound, on-none, on-held}
 use Rattle.record_bytes.proofs.Changed.{held-changed}
-use Rattle.yawlspar.specs.Face.{packed, Asked, givenNumber, identityOf, registersOf, upOf, upNumber, powerUpBytes, onHeld, outcomeAt, transactAnswer, transactBytes, transactOutput, tickAnswer, tickBytes, tickMemory}
-
--- what a call makes of bytes that hold none, and of bytes that hold a record
-pub on-none : {A : Type 0} (h : Held) (call : Record → A) (none : A) → h .ok ≡ false → onHeld h call none ≡ none
-unfolding onHeld
-on-none h call none e = rw e refl
-
-pub on-held : {A : Type 0} (h : Held) (call : Record → A) (none : A) → h .ok ≡ true → onHeld h call none ≡ call (h .state)
-unfolding onHeld
-on-held h call none e = rw e refl
+use Rattle.yawlspar.specs.Face.{packed, Asked, givenNumber, identityOf, registersOf, upOf, upNumber, powerUpBytes, outcomeAt, transactAnswer, transactBytes, transactOutput}
 
 -- no record held
 module _ (h : Held) (e : h .ok ≡ false) where
@@ -61,76 +47,41 @@ module _ (h : Held) (e : h .ok ≡ false) where
   unfolding transactOutput
   unheld-output xs rs wp i o = sym (on-none h _ o e)
 
-  pub unheld-tick-answer : (a r n : ℕ) → packed (rowsNumber r orElse 5) 0 ≡ tickAnswer h a r n
-  unfolding tickAnswer soundNumber unless
-  unheld-tick-answer a r n = rw (on-none h (λ p. ticked p a r n) (record { next = h .state; number = rowsNumber r orElse 5; done = 0 }) e)
-
-  pub unheld-tick-bytes : (a r n : ℕ) (bs : List ℕ) → bs ≡ tickBytes h a r n bs
-  unfolding tickBytes
-  unheld-tick-bytes a r n bs = sym (on-none h _ bs e)
-
-  pub unheld-memory : (m : Memory) (a r n : ℕ) (xs : List ℕ) → xs ≡ tickMemory m h a r n xs
-  unfolding tickMemory
-  unheld-memory m a r n xs = sym (on-none h _ xs e)
-
--- a record held: what was found, and how its page data is lent
-module _ (bs : List ℕ) (e : recordIn bs .ok ≡ true) (x : Found) (ex : x ≡ found (recordIn bs)) where
+-- a record held: what was found; t is that it is sound and that the level is one
+module _ (bs : List ℕ) (e : recordIn bs .ok ≡ true) (x : Found) (ex : x ≡ found (recordIn bs)) (wp : ℕ) (t : Bool) (et : t ≡ (x .sound and leb wp 1)) where
   abbrev held : Record
   held = recordIn bs .state
 
-  abbrev lent : List ℕ
-  lent = take pageBytes (drop headerLength bs)
+  sound-told : t ≡ (sound held and leb wp 1)
+  sound-told = et ∙ rw (found-sound bs e x ex)
 
-  -- a transaction: s is whether the record is sound, t also that the level is one
-  module _ (wp : ℕ) (s t : Bool) (es : s ≡ sound (recordOf (x .part) (x .phase) lent)) (et : t ≡ (s and leb wp 1)) where
-    sound-told : t ≡ (sound held and leb wp 1)
-    sound-told = et ∙ rw (es, ex, held-state bs e)
+  module _ (a r : ℕ) (i : List ℕ) (o : ℕ) (u : Outcome) (eu : u ≡ outcomeOf (x .part) (x .phase) t a r (eqb wp 1) i o) where
+    told : u ≡ outcomeAt held a r wp i o
+    told = eu ∙ rw (sound-told, ex)
 
-    module _ (a r : ℕ) (i : List ℕ) (o : ℕ) (u : Outcome) (eu : u ≡ outcomeOf (x .part) (x .phase) t a r (eqb wp 1) i o) where
-      told : u ≡ outcomeAt held a r wp i o
-      told = eu ∙ rw (sound-told, ex)
+    pub told-answer : packed (u .number) (u .first) ≡ transactAnswer (recordIn bs) a r wp i o
+    unfolding transactAnswer
+    told-answer = ap (λ (y : Outcome). packed (y .number) (y .first)) (told ∙ sym (on-held (recordIn bs) (λ p. outcomeAt p a r wp i o) _ e))
 
-      pub told-answer : packed (u .number) (u .first) ≡ transactAnswer (recordIn bs) a r wp i o
-      unfolding transactAnswer
-      told-answer = ap (λ (y : Outcome). packed (y .number) (y .first)) (told ∙ sym (on-held (recordIn bs) (λ p. outcomeAt p a r wp i o) _ e))
+    pub told-bytes : changeWritten (u .change) i bs ≡ transactBytes (recordIn bs) a r wp i o bs
+    unfolding transactBytes
+    told-bytes = held-changed (u .change) i bs e ∙ ap (λ (y : Outcome). recordBytes (changed (y .change) i held)) told ∙ sym (on-held (recordIn bs) _ bs e)
 
-      pub told-bytes : changeWritten (u .change) i bs ≡ transactBytes (recordIn bs) a r wp i o bs
-      unfolding transactBytes
-      told-bytes = held-changed (u .change) i bs e ∙ ap (λ (y : Outcome). recordBytes (changed (y .change) i held)) told ∙ sym (on-held (recordIn bs) _ bs e)
+  pub told-output : (d : Identity) → d ≡ identityIn bs → (xs rs i o y : List ℕ) → y ≡ outputAfter d (x .part) (x .phase) t xs rs (eqb wp 1) i o → y ≡ transactOutput (recordIn bs) xs rs wp i o
+  unfolding transactOutput
+  told-output d ed xs rs i o y ey =
+      ey ∙ rw (sound-told, ex, ed ∙ held-identity bs e) (sym (on-held (recordIn bs) _ o e))
 
-    pub told-output : (xs rs i o y : List ℕ) → y ≡ outputAfter (x .part) (x .phase) t xs rs (eqb wp 1) i o → y ≡ transactOutput (recordIn bs) xs rs wp i o
-    unfolding transactOutput
-    told-output xs rs i o y ey = ey ∙ rw (sound-told, ex) (sym (on-held (recordIn bs) _ o e))
+-- ticks: no more did work than a call may ask
+module _ (h : Held) (a r n : ℕ) where
+  worked-as : (t : Bool) → h .ok ≡ t → heldWorked h a r n .done ≤ 131072
+  unfolding heldWorked
+  worked-as true e =
+      rw (on-held h (λ p. ticked p a r n) _ e) (omega (arith, done-at-most (h .state) a r n .1, limit-range (h .state .part .blocks) .1))
+  worked-as false e = rw (on-none h (λ p. ticked p a r n) _ e) (omega arith)
 
-  -- ticks
-  abbrev whole : Record
-  whole = recordOf (held .part) (held .phase) lent
-
-  lent-length : length lent ≡ pageBytes
-  lent-length = simp (length-take, length-drop) (omega (arith, held-length bs e))
-
-  module _ (a r n : ℕ) where
-    module _ (u : Waited) (eu : u ≡ waitedOf (x .part) (x .phase) lent a r n) where
-      ticks-told : tickedBy u held ≡ ticked held a r n
-      ticks-told =
-          ap (tickedBy u) (sym (held-state bs e)) ∙ rw (eu, ex) (ticked-told whole lent-length a r n) ∙ ap (λ (q : Record). ticked q a r n) (held-state bs e)
-
-      pub told-done : u .done ≤ 131072
-      told-done =
-          rw (ap (λ (y : Ticked). y .done) ticks-told) (omega (arith, done-at-most held a r n .1, limit-range (held .part .blocks) .1))
-
-      pub tick-answer : packed (u .number) (u .done) ≡ tickAnswer (recordIn bs) a r n
-      unfolding tickAnswer
-      tick-answer = ap (λ (y : Ticked). packed (y .number) (y .done)) (ticks-told ∙ sym (on-held (recordIn bs) (λ p. ticked p a r n) _ e))
-
-      pub tick-bytes : changeWritten (u .change) [] bs ≡ tickBytes (recordIn bs) a r n bs
-      unfolding tickBytes
-      tick-bytes = held-changed (u .change) [] bs e ∙ ap (λ (y : Ticked). recordBytes (y .next)) ticks-told ∙ sym (on-held (recordIn bs) _ bs e)
-
-    pub tick-memory : (m : Memory) (xs y : List ℕ) → y ≡ waitedMemory m (x .part) (x .phase) lent a r n xs → y ≡ tickMemory m (recordIn bs) a r n xs
-    unfolding tickMemory
-    tick-memory m xs y ey =
-        ey ∙ rw ex (memory-told whole lent-length a r n m xs ∙ ap (λ (q : Record). tickedMemory m q a r n xs) (held-state bs e)) ∙ sym (on-held (recordIn bs) _ xs e)
+  pub worked-packs : heldWorked h a r n .done ≤ 131072
+  worked-packs = worked-as (h .ok) refl
 
 -- power-up: what the numbers that it can take are
 pub record Given (l : ℕ) (q : Asked) : Type 0 where
@@ -164,11 +115,11 @@ up-with q s e =
 
 -- what power-up gives, taken or refused, is idle and has no page data
 idle-up : (n : ℕ) (id : Identity) (s : Stored) (k : ℕ) (t : Bool) → let u = cond {A = PoweredUp} t (record { next = fresh n id s; number = 0 }) (record { next = zeroRecord; number = k }) in
-    recordOf (u .next .part) Idle noData ≡ u .next
+    recordOf (u .next .identity) (u .next .part) Idle noData ≡ u .next
 idle-up n id s k true = refl
 idle-up n id s k false = refl
 
-pub up-idle : (q : Asked) (x : PoweredUp) → x ≡ upOf q → recordOf (x .next .part) Idle noData ≡ x .next
+pub up-idle : (q : Asked) (x : PoweredUp) → x ≡ upOf q → recordOf (x .next .identity) (x .next .part) Idle noData ≡ x .next
 unfolding poweredUp
 up-idle q x u =
     let n = powerUpNumber (q .blocks) (registersOf q) in

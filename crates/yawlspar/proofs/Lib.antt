@@ -3,5 +3,4 @@ pub mod Face
 pub mod Refused
 pub mod Question
 pub mod WhichBlocks
-pub mod Seen
 pub mod Tight

@@ -11,9 +11,9 @@ use Rattle.paper.specs.Soundness.{sound}
 use Rattle.paper.specs.Numbers.{transactionRefusal, tickNumber}
 use Rattle.paper.specs.Calls.{outcomeOf, ticked}
 use Rattle.record_bytes.specs.Read.{recordIn}
-use Rattle.record_bytes.proofs.Back.{held-bytes}
-use Rattle.yawlspar.proofs.Face.{on-none, on-held}
-use Rattle.yawlspar.specs.Face.{transactBytes, tickBytes}
+use Rattle.record_bytes.proofs.Back.{held-bytes, on-none, on-held}
+use Rattle.ticks.specs.InBytes.{tickBytes}
+use Rattle.yawlspar.specs.Face.{transactBytes}
 
 module _ (bs : List ℕ) where
   bytes-as : (t : Bool) (a r wp : ℕ) (i : List ℕ) (o : ℕ) → recordIn bs .ok ≡ t → (transactionRefusal (recordIn bs .state .part .blocks) (sound (recordIn bs .state) and leb wp 1) a r (length i) o ≡ 0 → ⊥) → transactBytes (recordIn bs) a r wp i o bs ≡ bs

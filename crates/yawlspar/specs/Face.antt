@@ -4,22 +4,21 @@ use mathlib.Core.List.{List}
 use mathlib.Core.Bool.{Bool, false, cond}
 use lib.Dec.{eqb, leb}
 use lib.ListN.{length}
-use Rattle.types.specs.declared.Memory.{Memory}
 use Rattle.types.specs.declared.Identity.{Identity}
 use Rattle.types.specs.declared.Stored.{Stored}
 use Rattle.types.specs.declared.Record.{Record}
 use Rattle.types.specs.declared.Outcome.{Outcome}
-use Rattle.types.specs.declared.Ticked.{Ticked}
 use Rattle.types.specs.declared.PoweredUp.{PoweredUp}
 use Rattle.words.specs.Logic.{_and_, unless, _orElse_, whenZero}
 use Rattle.paper.specs.Sizes.{sizeOk}
 use Rattle.paper.specs.Registers.{withBytes, withExtended}
 use Rattle.paper.specs.Soundness.{sound}
-use Rattle.paper.specs.Numbers.{rowsNumber, soundNumber, laterRefusal}
+use Rattle.paper.specs.Numbers.{laterRefusal}
 use Rattle.paper.specs.Commands.{changed}
-use Rattle.paper.specs.Calls.{noStored, poweredUp, refused, outcomeOf, outputAfter, ticked, tickedMemory}
+use Rattle.paper.specs.Calls.{noStored, poweredUp, refused, outcomeOf, outputAfter}
 use Rattle.record_bytes.specs.Layout.{recordLength, recordBytes}
-use Rattle.record_bytes.specs.Read.{Held}
+use Rattle.record_bytes.specs.Read.{Held, onHeld}
+use Rattle.ticks.specs.InBytes.{heldWorked}
 
 -- the number in the low 8 bits, and above them the first driven place or the ticks that did work
 abbrev pub packed : ℕ → ℕ → ℕ
@@ -80,10 +79,6 @@ powerUpAnswer l q = packed (upNumber l q) 0
 abbrev pub powerUpBytes : Asked → List ℕ → List ℕ
 powerUpBytes q bs = whenZero (upNumber (length bs) q) (recordBytes (upOf q .next)) bs
 
--- what a call makes of bytes that hold a record, and of bytes that hold none
-unfoldable pub onHeld : {A : Type 0} → Held → (Record → A) → A → A
-onHeld h call none = cond (h .ok) (call (h .state)) none
-
 -- a transaction on a record, with WP# low for 0 and high for 1; another level counts as an unsound record does
 abbrev pub outcomeAt : Record → ℕ → ℕ → ℕ → List ℕ → ℕ → Outcome
 outcomeAt p a r wp i o = outcomeOf (p .part) (p .phase) (sound p and leb wp 1) a r (eqb wp 1) i o
@@ -103,22 +98,8 @@ transactBytes h a r wp i o bs = onHeld h (λ p. recordBytes (changed (outcomeAt 
 -- its output: a refusal writes nothing
 unfoldable pub transactOutput : Held → List ℕ → List ℕ → ℕ → List ℕ → List ℕ → List ℕ
 transactOutput h xs rs wp i o =
-    onHeld h (λ p. outputAfter (p .part) (p .phase) (sound p and leb wp 1) xs rs (eqb wp 1) i o) o
+    onHeld h (λ p. outputAfter (p .identity) (p .part) (p .phase) (sound p and leb wp 1) xs rs (eqb wp 1) i o) o
 
--- ticks on what bytes hold: where they hold no record, 2 or 5
-abbrev pub heldTicks : Held → ℕ → ℕ → ℕ → Ticked
-heldTicks h a r n =
-    onHeld h (λ p. ticked p a r n)
-    (record { next = h .state; number = rowsNumber r orElse soundNumber false; done = 0 })
-
--- their number, and how many did work
+-- ticks on what bytes hold: their number, and how many did work
 unfoldable pub tickAnswer : Held → ℕ → ℕ → ℕ → ℕ
-tickAnswer h a r n = packed (heldTicks h a r n .number) (heldTicks h a r n .done)
-
--- the record's bytes after them
-unfoldable pub tickBytes : Held → ℕ → ℕ → ℕ → List ℕ → List ℕ
-tickBytes h a r n bs = onHeld h (λ p. recordBytes (ticked p a r n .next)) bs
-
--- a memory's bytes after them: a refusal writes nothing
-unfoldable pub tickMemory : Memory → Held → ℕ → ℕ → ℕ → List ℕ → List ℕ
-tickMemory m h a r n xs = onHeld h (λ p. tickedMemory m p a r n xs) xs
+tickAnswer h a r n = packed (heldWorked h a r n .number) (heldWorked h a r n .done)

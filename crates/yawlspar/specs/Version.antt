@@ -5,7 +5,7 @@ abbrev pub major : ℕ
 major = 1
 
 abbrev pub minor : ℕ
-minor = 5
+minor = 6
 
 -- both in one number
 abbrev pub version : ℕ

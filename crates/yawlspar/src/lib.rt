@@ -7,8 +7,10 @@ ghost use mathlib.Core.Path.{_≡_};
 ghost use Prim.Native.Nat.{_≤_};
 ghost use lib.ListN.{length};
 ghost use Rattle.types.specs.declared.Memory.the-variants.{Array, Rows};
-ghost use Rattle.record_bytes.specs.Read.{recordIn};
-ghost use Rattle.yawlspar.specs.Face.{packed, asked, givenNumber, powerUpAnswer, powerUpBytes, transactAnswer, transactBytes, transactOutput, tickAnswer, tickBytes, tickMemory};
+ghost use Rattle.record_bytes.specs.Layout.{recordLength};
+ghost use Rattle.record_bytes.specs.Read.{identityIn, recordIn};
+ghost use Rattle.ticks.specs.InBytes.{tickBytes, tickMemory};
+ghost use Rattle.yawlspar.specs.Face.{packed, asked, givenNumber, powerUpAnswer, powerUpBytes, transactAnswer, transactBytes, transactOutput, tickAnswer};
 ghost use Rattle.yawlspar.specs.Version.{version};
 use record_bytes::places;
 use types::Identity;
@@ -96,8 +98,23 @@ pub extern "C" fn yawlspar_power_up(
     }
     // what it gives is idle and has no page data
     let next = up.next;
-    record_bytes::writing::write_idle(next.part, bytes);
+    let part = next.part;
+    let identity = next.identity;
+    record_bytes::writing::write_idle(part, identity, bytes);
     0
+}
+
+// The identity in a record's bytes.
+fn identity_in(bytes: &[u8]) -> Identity
+    requires { ⌜ length (now bytes) ≡ recordLength ⌝ }
+    ensures { λ r. ⌜ r ≡ identityIn (now (bytes .entry)) ⌝ }
+{
+    Identity {
+        maker: bytes[places::MAKER],
+        kind: bytes[places::KIND],
+        capacity: bytes[places::CAPACITY],
+        device: bytes[places::DEVICE],
+    }
 }
 
 // A transaction. WP# is low for 0 and high for 1. The number and the first driven place; refused, with 1 to 5,
@@ -115,19 +132,28 @@ pub extern "C" fn yawlspar_transact(
     ensures bytes { λ _. ⌜ now (bytes .exit) ≡ transactBytes (recordIn (now (bytes .entry))) (length (now (array .entry))) (length (now (rows .entry))) wp (now (input .entry)) (length (now (output .entry))) (now (bytes .entry)) ⌝ }
     ensures output { λ _. ⌜ now (output .exit) ≡ transactOutput (recordIn (now (bytes .entry))) (now (array .entry)) (now (rows .entry)) wp (now (input .entry)) (now (output .entry)) ⌝ }
 {
-    let found = record_bytes::reading::read_part(bytes);
+    let found = record_bytes::reading::read(bytes);
     if !found.ok {
         let unread = refusals::later_refusal(false, rows.len(), input.len(), output.len());
         return pack(unread, 0);
     }
     let part = found.part;
     let phase = found.phase;
-    let empty = found.empty;
-    let sound = soundness::is_sound_told(part, phase, empty, &bytes[places::PAGE..places::END]);
+    let identity = identity_in(bytes);
     let level = wp <= 1;
     let high = wp == 1;
-    let fit = words::both(sound, level);
-    let outcome = transact::transact_part(part, phase, fit, array, rows, high, input, output);
+    let fit = words::both(found.sound, level);
+    let outcome = transact::transact_part(
+        identity,
+        part,
+        phase,
+        fit,
+        array,
+        rows,
+        high,
+        input,
+        output,
+    );
     let change = outcome.change;
     record_bytes::writing::write_change(change, input, bytes);
     pack(outcome.number, outcome.first)
@@ -147,19 +173,8 @@ pub extern "C" fn yawlspar_tick(
     ensures array { λ _. ⌜ now (array .exit) ≡ tickMemory Array (recordIn (now (bytes .entry))) (length (now (array .entry))) (length (now (rows .entry))) count (now (array .entry)) ⌝ }
     ensures rows { λ _. ⌜ now (rows .exit) ≡ tickMemory Rows (recordIn (now (bytes .entry))) (length (now (array .entry))) (length (now (rows .entry))) count (now (rows .entry)) ⌝ }
 {
-    let found = record_bytes::reading::read_any(bytes);
-    if !found.ok {
-        let unread = refusals::rows_number_or(rows.len(), 5);
-        return pack(unread, 0);
-    }
-    let part = found.part;
-    let phase = found.phase;
-    let page = &bytes[places::PAGE..places::END];
-    let waited = ticks::tick_part(part, phase, page, array, rows, count as usize);
-    let change = waited.change;
-    let none_sent = [0u8; 0];
-    record_bytes::writing::write_change(change, &none_sent, bytes);
-    pack(waited.number, waited.done)
+    let worked = ticks::tick_bytes(bytes, array, rows, count as usize);
+    pack(worked.number, worked.done)
 }
 
 // The version that the archive is of, which a program compares with its header's.
@@ -167,5 +182,5 @@ pub extern "C" fn yawlspar_tick(
 pub extern "C" fn yawlspar_version() -> u64
     ensures { λ r. ⌜ r ≡ version ⌝ }
 {
-    1005
+    1006
 }

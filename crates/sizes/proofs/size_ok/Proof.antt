@@ -1,27 +1,30 @@
--- `sizes::size_ok` meets its contract: it joins the five tests as the definition does.
-use borrow.Author.Needs.{needs}
+-- `sizes::size_ok` meets its contract: at each of the five numbers the definition computes, and any other is none of them.
+use Prim.Native.Nat.{ℕ}
+use mathlib.Core.Path.{_≡_, refl, sym, ap, _∙_}
+use mathlib.Core.Bool.{true}
+use mathlib.Core.Logic.{⊎-elim, inl, inr}
+use borrow.Author.Tests.{ne-eqb}
+use Rattle.words.specs.Logic.{_or_}
 use Rattle.paper.specs.Sizes.{sizeOk}
 use Rattle.sizes.proofs.size_ok.Statement.{statement}
 use Rattle.sizes.proofs.size_ok.Tie as tie
 
-is-large-requires : tie.Need-is-large-requires
-is-large-requires c κs = search needs
-
-either-requires : tie.Need-either-requires
-either-requires c κs = search needs
-
-either-requires-2 : tie.Need-either-requires-2
-either-requires-2 c κs = search needs
-
-either-requires-3 : tie.Need-either-requires-3
-either-requires-3 c κs = search needs
-
-either-requires-4 : tie.Need-either-requires-4
-either-requires-4 c κs = search needs
+-- a number that is one of the five
+listed : (n m : ℕ) → sizeOk m ≡ true → n ≡ m → true ≡ sizeOk n
+listed n m e q = sym (ap sizeOk q ∙ e)
 
 returns : tie.Need-returns
-unfolding sizeOk
-returns c = cc
+unfolding sizeOk _or_
+returns c =
+    ⊎-elim (listed _ 1 refl)
+    (⊎-elim (listed _ 4 refl) (⊎-elim (listed _ 8 refl) (⊎-elim (listed _ 16 refl) (listed _ 512 refl))))
+    (c .match .keys1)
+
+returns-2 : tie.Need-returns-2
+unfolding sizeOk _or_
+returns-2 c =
+    let r = c .match .rest .1 in
+    rw (ne-eqb _ 1 (λ e. r (inl e)), ne-eqb _ 4 (λ e. r (inr (inl e))), ne-eqb _ 8 (λ e. r (inr (inr (inl e)))), ne-eqb _ 16 (λ e. r (inr (inr (inr (inl e))))), ne-eqb _ 512 (λ e. r (inr (inr (inr (inr e))))))
 
 pub size-ok-spec : {M : Type 1} → statement M
-size-ok-spec = tie.close (tie.spec is-large-requires either-requires either-requires-2 either-requires-3 either-requires-4 returns)
+size-ok-spec = tie.close (tie.spec returns returns-2)

@@ -1,8 +1,6 @@
 -- `ticks::run` meets its contract: a part on which nothing runs is left as it is.
 use Rattle.ticks.proofs.Laws.{same-waited}
-use Rattle.ticks.specs.Waited.{tickChange}
-use Rattle.paper.proofs.Runs.{rest-memory, rest-works}
-use Rattle.paper.proofs.Soundness.{recordOf}
+use Rattle.ticks.specs.Waited.{ticksReached, memoryReached, tickChange}
 use Rattle.paper.specs.Phases.{running}
 use Rattle.types.specs.declared.Work.the-variants.{NoWork, At}
 use Rattle.types.specs.declared.Work.{Work}
@@ -30,9 +28,8 @@ work-requires c κs =
 returns : tie.Need-returns
 returns c =
     let a = c .before .before .before .before .before .before .args in
-    let p = recordOf (a .part) (a .phase) (now (a .page)) in
-    let e : running (a .phase) ≡ NoWork = sym (c .before .before .running .ensures) ∙ c .enum-told .given .1 in
-    (same-waited _ _ _ _ (sym (ap (λ (w : Work). tickChange (a .ticks) w (a .part) (a .phase)) e)) (sym (rest-works p e (a .ticks))), sym (rest-memory p e Array (now (a .array)) (a .ticks)), sym (rest-memory p e Rows (now (a .rows)) (a .ticks)))
+    let e : NoWork ≡ running (a .phase) = sym (sym (c .before .before .running .ensures) ∙ c .enum-told .given .1) in
+    (same-waited _ _ _ _ (ap (λ (w : Work). tickChange (a .ticks) w (a .part) (a .phase)) e) (ap (λ (w : Work). ticksReached (a .ticks) w (a .part .blocks)) e), ap (λ (w : Work). memoryReached Array (a .ticks) w (a .part .blocks) (now (a .page)) (now (a .array))) e, ap (λ (w : Work). memoryReached Rows (a .ticks) w (a .part .blocks) (now (a .page)) (now (a .rows))) e)
 
 same-length : tie.Need-same-length
 same-length c = search needs
@@ -45,7 +42,7 @@ returns-2 c =
     let a = c .before .before .before .before .before .before .before .before .before .before .before .before .before .before .args in
     let e : running (a .phase) ≡ At (c .before .before .before .before .before .before .before .before .running2 .given .0 .0) = sym (c .before .before .before .before .before .before .before .before .before .before .running .ensures) ∙ c .before .before .before .before .before .before .before .before .running2 .given .1 in
     let w = c .before .before .before .before .work .ensures in
-    (w .0 ∙ rw e, w .1, w .2)
+    (w .0 ∙ rw e, w .1 ∙ rw e, w .2 ∙ rw e)
 
 pub run-spec : {M : Type 1} → statement M
 run-spec =

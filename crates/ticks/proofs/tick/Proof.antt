@@ -1,19 +1,24 @@
 -- `ticks::tick` meets its contract: what is told is made of the record.
-use Rattle.ticks.proofs.Waited.{ticked-told, memory-told}
-use Rattle.paper.specs.Sizes.{pageBytes}
-use Rattle.types.specs.declared.Memory.the-variants.{Array, Rows}
-use denote.Ref.{now}
+use mathlib.Core.Path.{_∙_}
 use lib.ListN.{length}
-use mathlib.Core.Path.{_≡_, _∙_}
+use denote.Ref.{now}
+use Rattle.types.specs.declared.Memory.the-variants.{Array, Rows}
+use Rattle.ticks.proofs.Waited.{ticked-told, memory-told}
 use borrow.Author.Needs.{needs}
 use Rattle.ticks.proofs.tick.Statement.{statement}
 use Rattle.ticks.proofs.tick.Tie as tie
 
-slice-aggregate-tick-part : tie.Need-slice-aggregate-tick-part
-slice-aggregate-tick-part c = search needs
+slice-aggregate-is-sound-of : tie.Need-slice-aggregate-is-sound-of
+slice-aggregate-is-sound-of c = search needs
 
-tick-part-requires : tie.Need-tick-part-requires
-tick-part-requires c κs = search needs
+is-sound-of-requires : tie.Need-is-sound-of-requires
+is-sound-of-requires c κs = search needs
+
+slice-aggregate-tick-told : tie.Need-slice-aggregate-tick-told
+slice-aggregate-tick-told c = search needs
+
+tick-told-requires : tie.Need-tick-told-requires
+tick-told-requires c κs = search needs
 
 sub-apply : tie.Need-sub-apply
 sub-apply c = search needs
@@ -35,19 +40,21 @@ same-length-2 c = search needs
 
 returns : tie.Need-returns
 returns c =
-    let s = c .before .before .before .before .before .before .before .before .before .before .before .before .before .before .before in
-    let a = s .args in
-    let g : length (a .state .page) ≡ pageBytes = search needs in
-    let w = c .before .before .before .before .before .before .before .tick-part .ensures in
-    let e = ticked-told (a .state) g (length (now (a .array))) (length (now (a .rows))) (a .ticks) in
-    (rw (c .apply .ensures, w .0) e, (w .1 .0 ∙ memory-told (a .state) g (length (now (a .array))) (length (now (a .rows))) (a .ticks) Array (now (a .array)), w .1 .1 ∙ memory-told (a .state) g (length (now (a .array))) (length (now (a .rows))) (a .ticks) Rows (now (a .rows))))
+    let a = c .before .before .before .before .before .before .before .before .before .before .before .before .before .before .before .before .before .args in
+    let f = c .before .before .before .before .before .before .before .before .before .before .before .is-sound-of .ensures in
+    let w = c .before .before .before .before .before .before .before .tick-told .ensures in
+    let k = length (now (a .array)) in
+    let r = length (now (a .rows)) in
+    (rw (c .apply .ensures, w .0, f) (ticked-told (a .state) k r (a .ticks)), (w .1 ∙ rw f (memory-told (a .state) k r (a .ticks) Array (now (a .array))), w .2 ∙ rw f (memory-told (a .state) k r (a .ticks) Rows (now (a .rows)))))
 
 pub tick-spec : {M : Type 1} → statement M
 tick-spec =
     tie.close
     (tie.spec
-    slice-aggregate-tick-part
-    tick-part-requires
+    slice-aggregate-is-sound-of
+    is-sound-of-requires
+    slice-aggregate-tick-told
+    tick-told-requires
     sub-apply
     part-apply-start
     part-apply-end

@@ -1,12 +1,13 @@
--- `ticks::work` meets its contract: the law of a run over any operation, with as many ticks as find something to do.
+-- `ticks::work` meets its contract: as many ticks of the operation as find something to do.
 use Rattle.ticks.proofs.Laws.{left-within, all-le, same-waited}
 use Rattle.ticks.specs.Waited.{ticksLeft, changeAfter}
-use Rattle.paper.proofs.Runs.{ran-all}
+use Rattle.paper.specs.Calls.{noIdentity}
+use Rattle.paper.specs.Ticks.{ran}
 use Rattle.paper.proofs.Soundness.{recordOf, running-in-order}
 use Rattle.paper.specs.Operations.{ticksInAll, ticksDone}
 use Rattle.types.specs.declared.Memory.the-variants.{Array, Rows}
 use denote.Ref.{now}
-use mathlib.Core.Path.{_≡_, sym, ap, _∙_}
+use mathlib.Core.Path.{_≡_, ap, _∙_}
 use Prim.Native.Nat.{ℕ, _-_, _≤_, _<_, min}
 use borrow.Author.Needs.{needs}
 use native.Mathlib.Omega.{arith}
@@ -23,7 +24,7 @@ sub-left : tie.Need-sub-left
 sub-left c =
     let s = c .before .before .before .before .before in
     let a = s .args in
-    let p = recordOf (a .part) (a .phase) (now (a .page)) in
+    let p = recordOf noIdentity (a .part) (a .phase) (now (a .page)) in
     let i = running-in-order p (a .op) (s .pre .0) (s .pre .1) in
     omega (arith, c .ticks-done .ensures, c .before .ticks-in-all .ensures, i .going)
 
@@ -34,7 +35,7 @@ touch-requires : tie.Need-touch-requires
 touch-requires c κs =
     let s = c .before .before .before .before .before .before .before .before in
     let a = s .args in
-    let p = recordOf (a .part) (a .phase) (now (a .page)) in
+    let p = recordOf noIdentity (a .part) (a .phase) (now (a .page)) in
     let i = running-in-order p (a .op) (s .pre .0) (s .pre .1) in
     let h : c .before .before .lesser .result ≤ ticksInAll (a .op) (a .part .blocks) - ticksDone (a .op) = omega (arith, c .before .before .lesser .ensures, c .before .before .before .ticks-done .ensures, c .before .before .before .before .ticks-in-all .ensures) in
     (s .pre .2, left-within (a .op) (a .part .blocks) (a .part .stored) _ _ _ i h (s .pre .3) (s .pre .4))
@@ -43,7 +44,7 @@ change-after-requires : tie.Need-change-after-requires
 change-after-requires c κs =
     let s = c .before .before .before .before .before .before .before .before .before .before .before .before .before in
     let a = s .args in
-    let p = recordOf (a .part) (a .phase) (now (a .page)) in
+    let p = recordOf noIdentity (a .part) (a .phase) (now (a .page)) in
     let i = running-in-order p (a .op) (s .pre .0) (s .pre .1) in
     let n : a .part .blocks < 65536 = omega arith in
     (omega (arith, c .before .before .before .before .before .before .before .lesser .ensures, c .before .before .before .before .before .before .before .before .ticks-done .ensures, c .before .before .before .before .before .before .before .before .before .ticks-in-all .ensures, i .going, all-le (a .op) (a .part .blocks) (a .part .stored) i n), rw (c .before .before .before .before .before .before .before .before .ticks-done .ensures, c .before .before .before .before .before .before .before .before .before .ticks-in-all .ensures))
@@ -58,12 +59,10 @@ returns : tie.Need-returns
 returns c =
     let s = c .before .before .before .before .before .before .before .before .before .before .before .before .before .before in
     let a = s .args in
-    let p = recordOf (a .part) (a .phase) (now (a .page)) in
-    let i = running-in-order p (a .op) (s .pre .0) (s .pre .1) in
     let count = c .before .before .before .before .before .before .before .before .lesser .result in
     let k : count ≡ min (a .ticks) (ticksLeft (a .op) (a .part .blocks)) = c .before .before .before .before .before .before .before .before .lesser .ensures ∙ rw (c .before .before .before .before .before .before .before .before .before .ticks-done .ensures, c .before .before .before .before .before .before .before .before .before .before .ticks-in-all .ensures) in
-    let r = ran-all p (a .op) (s .pre .0) (a .ticks) count (i .going) k in
-    (same-waited _ _ _ _ (c .change-after .ensures ∙ ap (λ (j : ℕ). changeAfter j (a .op) (a .part) (a .phase)) k) (sym (r .done)), c .before .before .before .before .before .touch .ensures .0 ∙ sym (r .memory Array (now (a .array))), c .before .before .before .before .before .touch .ensures .1 ∙ sym (r .memory Rows (now (a .rows))))
+    let u = c .before .before .before .before .before .touch .ensures in
+    (same-waited _ _ _ _ (c .change-after .ensures ∙ ap (λ (j : ℕ). changeAfter j (a .op) (a .part) (a .phase)) k) k, u .0 ∙ ap (λ (j : ℕ). ran Array j (a .op) (now (a .page)) (now (a .array))) k, u .1 ∙ ap (λ (j : ℕ). ran Rows j (a .op) (now (a .page)) (now (a .rows))) k)
 
 pub work-spec : {M : Type 1} → statement M
 work-spec =

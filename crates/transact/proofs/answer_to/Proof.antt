@@ -60,7 +60,7 @@ show-requires c κs =
     let a = s .args in
     let n = number-told (a .command) (a .part) (a .phase) (now (a .input)) (a .wp) (c .before .before .before .before .before .before .columns-of .ensures) (c .before .before .before .before .before .addressing .ensures) (c .before .before .before .before .begins .ensures) (c .before .before .before .command-number .ensures) in
     let t = command-taken _ _ (a .part) (a .phase) (now (a .input)) (a .wp) (sym n ∙ c .before .if2 .left) in
-    (rw (c .before .before .before .before .before .before .columns-of .ensures) (has-bytes (a .part) (now (a .array)) (now (a .rows)) (now (a .input)) (s .pre .0) (s .pre .1) (s .pre .2) (a .command) (t .address-ok)), s .pre .3, c .before .before .before .before .before .addressing .ensures)
+    (rw (c .before .before .before .before .before .before .columns-of .ensures) (has-bytes (a .identity) (a .part) (now (a .array)) (now (a .rows)) (now (a .input)) (s .pre .0) (s .pre .1) (s .pre .2) (a .command) (t .address-ok)), s .pre .3, c .before .before .before .before .before .addressing .ensures)
 
 change-by-requires : tie.Need-change-by-requires
 change-by-requires c κs = search needs
@@ -76,7 +76,7 @@ returns-3 c =
     let a = c .before .before .before .before .before .before .before .before .before .before .before .before .before .before .before .before .args in
     let n = number-told (a .command) (a .part) (a .phase) (now (a .input)) (a .wp) (c .before .before .before .before .before .before .before .before .before .before .before .columns-of .ensures) (c .before .before .before .before .before .before .before .before .before .before .addressing .ensures) (c .before .before .before .before .before .before .before .before .before .begins .ensures) (c .before .before .before .before .before .before .before .before .command-number .ensures) in
     let z = eq-eqb _ _ (c .before .before .before .before .before .before .if2 .left) in
-    (rw (← n, z, c .before .change-by .ensures, c .first-driven .ensures, c .before .before .before .before .before .before .before .before .before .begins .ensures, c .before .before .before .before .before .before .before .before .before .before .addressing .ensures, c .before .before .before .before .before .before .before .before .before .before .before .columns-of .ensures), rw (← n, z) (c .before .before .before .before .show .ensures ∙ ap (λ (x : Columns). outputOf x (a .part) (now (a .array)) (now (a .rows)) (now (a .input))) (c .before .before .before .before .before .before .before .before .before .before .before .columns-of .ensures)))
+    (rw (← n, z, c .before .change-by .ensures, c .first-driven .ensures, c .before .before .before .before .before .before .before .before .before .begins .ensures, c .before .before .before .before .before .before .before .before .before .before .addressing .ensures, c .before .before .before .before .before .before .before .before .before .before .before .columns-of .ensures), rw (← n, z) (c .before .before .before .before .show .ensures ∙ ap (λ (x : Columns). outputOf x (a .identity) (a .part) (now (a .array)) (now (a .rows)) (now (a .input))) (c .before .before .before .before .before .before .before .before .before .before .before .columns-of .ensures)))
 
 pub answer-to-spec : {M : Type 1} → statement M
 answer-to-spec =

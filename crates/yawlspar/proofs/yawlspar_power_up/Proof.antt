@@ -24,17 +24,17 @@ returns c =
     let e = given-number q (now (a .bytes)) (g .result) (g .ensures) (c .if1 .taken) in
     (omega (arith, e), no-bytes q (now (a .bytes)) (g .result) (g .ensures) _ e (c .if1 .taken))
 
-cast-t17 : tie.Need-cast-t17
-cast-t17 c = omega (arith, given _ _ (sym (c .before .given-number .ensures) ∙ c .if1 .left))
-
-cast-t18 : tie.Need-cast-t18
-cast-t18 c = omega (arith, given _ _ (sym (c .before .given-number .ensures) ∙ c .if1 .left))
-
 cast-t19 : tie.Need-cast-t19
 cast-t19 c = omega (arith, given _ _ (sym (c .before .given-number .ensures) ∙ c .if1 .left))
 
 cast-t20 : tie.Need-cast-t20
 cast-t20 c = omega (arith, given _ _ (sym (c .before .given-number .ensures) ∙ c .if1 .left))
+
+cast-t21 : tie.Need-cast-t21
+cast-t21 c = omega (arith, given _ _ (sym (c .before .given-number .ensures) ∙ c .if1 .left))
+
+cast-t22 : tie.Need-cast-t22
+cast-t22 c = omega (arith, given _ _ (sym (c .before .given-number .ensures) ∙ c .if1 .left))
 
 no-stored-requires : tie.Need-no-stored-requires
 no-stored-requires c κs = search needs
@@ -75,13 +75,13 @@ same-length c = search needs
 
 returns-3 : tie.Need-returns-3
 returns-3 c =
-    let a = c .before .before .before .before .before .before .before .before .before .before .before .before .args in
+    let a = c .before .before .before .before .before .before .before .before .before .before .before .before .before .before .args in
     let q = asked (a .blocks) (a .maker) (a .kind) (a .capacity) (a .device) (a .status) (a .function) (a .extended) in
-    let g = c .before .before .before .before .before .before .before .before .before .before .given-number in
-    let u = c .before .before .before .before .before .before .before .power-up in
-    let w = u .ensures ∙ up-with q _ (c .before .before .before .before .before .before .before .before .no-stored .ensures) in
-    let z = c .before .before .before .before .before .before .before .before .before .if1 .left in
-    let o = c .before .before .before .before .before .if2 .left in
+    let g = c .before .before .before .before .before .before .before .before .before .before .before .before .given-number in
+    let u = c .before .before .before .before .before .before .before .before .before .power-up in
+    let w = u .ensures ∙ up-with q _ (c .before .before .before .before .before .before .before .before .before .before .no-stored .ensures) in
+    let z = c .before .before .before .before .before .before .before .before .before .before .before .if1 .left in
+    let o = c .before .before .before .before .before .before .before .if2 .left in
     let e = own-number q (now (a .bytes)) (g .result) (g .ensures) (u .result) z w in
     (omega (arith, e, o), c .before .before .write-idle .ensures ∙ written-in _ _ (given _ _ (sym (g .ensures) ∙ z) .whole) ∙ ap recordBytes (up-idle q (u .result) w) ∙ own-bytes q (now (a .bytes)) (g .result) (g .ensures) (u .result) z w o)
 
@@ -92,10 +92,10 @@ yawlspar-power-up-spec =
     given-number-requires
     cast-result
     returns
-    cast-t17
-    cast-t18
     cast-t19
     cast-t20
+    cast-t21
+    cast-t22
     no-stored-requires
     cast-stored
     cast-stored-2

@@ -1,26 +1,24 @@
 -- `yawlspar::yawlspar_transact` meets its contract: bytes that hold no record are left alone, and else what the call makes of the record is written.
 use mathlib.Core.Path.{sym, ap, _∙_}
-use native.Mathlib.Omega.{arith}
 use denote.Ref.{now}
 use borrow.Author.Tests.{not-true, not-false}
-use borrow.Author.Needs.{needs}
-use Rattle.record_bytes.specs.declared.Seen.{Seen}
+use Rattle.record_bytes.specs.declared.Found.{Found}
 use Rattle.record_bytes.specs.Read.{recordIn}
 use Rattle.record_bytes.proofs.Back.{held-length}
 use Rattle.yawlspar.proofs.Face.{unheld-answer, unheld-bytes, unheld-output, told-answer, told-bytes, told-output}
 use Rattle.yawlspar.proofs.Laws.{first-packs}
-use Rattle.yawlspar.proofs.Seen.{foundIn, seen-found, seen-sound}
+use borrow.Author.Needs.{needs}
 use Rattle.yawlspar.proofs.yawlspar_transact.Statement.{statement}
 use Rattle.yawlspar.proofs.yawlspar_transact.Tie as tie
 
-read-part-requires : tie.Need-read-part-requires
-read-part-requires c κs = search needs
+read-requires : tie.Need-read-requires
+read-requires c κs = search needs
 
 later-refusal-requires : tie.Need-later-refusal-requires
 later-refusal-requires c κs = search needs
 
 pack-requires : tie.Need-pack-requires
-pack-requires c κs = omega arith
+pack-requires c κs = search needs
 
 same-length : tie.Need-same-length
 same-length c = search needs
@@ -28,23 +26,12 @@ same-length c = search needs
 returns : tie.Need-returns
 returns c =
     let h = recordIn (now (c .before .before .before .before .before .before .before .before .before .before .before .args .bytes)) in
-    let n = ap (λ (x : Seen). x .ok) (sym (c .before .before .before .before .read-part .ensures)) ∙ not-true _ (c .before .before .if1 .taken) in
+    let n = ap (λ (x : Found). x .ok) (sym (c .before .before .before .before .read .ensures)) ∙ not-true _ (c .before .before .if1 .taken) in
     let l = c .before .later-refusal .ensures in
     (c .pack .ensures ∙ rw l (unheld-answer h n _ _ _ _ _), (unheld-bytes h n _ _ _ _ _ _, unheld-output h n _ _ _ _ _))
 
-sub-is-sound-told : tie.Need-sub-is-sound-told
-sub-is-sound-told c = search needs
-
-part-is-sound-told-start : tie.Need-part-is-sound-told-start
-part-is-sound-told-start c = search needs
-
-part-is-sound-told-end : tie.Need-part-is-sound-told-end
-part-is-sound-told-end c =
-    let e = ap (λ (x : Seen). x .ok) (sym (c .before .before .before .before .read-part .ensures)) ∙ not-false _ (c .before .before .if1 .left) in
-    omega (arith, held-length (now (c .before .before .before .before .before .before .before .before .before .before .before .args .bytes)) e)
-
-is-sound-told-requires : tie.Need-is-sound-told-requires
-is-sound-told-requires c κs = search needs
+identity-in-requires : tie.Need-identity-in-requires
+identity-in-requires c κs = held-length (now (c .before .before .before .before .before .before .before .before .before .before .before .args .bytes)) (ap (λ (x : Found). x .ok) (sym (c .before .before .before .before .read .ensures)) ∙ not-false _ (c .before .before .if1 .left))
 
 both-requires : tie.Need-both-requires
 both-requires c κs = search needs
@@ -66,28 +53,24 @@ same-length-3 c = search needs
 
 returns-2 : tie.Need-returns-2
 returns-2 c =
-    let bs = now (c .before .before .before .before .before .before .before .before .before .before .before .before .before .before .before .before .before .before .before .before .before .before .before .args .bytes) in
-    let f = c .before .before .before .before .before .before .before .before .before .before .before .before .before .before .before .before .read-part in
-    let e = ap (λ (x : Seen). x .ok) (sym (f .ensures)) ∙ not-false _ (c .before .before .before .before .before .before .before .before .before .before .before .before .before .before .if1 .left) in
-    let g = seen-found bs (f .result) (f .ensures) in
-    let s = seen-sound bs (f .result) (f .ensures) e _ (c .before .before .before .before .before .before .before .before .before .before .is-sound-told .ensures) in
+    let bs = now (c .before .before .before .before .before .before .before .before .before .before .before .before .before .before .before .before .before .before .before .before .before .before .args .bytes) in
+    let f = c .before .before .before .before .before .before .before .before .before .before .before .before .before .before .before .read in
+    let e = ap (λ (x : Found). x .ok) (sym (c .before .before .before .before .before .before .before .before .before .before .before .before .before .before .before .read .ensures)) ∙ not-false _ (c .before .before .before .before .before .before .before .before .before .before .before .before .before .if1 .left) in
+    let d = c .before .before .before .before .before .before .before .before .before .before .identity-in .ensures in
     let t = c .before .before .before .before .before .before .before .before .before .both .ensures in
     let u = c .before .before .before .before .before .before .before .transact-part .ensures in
-    (c .pack2 .ensures ∙ told-answer bs e (foundIn (f .result)) g _ _ _ s t _ _ _ _ _ (u .0), (c .before .before .before .write-change .ensures ∙ told-bytes bs e (foundIn (f .result)) g _ _ _ s t _ _ _ _ _ (u .0), told-output bs e (foundIn (f .result)) g _ _ _ s t _ _ _ _ _ (u .1)))
+    (c .pack2 .ensures ∙ told-answer bs e (f .result) (f .ensures) _ _ t _ _ _ _ _ (u .0), (c .before .before .before .write-change .ensures ∙ told-bytes bs e (f .result) (f .ensures) _ _ t _ _ _ _ _ (u .0), told-output bs e (f .result) (f .ensures) _ _ t _ d _ _ _ _ _ (u .1)))
 
 pub yawlspar-transact-spec : {M : Type 1} → statement M
 yawlspar-transact-spec =
     tie.close
     (tie.spec
-    read-part-requires
+    read-requires
     later-refusal-requires
     pack-requires
     same-length
     returns
-    sub-is-sound-told
-    part-is-sound-told-start
-    part-is-sound-told-end
-    is-sound-told-requires
+    identity-in-requires
     both-requires
     transact-part-requires
     write-change-requires

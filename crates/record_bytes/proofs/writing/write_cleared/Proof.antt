@@ -1,8 +1,8 @@
--- `record_bytes::writing::write_cleared` meets its contract: zeros are written where the part does what it does, what it is before, and zeros behind.
+-- `record_bytes::writing::write_cleared` meets its contract: zeros are written where the part does what it does, what it is before, and zeros behind the identity.
 use Rattle.types.specs.declared.Phase.the-variants.{Idle}
 use Rattle.paper.specs.Program.{noData}
-use Rattle.record_bytes.specs.Layout.{header}
-use Rattle.record_bytes.proofs.Laws.{phase-room, part-laid, header-length, page-room, page-laid, idle-bytes, no-data-bytes}
+use Rattle.record_bytes.specs.Layout.{headerIdle}
+use Rattle.record_bytes.proofs.Laws.{phase-room, part-laid, idle-laid, idle-header-length, page-room, page-laid, idle-bytes, no-data-bytes}
 use lib.ListN.{replicate}
 use denote.Ref.{now}
 use mathlib.Core.Path.{_∙_, ap}
@@ -47,9 +47,10 @@ returns c =
     let bs = now (s .args .bytes) in
     let p = s .args .part in
     let e = c .before .before .before .before .before .before .before .before .before .before .fill .ensures ∙ ap (λ (n : ℕ). replicate n 0) (phase-room bs (s .pre)) ∙ idle-bytes in
-    let h = c .before .before .before .before .before .before .write-part .ensures ∙ part-laid bs (s .pre) Idle _ e p in
-    let z = c .before .before .fill2 .ensures ∙ ap (λ (n : ℕ). replicate n 0) (page-room bs (header p Idle) _ (header-length p Idle) (s .pre) h) ∙ no-data-bytes in
-    page-laid bs (header p Idle) _ (header-length p Idle) (s .pre) h _ noData z
+    let h = c .before .before .before .before .before .before .write-part .ensures ∙ part-laid bs (s .pre) Idle _ e p ∙ idle-laid bs (s .pre) p in
+    let l = idle-header-length bs (s .pre) p in
+    let z = c .before .before .fill2 .ensures ∙ ap (λ (n : ℕ). replicate n 0) (page-room bs (headerIdle p bs) _ l (s .pre) h) ∙ no-data-bytes in
+    page-laid bs (headerIdle p bs) _ l (s .pre) h _ noData z
 
 pub write-cleared-spec : {M : Type 1} → statement M
 write-cleared-spec =

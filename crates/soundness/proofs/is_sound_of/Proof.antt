@@ -1,8 +1,8 @@
--- `soundness::is_sound_any` meets its contract: part and phase are asked all, and then page data.
-use Rattle.paper.specs.Soundness.{partSound, pageOk, sound}
+-- `soundness::is_sound_of` meets its contract: part and phase are asked all, and then page data.
+use Rattle.paper.specs.Soundness.{partSound, pageOk, soundOf}
 use borrow.Author.Needs.{needs}
-use Rattle.soundness.proofs.is_sound_any.Statement.{statement}
-use Rattle.soundness.proofs.is_sound_any.Tie as tie
+use Rattle.soundness.proofs.is_sound_of.Statement.{statement}
+use Rattle.soundness.proofs.is_sound_of.Tie as tie
 
 cast-size-ok : tie.Need-cast-size-ok
 cast-size-ok c = search needs
@@ -47,11 +47,11 @@ both-requires-5 : tie.Need-both-requires-5
 both-requires-5 c κs = search needs
 
 returns : tie.Need-returns
-unfolding sound partSound pageOk
+unfolding soundOf partSound pageOk
 returns c = rw (c .both5 .ensures, c .before .zero-from .ensures, c .before .before .kept-in .ensures, c .before .before .before .both4 .ensures, c .before .before .before .before .both3 .ensures, c .before .before .before .before .before .both2 .ensures, c .before .before .before .before .before .before .both .ensures, c .before .before .before .before .before .before .before .registers-ok .ensures, c .before .before .before .before .before .before .before .before .phase-ok .ensures, c .before .before .before .before .before .before .before .before .before .latch-ok .ensures, c .before .before .before .before .before .before .before .before .before .before .either .ensures, c .before .before .before .before .before .before .before .before .before .before .before .before .is-idle .ensures, c .before .before .before .before .before .before .before .before .before .before .before .before .before .size-ok .ensures)
 
-pub is-sound-any-spec : {M : Type 1} → statement M
-is-sound-any-spec =
+pub is-sound-of-spec : {M : Type 1} → statement M
+is-sound-of-spec =
     tie.close
     (tie.spec
     cast-size-ok
