@@ -100,30 +100,30 @@ fn suspended_ok(taken: Taken, phase: Phase) -> bool
     table::taken_suspended(taken, phases::erase_halted(phase))
 }
 
-// The number 21 to 28 that a known command answers, which begins the work, 0 where it is executed. WP# is high where
-// wp is true.
+// The number 21 to 28 that a known command answers, whose address is sent so and which begins the work, 0 where it is
+// executed. WP# is high where wp is true.
 pub fn command_number(
     k: Columns,
+    form: Addressing,
     work: Work,
     part: Part,
     phase: Phase,
     input: &[u8],
     wp: bool,
 ) -> u8
-    ensures { λ r. ⌜ r ≡ commandNumber k work part phase (now (input .entry)) wp ⌝ }
+    ensures { λ r. ⌜ r ≡ commandNumber k form work part phase (now (input .entry)) wp ⌝ }
 {
     let taken = k.taken;
     let length = k.length;
     let wanted = k.wanted;
     let named = k.named;
+    let address = address_ok(named, form, input);
     let awake = words::either(table::taken_asleep(taken), !part.asleep);
     let at_rest = words::either(table::taken_busy(taken), !phases::is_busy(phase));
     let whole = suspended_ok(taken, phase);
     let long = table::length_ok(length, input.len());
     let state = state_ok(wanted, part, phase);
     let latch = words::either(!k.wel, part.wel);
-    let form = table::addressing(named, part.bank);
-    let address = address_ok(named, form, input);
     let free = free_ok(work, part, phase, wp);
     let n27 = words::number_or(address, 27, words::number_or(free, 28, 0));
     let n25 = words::number_or(state, 25, words::number_or(latch, 26, n27));

@@ -18,7 +18,7 @@ use Rattle.words.specs.Logic.{_and_, _or_, unless, _orElse_}
 use Rattle.paper.specs.Sizes.{arrayBytes, rowsBytes, transactionLimit, tickLimit}
 use Rattle.paper.specs.Soundness.{sound}
 use Rattle.paper.specs.Numbers.{sizeNumber, rowsNumber, lengthNumber, outputNumber, soundNumber, ticksNumber, transactionRefusal, tickNumber, commandNumber, ignoredNumber}
-use Rattle.paper.specs.Table.{decoded, columns}
+use Rattle.paper.specs.Table.{decoded, columns, addressingOn}
 use Rattle.paper.specs.Ticks.{recordAfter, memoryAfter, workingTicks}
 use Rattle.paper.specs.Calls.{executed, ignored, outcomeTo, outcomeOf, answered, transacted, ticked, tickedMemory}
 use Rattle.paper.proofs.Soundness.{sound-parts}
@@ -62,15 +62,15 @@ module _ (p : Record) (s : sound p ≡ true) where
 
 -- 66h, 05h and 99h are taken in every phase
 module _ (p : Part) (f : Phase) (e : p .asleep ≡ false) (wp : Bool) where
-  pub arm-number : commandNumber (columns ArmReset) NoWork p f (0x66 ∷ []) wp ≡ 0
+  pub arm-number : commandNumber (columns ArmReset) (addressingOn (columns ArmReset) p) NoWork p f (0x66 ∷ []) wp ≡ 0
   unfolding commandNumber _or_ unless _orElse_
   arm-number = rw e
 
-  pub read-status-number : commandNumber (columns ReadStatus) NoWork p f (0x05 ∷ []) wp ≡ 0
+  pub read-status-number : commandNumber (columns ReadStatus) (addressingOn (columns ReadStatus) p) NoWork p f (0x05 ∷ []) wp ≡ 0
   unfolding commandNumber _or_ unless _orElse_
   read-status-number = rw e
 
-  pub reset-number : (armed : Bool) → p .armed ≡ armed → commandNumber (columns Reset) NoWork p f (0x99 ∷ []) wp ≡ unless armed 25
+  pub reset-number : (armed : Bool) → p .armed ≡ armed → commandNumber (columns Reset) (addressingOn (columns Reset) p) NoWork p f (0x99 ∷ []) wp ≡ unless armed 25
   unfolding commandNumber _or_ unless _orElse_
   reset-number true a = rw (e, a)
   reset-number false a = rw (e, a)

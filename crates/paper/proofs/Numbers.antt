@@ -63,7 +63,7 @@ pub record CommandTaken (k : Columns) (w : Work) (p : Part) (f : Phase) (i : Lis
   pub address-ok : addressOk (k .named) (addressingOn k p) i ≡ true
   pub free-ok : freeOk w p f wp ≡ true
 
-pub command-taken : (k : Columns) (w : Work) (p : Part) (f : Phase) (i : List ℕ) (wp : Bool) → commandNumber k w p f i wp ≡ 0 → CommandTaken k w p f i wp
+pub command-taken : (k : Columns) (w : Work) (p : Part) (f : Phase) (i : List ℕ) (wp : Bool) → commandNumber k (addressingOn k p) w p f i wp ≡ 0 → CommandTaken k w p f i wp
 unfolding commandNumber
 command-taken k w p f i wp e =
     let a = orElse-zero _ _ e in

@@ -116,19 +116,20 @@ freeOk (At o) p f wp =
     and outsideOf (halted f) (p .blocks) o
     and writeOk o (p .stored) wp
 
--- 21 to 28, of a command with these columns that begins w, on a part in a phase, with the input i, and with WP# high where wp is true: 0 where it is executed
-unfoldable pub commandNumber : Columns → Work → Part → Phase → List ℕ → Bool → ℕ
-commandNumber k w p f i wp =
+-- 21 to 28, of a command with these columns, whose address is sent as g says and that begins w, on a part in a phase, with the input i, and with WP# high where wp is true: 0 where it is executed
+unfoldable pub commandNumber : Columns → Addressing → Work → Part → Phase → List ℕ → Bool → ℕ
+commandNumber k g w p f i wp =
     unless (takenAsleep (k .taken) or not (p .asleep)) 21
     orElse unless (takenBusy (k .taken) or not (isBusy f)) 22
     orElse unless (takenSuspended (k .taken) (eraseHalted f) or not (isSuspended f)) 23
     orElse unless (lengthOk (k .length) (length i)) 24
     orElse unless (stateOk (k .wanted) p f) 25
     orElse unless (not (k .wel) or p .wel) 26
-    orElse unless (addressOk (k .named) (addressingOn k p) i) 27
+    orElse unless (addressOk (k .named) g i) 27
     orElse unless (freeOk w p f wp) 28
 
 -- 20 to 28: 20 where the first byte is in no row of the command table, even asleep or busy
 abbrev pub ignoredNumber : Decoded → Part → Phase → List ℕ → Bool → ℕ
-ignoredNumber (Known k) p f i wp = commandNumber (columns k) (begun (columns k) p i) p f i wp
+ignoredNumber (Known k) p f i wp =
+    commandNumber (columns k) (addressingOn (columns k) p) (begun (columns k) p i) p f i wp
 ignoredNumber Unknown p f i wp = 20

@@ -23,7 +23,7 @@ use Rattle.paper.specs.Phases.{isBusy}
 use Rattle.paper.specs.Records.{marked, fresh}
 use Rattle.paper.specs.Soundness.{sleepOk, sound, largeOk}
 use Rattle.paper.specs.Numbers.{commandNumber, powerUpNumber}
-use Rattle.paper.specs.Table.{columns}
+use Rattle.paper.specs.Table.{columns, addressingOn}
 use Rattle.paper.specs.Calls.{poweredUp}
 use Rattle.paper.specs.History.{recordAfterCall}
 use Rattle.paper.proofs.Table.{known}
@@ -35,7 +35,7 @@ use Rattle.paper.proofs.Answers.{executes, ignores, arm-number, reset-number}
 use Rattle.reset.specs.Closing.{wake, arm, answerToReset}
 
 -- ABh is executed, but on a busy part ignored with 22
-wake-number : (p : Part) (f : Phase) (wp busy : Bool) → isBusy f ≡ busy → commandNumber (columns Wake) NoWork p f (0xAB ∷ []) wp ≡ unless (not busy) 22
+wake-number : (p : Part) (f : Phase) (wp busy : Bool) → isBusy f ≡ busy → commandNumber (columns Wake) (addressingOn (columns Wake) p) NoWork p f (0xAB ∷ []) wp ≡ unless (not busy) 22
 unfolding commandNumber _or_ unless _orElse_
 wake-number p f wp true e = rw e
 wake-number p f wp false e = rw e

@@ -25,7 +25,7 @@ use Rattle.paper.specs.Phases.{running, halted, isBusy, workingOn, suspendedIn,
 use Rattle.paper.specs.Records.{settled}
 use Rattle.paper.specs.Operations.{unitSuspends, canSuspend, inUnit}
 use Rattle.paper.specs.Soundness.{sound}
-use Rattle.paper.specs.Table.{columns}
+use Rattle.paper.specs.Table.{columns, addressingOn}
 use Rattle.paper.specs.Commands.{unarmed}
 use Rattle.paper.specs.Numbers.{commandNumber, ignoredNumber}
 use Rattle.paper.specs.History.{Call, ticks, recordAfterCall, recordAfterCalls, history, byteAfterAll}
@@ -50,11 +50,11 @@ pub resume-codes : Always 0x7A Resume × Always 0x30 Resume
 resume-codes = (known 0x7A Resume refl refl, known 0x30 Resume refl refl)
 
 -- no number applies to a suspend where what runs alone can be suspended, nor to a resume where something is
-suspend-number : (p : Part) (o : Operation) (c : ℕ) (wp : Bool) → p .asleep ≡ false → canSuspend o ≡ true → commandNumber (columns Suspend) NoWork p (Busy o) (c ∷ []) wp ≡ 0
+suspend-number : (p : Part) (o : Operation) (c : ℕ) (wp : Bool) → p .asleep ≡ false → canSuspend o ≡ true → commandNumber (columns Suspend) (addressingOn (columns Suspend) p) NoWork p (Busy o) (c ∷ []) wp ≡ 0
 unfolding commandNumber _and_ _or_ unless _orElse_
 suspend-number p o c wp a h = rw (a, h)
 
-resume-number : (p : Part) (o : Operation) (c : ℕ) (wp : Bool) → p .asleep ≡ false → commandNumber (columns Resume) NoWork p (Suspended o) (c ∷ []) wp ≡ 0
+resume-number : (p : Part) (o : Operation) (c : ℕ) (wp : Bool) → p .asleep ≡ false → commandNumber (columns Resume) (addressingOn (columns Resume) p) NoWork p (Suspended o) (c ∷ []) wp ≡ 0
 unfolding commandNumber _or_ unless _orElse_
 resume-number p o c wp a = rw a
 
@@ -65,7 +65,7 @@ module _ (p : Record) (o : Operation) (s : sound p ≡ true) (wp : Bool) (c : �
   unfolding _or_
   suspends-now f h e =
       let a : p .part .asleep ≡ false = not-true _ (sound-in p (Busy o) f s .sleep) in
-      let n : ignoredNumber (Known Suspend) (p .part) (p .phase) (c ∷ []) wp ≡ 0 = ap (λ (g : Phase). commandNumber (columns Suspend) NoWork (p .part) g (c ∷ []) wp) f ∙ suspend-number (p .part) o c wp a h in
+      let n : ignoredNumber (Known Suspend) (p .part) (p .phase) (c ∷ []) wp ≡ 0 = ap (λ (g : Phase). commandNumber (columns Suspend) (addressingOn (columns Suspend) (p .part)) NoWork (p .part) g (c ∷ []) wp) f ∙ suspend-number (p .part) o c wp a h in
       ap (λ (t : Answer). t .next) (executes p s wp Suspend (c ∷ []) (omega arith) (omega arith) (e (p .part .blocks) (p .part .bank)) n)
       ∙ ap (λ (g : Phase). recordOf (p .identity) (unarmed (settled (p .part) (suspendedIn g) false)) (suspendedIn g) (p .page)) f
 
@@ -75,7 +75,7 @@ module _ (p : Record) (o : Operation) (s : sound p ≡ true) (wp : Bool) (c : �
   unfolding _or_
   resumes-now f e =
       let a : p .part .asleep ≡ false = not-true _ (sound-in p (Suspended o) f s .sleep) in
-      let n : ignoredNumber (Known Resume) (p .part) (p .phase) (c ∷ []) wp ≡ 0 = ap (λ (g : Phase). commandNumber (columns Resume) NoWork (p .part) g (c ∷ []) wp) f ∙ resume-number (p .part) o c wp a in
+      let n : ignoredNumber (Known Resume) (p .part) (p .phase) (c ∷ []) wp ≡ 0 = ap (λ (g : Phase). commandNumber (columns Resume) (addressingOn (columns Resume) (p .part)) NoWork (p .part) g (c ∷ []) wp) f ∙ resume-number (p .part) o c wp a in
       ap (λ (t : Answer). t .next) (executes p s wp Resume (c ∷ []) (omega arith) (omega arith) (e (p .part .blocks) (p .part .bank)) n)
       ∙ ap (λ (g : Phase). recordOf (p .identity) (unarmed (settled (p .part) (resumedIn g) true)) (resumedIn g) (p .page)) f
 

@@ -99,7 +99,10 @@ module _ (id : Identity) (p : Part) (xs rs i : List ℕ) (s : sizeOk (p .blocks)
 
 -- the number that was worked out of a command's columns and of what it begins
 module _ (c : Command) (p : Part) (f : Phase) (i : List ℕ) (wp : Bool) where
-  pub number-told : {k : Columns} {g : Addressing} {w : Work} {x : ℕ} → k ≡ columns c → g ≡ addressingOn k p → w ≡ begins (k .effect) g (p .blocks) i → x ≡ commandNumber k w p f i wp
+  pub number-told : {k : Columns} {g : Addressing} {w : Work} {x : ℕ} → k ≡ columns c → g ≡ addressingOn k p → w ≡ begins (k .effect) g (p .blocks) i → x ≡ commandNumber k g w p f i wp
       → x ≡ ignoredNumber (Known c) p f i wp
-  number-told {k} ek eg ew ex =
-      ex ∙ ap (λ (y : Work). commandNumber k y p f i wp) (ew ∙ ap (λ (y : Addressing). begins (k .effect) y (p .blocks) i) eg) ∙ ap (λ (y : Columns). commandNumber y (begun y p i) p f i wp) ek
+  number-told {k} {g} ek eg ew ex =
+      ex
+      ∙ ap (λ (y : Work). commandNumber k g y p f i wp) ew
+      ∙ ap (λ (y : Addressing). commandNumber k y (begins (k .effect) y (p .blocks) i) p f i wp) eg
+      ∙ ap (λ (y : Columns). commandNumber y (addressingOn y p) (begun y p i) p f i wp) ek

@@ -154,7 +154,7 @@ fn answer_to(
     let named = k.named;
     let form = table::addressing(named, part.bank);
     let work = sent::begins(effect, form, part.blocks, input);
-    let number = ignoring::command_number(k, work, part, phase, input, wp);
+    let number = ignoring::command_number(k, form, work, part, phase, input, wp);
     if number == 28 {
         return bar(effect, number, part, n, output);
     }

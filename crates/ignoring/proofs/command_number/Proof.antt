@@ -6,6 +6,9 @@ use borrow.Author.Needs.{needs}
 use Rattle.ignoring.proofs.command_number.Statement.{statement}
 use Rattle.ignoring.proofs.command_number.Tie as tie
 
+address-ok-requires : tie.Need-address-ok-requires
+address-ok-requires c κs = search needs
+
 taken-asleep-requires : tie.Need-taken-asleep-requires
 taken-asleep-requires c κs = search needs
 
@@ -32,12 +35,6 @@ state-ok-requires c κs = search needs
 
 either-requires-3 : tie.Need-either-requires-3
 either-requires-3 c κs = search needs
-
-addressing-requires : tie.Need-addressing-requires
-addressing-requires c κs = search needs
-
-address-ok-requires : tie.Need-address-ok-requires
-address-ok-requires c κs = search needs
 
 free-ok-requires : tie.Need-free-ok-requires
 free-ok-requires c κs = search needs
@@ -79,23 +76,23 @@ returns c =
       c .before .before .before .before .before .before .number-or2 .ensures,
       c .before .before .before .before .before .before .before .number-or .ensures ∙ orElse-none _,
       c .before .before .before .before .before .before .before .before .free-ok .ensures,
-      c .before .before .before .before .before .before .before .before .before .address-ok .ensures,
-      c .before .before .before .before .before .before .before .before .before .before .addressing .ensures,
-      c .before .before .before .before .before .before .before .before .before .before .before .either3 .ensures,
-      c .before .before .before .before .before .before .before .before .before .before .before .before .before .state-ok .ensures,
-      c .before .before .before .before .before .before .before .before .before .before .before .before .before .before .length-ok .ensures,
-      c .before .before .before .before .before .before .before .before .before .before .before .before .before .before .before .suspended-ok .ensures,
-      c .before .before .before .before .before .before .before .before .before .before .before .before .before .before .before .before .either2 .ensures,
-      c .before .before .before .before .before .before .before .before .before .before .before .before .before .before .before .before .before .is-busy .ensures,
-      c .before .before .before .before .before .before .before .before .before .before .before .before .before .before .before .before .before .before .taken-busy .ensures,
-      c .before .before .before .before .before .before .before .before .before .before .before .before .before .before .before .before .before .before .before .either .ensures,
-      c .before .before .before .before .before .before .before .before .before .before .before .before .before .before .before .before .before .before .before .before .before .taken-asleep .ensures,
+      c .before .before .before .before .before .before .before .before .before .either3 .ensures,
+      c .before .before .before .before .before .before .before .before .before .before .before .state-ok .ensures,
+      c .before .before .before .before .before .before .before .before .before .before .before .before .length-ok .ensures,
+      c .before .before .before .before .before .before .before .before .before .before .before .before .before .suspended-ok .ensures,
+      c .before .before .before .before .before .before .before .before .before .before .before .before .before .before .either2 .ensures,
+      c .before .before .before .before .before .before .before .before .before .before .before .before .before .before .before .is-busy .ensures,
+      c .before .before .before .before .before .before .before .before .before .before .before .before .before .before .before .before .taken-busy .ensures,
+      c .before .before .before .before .before .before .before .before .before .before .before .before .before .before .before .before .before .either .ensures,
+      c .before .before .before .before .before .before .before .before .before .before .before .before .before .before .before .before .before .before .before .taken-asleep .ensures,
+      c .before .before .before .before .before .before .before .before .before .before .before .before .before .before .before .before .before .before .before .before .address-ok .ensures,
     )
 
 pub command-number-spec : {M : Type 1} → statement M
 command-number-spec =
     tie.close
     (tie.spec
+    address-ok-requires
     taken-asleep-requires
     either-requires
     taken-busy-requires
@@ -105,8 +102,6 @@ command-number-spec =
     length-ok-requires
     state-ok-requires
     either-requires-3
-    addressing-requires
-    address-ok-requires
     free-ok-requires
     number-or-requires
     number-or-requires-2
