@@ -1,5 +1,5 @@
 -- The proof of the list of the cases: parts of 16 blocks are among those that the cases speak of, and so are arrays that hold one byte throughout.
-use Prim.Native.Nat.{ℕ, _*_, _/_, _%_, _<_}
+use Prim.Native.Nat.{ℕ, _*_, _/_, _<_}
 use mathlib.Core.Path.{_≡_, refl, sym, ap, subst, subst⁻¹, _∙_}
 use mathlib.Core.Bool.{true, false}
 use mathlib.Core.List.{List, [], _∷_}
@@ -16,7 +16,7 @@ use Rattle.words.specs.Logic.{_and_, _or_, unless, _orElse_}
 use Rattle.words.proofs.Tests.{fails}
 use Rattle.paper.specs.Sizes.{sizeOk, blockBytes, arrayBytes}
 use Rattle.paper.specs.Registers.{bitAt, bitsAt, TBS, bankLoaded}
-use Rattle.paper.specs.Soundness.{largeOk, sound}
+use Rattle.paper.specs.Soundness.{largeOk}
 use Rattle.paper.specs.Numbers.{givenOk, powerUpNumber}
 use Rattle.paper.specs.Calls.{noStored, poweredUp}
 use Rattle.paper.specs.Address.{addressIn}

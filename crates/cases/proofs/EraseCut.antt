@@ -27,7 +27,7 @@ use Rattle.paper.specs.Numbers.{commandNumber, ignoredNumber}
 use Rattle.paper.specs.Records.{fresh}
 use Rattle.paper.specs.Ticks.{recordAfter, workingTicks}
 use Rattle.paper.proofs.MadeSound.{live-again, registers-again, code-stored}
-use Rattle.paper.proofs.Runs.{run-record, run-memory, run-works}
+use Rattle.paper.proofs.ManyTicks.{run-record, run-memory, run-works}
 use Rattle.paper.proofs.EraseRun.{stretch, erase-ran}
 use Rattle.cases.proofs.Paper.{send, tick, arrayTicked, Ready, Free}
 use Rattle.paper.proofs.Answers.{executes, ticks-run, ticks-memory, arm-number, reset-number}

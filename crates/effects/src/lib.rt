@@ -184,9 +184,9 @@ pub fn apply(change: Change, input: &[u8], state: Record) -> Record
             let phase = state.phase;
             let next = mark(part, armed);
             Record {
-                identity: identity,
                 part: next,
                 phase: phase,
+                identity: identity,
                 page: page,
             }
         }
@@ -195,39 +195,39 @@ pub fn apply(change: Change, input: &[u8], state: Record) -> Record
             let phase = state.phase;
             let next = set_live(mark(part, false), live);
             Record {
-                identity: identity,
                 part: next,
                 phase: phase,
+                identity: identity,
                 page: page,
             }
         }
         Change::Anew(part) => {
             let phase = state.phase;
             Record {
-                identity: identity,
                 part: part,
                 phase: phase,
+                identity: identity,
                 page: page,
             }
         }
         Change::Runs(part, becomes, work) => {
             let phase = state.phase;
             let working = phases::running_in(phase, work);
-            let held = page_after(becomes, input, page);
+            let data = page_after(becomes, input, page);
             Record {
-                identity: identity,
                 part: part,
                 phase: working,
-                page: held,
+                identity: identity,
+                page: data,
             }
         }
         Change::Halts(part) => {
             let phase = state.phase;
             let halted = phases::suspended_in(phase);
             Record {
-                identity: identity,
                 part: part,
                 phase: halted,
+                identity: identity,
                 page: page,
             }
         }
@@ -235,18 +235,18 @@ pub fn apply(change: Change, input: &[u8], state: Record) -> Record
             let phase = state.phase;
             let resumed = phases::resumed_in(phase);
             Record {
-                identity: identity,
                 part: part,
                 phase: resumed,
+                identity: identity,
                 page: page,
             }
         }
         Change::Clears(part) => {
             let none = record::no_data();
             Record {
-                identity: identity,
                 part: part,
                 phase: Phase::Idle,
+                identity: identity,
                 page: none,
             }
         }

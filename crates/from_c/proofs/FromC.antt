@@ -18,7 +18,7 @@ use Rattle.from_c.specs.Driven.{Lent, lent, CCall, callsOf, Driven, pack
 use Rattle.from_c.specs.FromC.{FromC}
 use Rattle.from_c.proofs.Fitting.{Page, none-page}
 use Rattle.from_c.proofs.Holding.{Holding, in-bytes}
-use Rattle.from_c.proofs.Runs.{driven-run}
+use Rattle.from_c.proofs.Chained.{driven-run}
 
 -- the numbers that yawlspar_power_up was given, and the buffer that it was lent
 module _ (q : Asked) (bs : List ℕ) where

@@ -4,7 +4,7 @@ pub mod Holding
 pub mod Leads
 pub mod Stands
 pub mod Chains
-pub mod Runs
+pub mod Chained
 pub mod FromC
 pub mod Reset
 pub mod Contracts

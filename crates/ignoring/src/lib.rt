@@ -120,13 +120,13 @@ pub fn command_number(
     let address = address_ok(named, form, input);
     let awake = words::either(table::taken_asleep(taken), !part.asleep);
     let at_rest = words::either(table::taken_busy(taken), !phases::is_busy(phase));
-    let whole = suspended_ok(taken, phase);
+    let suspended = suspended_ok(taken, phase);
     let long = table::length_ok(length, input.len());
     let state = state_ok(wanted, part, phase);
     let latch = words::either(!k.wel, part.wel);
     let free = free_ok(work, part, phase, wp);
     let n27 = words::number_or(address, 27, words::number_or(free, 28, 0));
     let n25 = words::number_or(state, 25, words::number_or(latch, 26, n27));
-    let n23 = words::number_or(whole, 23, words::number_or(long, 24, n25));
+    let n23 = words::number_or(suspended, 23, words::number_or(long, 24, n25));
     words::number_or(awake, 21, words::number_or(at_rest, 22, n23))
 }

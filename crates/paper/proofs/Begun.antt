@@ -35,7 +35,7 @@ use Rattle.paper.proofs.Addresses.{row-inside}
 use Rattle.paper.proofs.Sizes.{size-range}
 use Rattle.paper.proofs.KeptBytes.{zeros-after}
 use Rattle.paper.proofs.MadeSound.{made-sound}
-use Rattle.paper.proofs.Soundness.{recordOf, sound-of, sound-in, awake-ok, in-order-whole, in-nest-whole}
+use Rattle.paper.proofs.Soundness.{sound-of, sound-in, awake-ok, in-order-whole, in-nest-whole}
 
 -- a row address is valid where the memory asks for one
 abbrev pub Valid : Memory → Addressing → List ℕ → Type 0

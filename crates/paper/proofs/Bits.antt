@@ -1,6 +1,6 @@
 -- The registers bit by bit: what each test of soundness and of power-up says of the bits, and the same tests on remainders, which take fewer steps.
-use Prim.Native.Nat.{ℕ, _+_, _*_, _/_, _%_, _≤_}
-use mathlib.Core.Path.{_≡_, refl, ap, _∙_}
+use Prim.Native.Nat.{ℕ, _+_, _*_, _/_, _%_}
+use mathlib.Core.Path.{_≡_, refl, ap}
 use mathlib.Core.Bool.{Bool, true, false, cond}
 use native.Mathlib.Omega.{arith}
 use lib.Dec.{eqb}
@@ -14,7 +14,7 @@ use Rattle.paper.specs.Sizes.{isLarge}
 use Rattle.paper.specs.Phases.{halted, workIs, isProgram, eraseHalted, isBusy}
 use Rattle.paper.specs.Registers.{bitAt, bitsAt, WEL, WIP, ESUS, PSUS, TBS, bankLoaded}
 use Rattle.paper.specs.Records.{wip, esus, psus, statusLow, functionLow}
-use Rattle.paper.specs.Soundness.{bitsOk, largeOk, sound}
+use Rattle.paper.specs.Soundness.{bitsOk, largeOk}
 use Rattle.paper.specs.Numbers.{givenOk}
 
 -- the last bit of a byte, the last two, the two before them, and these four

@@ -27,7 +27,7 @@ use Rattle.paper.specs.History.{ticks, recordAfterCall, tickTouches, rea
 use Rattle.paper.specs.Halted.{inDone}
 use Rattle.paper.proofs.Sizes.{limit-range, chip-few}
 use Rattle.paper.proofs.Soundness.{running-in-order}
-use Rattle.paper.proofs.Runs.{run-past, run-touch, past-touch}
+use Rattle.paper.proofs.ManyTicks.{run-past, run-touch, past-touch}
 use Rattle.paper.proofs.Answers.{ticks-run}
 use Rattle.paper.proofs.Histories.{bytes-append}
 

@@ -35,7 +35,7 @@ use Rattle.paper.specs.Ticks.{finishedPart, finished, advanced, worked, 
 use Rattle.paper.proofs.Phases.{no-work-at, at-same}
 use Rattle.paper.proofs.Bits.{given-as}
 use Rattle.paper.proofs.MadeSound.{made-sound}
-use Rattle.paper.proofs.Soundness.{Sound, recordOf, sound-parts, sound-of, sound-whole, InOrder, in-order, in-order-whole, in-nest}
+use Rattle.paper.proofs.Soundness.{Sound, sound-parts, sound-of, sound-whole, InOrder, in-order, in-order-whole, in-nest}
 
 no-data-zero : allZero noData ≡ true
 unfolding noData _and_

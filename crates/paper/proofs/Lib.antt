@@ -10,7 +10,7 @@ pub mod Bits
 pub mod MadeSound
 pub mod Soundness
 pub mod Extended
-pub mod Runs
+pub mod ManyTicks
 pub mod EraseRun
 pub mod Kept
 pub mod Numbers

@@ -23,7 +23,7 @@ use Rattle.paper.specs.Protection.{codeOf, wholeCode, protectedAt, locke
 use Rattle.paper.specs.Operations.{free, targetFree, unitFree}
 use Rattle.paper.specs.Registers.{heldByte, TBS, storedBits, liveLoaded}
 use Rattle.paper.specs.Records.{statusLow, functionLow, registersIn, made}
-use Rattle.paper.specs.Soundness.{sleepOk, latchOk, phaseOk, operationOk, bitsOk, largeOk, partSound, sound}
+use Rattle.paper.specs.Soundness.{sleepOk, latchOk, phaseOk, operationOk, bitsOk, largeOk, partSound}
 use Rattle.paper.proofs.Records.{status-low-le, function-low-le}
 use Rattle.paper.proofs.Bits.{bits-as}
 

@@ -35,7 +35,7 @@ use Rattle.paper.specs.Calls.{refused, ignored, executed, outcomeTo, out
 use Rattle.paper.specs.Ticks.{recordAfter}
 use Rattle.paper.proofs.Soundness.{recordOf, sound-parts, sound-in, in-nest}
 use Rattle.paper.proofs.Bits.{bits-parts}
-use Rattle.paper.proofs.Runs.{run-record, run-past}
+use Rattle.paper.proofs.ManyTicks.{run-record, run-past}
 
 -- what registers show
 pub record Showing (s : Stored) (wip wel esus psus : ℕ) : Type 0 where

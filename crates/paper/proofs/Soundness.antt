@@ -33,7 +33,7 @@ pub record Sound (p : Part) (f : Phase) (g : List ℕ) : Type 0 where
 
 -- a record of what it is made of
 abbrev pub recordOf : Identity → Part → Phase → List ℕ → Record
-recordOf id p f g = record { identity = id; part = p; phase = f; page = g }
+recordOf id p f g = record { part = p; phase = f; identity = id; page = g }
 
 pub sound-parts : (p : Record) → sound p ≡ true → Sound (p .part) (p .phase) (p .page)
 unfolding soundOf partSound

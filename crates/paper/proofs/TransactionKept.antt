@@ -1,5 +1,5 @@
 -- What a transaction keeps: refused, ignored or executed, it keeps a record sound, and its size and identity.
-use Prim.Native.Nat.{ℕ, _+_, _/_, _%_, _≤_}
+use Prim.Native.Nat.{ℕ, _+_, _≤_}
 use mathlib.Core.Path.{_≡_, refl, sym, ap, _∙_, subst}
 use mathlib.Core.Bool.{Bool, true, false, not, cond, false≢true}
 use mathlib.Core.List.{List}
@@ -62,7 +62,7 @@ use Rattle.paper.proofs.Phases.{idle-of}
 use Rattle.paper.proofs.Bits.{large-as}
 use Rattle.paper.proofs.MadeSound.{made-sound}
 use Rattle.paper.proofs.Table.{bank-large}
-use Rattle.paper.proofs.Soundness.{recordOf, sound-parts, sound-of, sound-whole, sound-in, marked-sound, live-sound, awake-ok}
+use Rattle.paper.proofs.Soundness.{sound-parts, sound-of, sound-whole, sound-in, marked-sound, live-sound, awake-ok}
 use Rattle.paper.proofs.Numbers.{CommandTaken, command-taken}
 use Rattle.paper.proofs.Begun.{Valid, settled-sound, program-begun, program-nested, erase-begun, write-begun, idle-empty}
 use Rattle.paper.proofs.Kept.{fresh-sound, unbanked}

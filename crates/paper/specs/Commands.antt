@@ -36,13 +36,13 @@ pageAfter Zero i g = noData
 -- the record after a change by a call with the input i
 abbrev pub changed : Change → List ℕ → Record → Record
 changed Same i p = p
-changed (Marked armed) i p = record { identity = p .identity; part = marked (p .part) armed; phase = p .phase; page = p .page }
-changed (Live v) i p = record { identity = p .identity; part = withLive (marked (p .part) false) v; phase = p .phase; page = p .page }
-changed (Anew q) i p = record { identity = p .identity; part = q; phase = p .phase; page = p .page }
-changed (Runs q d w) i p = record { identity = p .identity; part = q; phase = runningIn (p .phase) w; page = pageAfter d i (p .page) }
-changed (Halts q) i p = record { identity = p .identity; part = q; phase = suspendedIn (p .phase); page = p .page }
-changed (GoesOn q) i p = record { identity = p .identity; part = q; phase = resumedIn (p .phase); page = p .page }
-changed (Clears q) i p = record { identity = p .identity; part = q; phase = Idle; page = noData }
+changed (Marked armed) i p = record { part = marked (p .part) armed; phase = p .phase; identity = p .identity; page = p .page }
+changed (Live v) i p = record { part = withLive (marked (p .part) false) v; phase = p .phase; identity = p .identity; page = p .page }
+changed (Anew q) i p = record { part = q; phase = p .phase; identity = p .identity; page = p .page }
+changed (Runs q d w) i p = record { part = q; phase = runningIn (p .phase) w; identity = p .identity; page = pageAfter d i (p .page) }
+changed (Halts q) i p = record { part = q; phase = suspendedIn (p .phase); identity = p .identity; page = p .page }
+changed (GoesOn q) i p = record { part = q; phase = resumedIn (p .phase); identity = p .identity; page = p .page }
+changed (Clears q) i p = record { part = q; phase = Idle; identity = p .identity; page = noData }
 
 -- what a command begins on a part of n blocks, with the input i, in which its address is sent as g says
 abbrev pub begins : Effect → Addressing → ℕ → List ℕ → Work

@@ -52,7 +52,7 @@ freshPart n s =
 
 -- the record of such a part with an identity: idle, page data zero
 abbrev pub fresh : ℕ → Identity → Stored → Record
-fresh n id s = record { identity = id; part = freshPart n s; phase = Idle; page = noData }
+fresh n id s = record { part = freshPart n s; phase = Idle; identity = id; page = noData }
 
 -- the part with another armed mark; all else stays
 abbrev pub marked : Part → Bool → Part

@@ -23,11 +23,11 @@ finishedPart p f o = made p (storedAfter o (p .stored)) (restOf f) false
 
 abbrev pub finished : Record → Operation → Record
 finished p o =
-    record { identity = p .identity; part = finishedPart (p .part) (p .phase) o; phase = restOf (p .phase); page = noData }
+    record { part = finishedPart (p .part) (p .phase) o; phase = restOf (p .phase); identity = p .identity; page = noData }
 
 -- any other tick leaves it at its operation
 abbrev pub advanced : Record → Operation → Record
-advanced p o = record { identity = p .identity; part = p .part; phase = workingOn (p .phase) o; page = p .page }
+advanced p o = record { part = p .part; phase = workingOn (p .phase) o; identity = p .identity; page = p .page }
 
 -- a tick of a part that works on an operation
 unfoldable pub worked : Record → Operation → Record

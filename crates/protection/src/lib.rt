@@ -44,18 +44,12 @@ fn block_row(code: u8) -> BlockRow
     }
 }
 
-// The cell of a row in the column of a size; a number of blocks that is no size has none. (16 stands apart, since a match
-// on four powers of two is compiled to twice as many instructions.)
+// The cell of a row in the column of a size; a number of blocks that is no size has none.
 fn cell_of(blocks: u64, row: BlockRow) -> Cell
     ensures { λ r. ⌜ r ≡ cellOf blocks row ⌝ }
 {
-    if 16 <= blocks {
-        if blocks == 16 {
-            return row.0;
-        }
-        return Cell(0, 0);
-    }
     match blocks {
+        16 => row.0,
         8 => row.1,
         4 => row.2,
         1 => row.3,
@@ -145,11 +139,14 @@ pub fn protected_blocks(code: u64, blocks: u64) -> Blocks
     blocks_of(cell_of(blocks, block_row(code as u8)))
 }
 
-// Whether a block is one of these blocks. (The difference wraps for a block below the first, and is then above every count.)
+// Whether a block is one of these blocks.
 pub fn is_among(blocks: Blocks, block: usize) -> bool
     ensures { λ r. ⌜ r ≡ among blocks block ⌝ }
 {
-    std::num::wrapping_sub_usize(block, blocks.first as usize) < (blocks.count as usize)
+    let first = blocks.first as usize;
+    let from = first <= block;
+    let before = block < first + (blocks.count as usize);
+    words::both(from, before)
 }
 
 // Whether a row is locked under a function register. A row that the part does not have is not.

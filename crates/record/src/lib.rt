@@ -111,9 +111,9 @@ fn make_fresh(blocks: u16, identity: Identity, stored: Stored) -> Record
     let part = fresh_part(blocks, stored);
     let page = no_data();
     Record {
-        identity: identity,
         part: part,
         phase: Phase::Idle,
+        identity: identity,
         page: page,
     }
 }

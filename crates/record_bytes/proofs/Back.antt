@@ -26,7 +26,7 @@ use Rattle.cells.proofs.Back.{work-back, same-cells}
 use Rattle.record_bytes.specs.declared.Found.{Found}
 use Rattle.record_bytes.specs.Layout.{runningAt, haltedAt, headerLength, recordLength, partBytes, operationBytes, worksBytes, header, recordBytes, written}
 use Rattle.record_bytes.specs.Read.{cellsIn, workAt, partIn, phaseIn, identityIn, fieldsIn, sameBytes, holds, Held, nothing, held, recordIn, found, onHeld, Fitting, Fits}
-use Rattle.record_bytes.proofs.Laws.{header-length}
+use Rattle.record_bytes.proofs.Laid.{header-length}
 use Rattle.record_bytes.proofs.Same.{same-bytes, one-list}
 
 -- a mark comes back from its byte

@@ -1,4 +1,4 @@
-pub mod Laws
+pub mod Laid
 pub mod Same
 pub mod Back
 pub mod Parts

@@ -5,7 +5,7 @@ use mathlib.Core.Bool.{Bool, true, false, not, cond}
 use mathlib.Core.List.{List, [], _∷_, _++_}
 use native.Mathlib.Omega.{arith}
 use lib.Dec.{eqb, leb}
-use lib.ListN.{length, take, drop, getD, length-append, length-take, length-drop}
+use lib.ListN.{length, take, drop, getD, length-take, length-drop}
 use lib.Seq.{take-all, take-add, drop-drop, getD-take, getD-drop}
 use borrow.Author.Tests.{eq-eqb, ne-eqb, lt-leb, eqb-true, eqb-false, not-true, not-false}
 use Rattle.types.specs.declared.Memory.{Memory}
@@ -36,7 +36,7 @@ use Rattle.record_bytes.specs.declared.Doing.{Doing}
 use Rattle.record_bytes.specs.declared.Found.{Found}
 use Rattle.record_bytes.specs.Layout.{welAt, armedAt, asleepAt, liveAt, bankAt, baseAt, countAt, doneAt, operationLength, runningAt, haltedAt, identityAt, identityLength, phaseLength, headerLength, recordLength, partBytes, operationBytes, worksBytes, phaseBytes, identityBytes, operationAt}
 use Rattle.record_bytes.specs.Read.{numberAt, marksIn, sameCells, sameBytes, cellsIn, workAt, storedOf, partIn, phaseIn, identityIn, fieldsIn, ownCells, doingIn, holds, nothing, recordIn, found, Fitting}
-use Rattle.record_bytes.proofs.Laws.{two-bytes, operation-length, header-front}
+use Rattle.record_bytes.proofs.Laid.{two-bytes, operation-length, header-front}
 use Rattle.record_bytes.proofs.Same.{same-bytes, same-append, same-number}
 use Rattle.record_bytes.proofs.Back.{taken}
 

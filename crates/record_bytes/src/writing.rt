@@ -101,9 +101,9 @@ fn operation_at(bytes: &[u8]) -> [u8; places::OPERATION_BYTES]
     requires { ⌜ length (now bytes) ≡ operationLength ⌝ }
     ensures { λ r. ⌜ r ≡ now (bytes .entry) ⌝ }
 {
-    let mut held = [0u8; places::OPERATION_BYTES];
-    bytes::copy(bytes, &mut held);
-    held
+    let mut copied = [0u8; places::OPERATION_BYTES];
+    bytes::copy(bytes, &mut copied);
+    copied
 }
 
 // A part written over a record's first bytes, with the bytes of what runs and of what is suspended.
@@ -126,9 +126,9 @@ fn write_halted(part: Part, bytes: &mut [u8])
     requires { ⌜ length (now bytes) ≡ recordLength ⌝ }
     ensures { λ _. ⌜ now (bytes .exit) ≡ bytesHalted part (now (bytes .entry)) ⌝ }
 {
-    let held = operation_at(&bytes[places::RUNNING..places::HALTED]);
+    let ran = operation_at(&bytes[places::RUNNING..places::HALTED]);
     let none = [0u8; places::OPERATION_BYTES];
-    write_works(part, none, held, bytes);
+    write_works(part, none, ran, bytes);
 }
 
 // A part whose suspended operation goes on: its bytes are moved back.
@@ -136,9 +136,9 @@ fn write_resumed(part: Part, bytes: &mut [u8])
     requires { ⌜ length (now bytes) ≡ recordLength ⌝ }
     ensures { λ _. ⌜ now (bytes .exit) ≡ bytesResumed part (now (bytes .entry)) ⌝ }
 {
-    let held = operation_at(&bytes[places::HALTED..places::MAKER]);
+    let stood = operation_at(&bytes[places::HALTED..places::MAKER]);
     let none = [0u8; places::OPERATION_BYTES];
-    write_works(part, held, none, bytes);
+    write_works(part, stood, none, bytes);
 }
 
 // A part that does nothing and has no page data. The identity stays.

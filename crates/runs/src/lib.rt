@@ -33,9 +33,9 @@ fn copy_chunk(source: &[u8], output: &mut [u8])
     ensures { λ _. ⌜ now (output .exit) ≡ now (source .entry) ⌝ }
 {
     let n = source.len();
-    let mut held = [0u8; CHUNK];
-    bytes::copy(source, &mut held);
-    bytes::copy(&held[0..n], output);
+    let mut between = [0u8; CHUNK];
+    bytes::copy(source, &mut between);
+    bytes::copy(&between[0..n], output);
 }
 
 // The source copied over as many bytes, in chunks.

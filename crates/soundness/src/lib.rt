@@ -96,7 +96,7 @@ pub fn is_sound_of(part: Part, phase: Phase, page: &[u8]) -> bool
     let latch = latch_ok(phase, part.wel);
     let operation = phase_ok(phase, part.blocks, stored);
     let registers = registers_ok(part, phase);
-    let whole = words::both(
+    let part_sound = words::both(
         size,
         words::both(
             rested,
@@ -104,7 +104,7 @@ pub fn is_sound_of(part: Part, phase: Phase, page: &[u8]) -> bool
         ),
     );
     let zero_after = runs::zero_from(page, kept_in(phase));
-    words::both(whole, zero_after)
+    words::both(part_sound, zero_after)
 }
 
 // Whether a record is sound.

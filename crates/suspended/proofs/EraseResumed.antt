@@ -33,7 +33,7 @@ use Rattle.paper.specs.Halted.{inDone, DoneBlank}
 use Rattle.paper.proofs.Phases.{no-work-at, at-same}
 use Rattle.paper.proofs.Soundness.{recordOf, sound-parts, sound-in}
 use Rattle.paper.proofs.Table.{Always, known}
-use Rattle.paper.proofs.Runs.{run-record}
+use Rattle.paper.proofs.ManyTicks.{run-record}
 use Rattle.paper.proofs.Answers.{executes, ticks-run}
 use Rattle.paper.proofs.CallKept.{call-sound}
 use Rattle.paper.proofs.EraseBytes.{pages-few, erase-ends}

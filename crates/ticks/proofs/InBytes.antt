@@ -1,5 +1,5 @@
 -- What the definitions for a tick call on bytes come to: no record held, and the call itself.
-use Prim.Native.Nat.{ℕ, _≤_}
+use Prim.Native.Nat.{ℕ}
 use mathlib.Core.Path.{_≡_, sym, ap, _∙_}
 use mathlib.Core.Bool.{true, false}
 use mathlib.Core.List.{List, []}
@@ -14,10 +14,10 @@ use Rattle.words.specs.Logic.{unless, _orElse_}
 use Rattle.paper.specs.Sizes.{pageBytes}
 use Rattle.paper.specs.Soundness.{sound, soundOf}
 use Rattle.paper.specs.Numbers.{rowsNumber, soundNumber}
-use Rattle.paper.specs.Calls.{ticked, tickedMemory}
+use Rattle.paper.specs.Calls.{ticked}
 use Rattle.record_bytes.specs.declared.Found.{Found}
 use Rattle.record_bytes.specs.Layout.{headerLength, recordBytes, changeWritten}
-use Rattle.record_bytes.specs.Read.{Held, recordIn, found, onHeld}
+use Rattle.record_bytes.specs.Read.{Held, recordIn, found}
 use Rattle.record_bytes.proofs.Back.{held-length, held-page, found-sound, on-none, on-held}
 use Rattle.record_bytes.proofs.Changed.{held-changed}
 use Rattle.ticks.specs.Waited.{waitedOf, waitedMemory, tickedBy}

@@ -1,4 +1,4 @@
-pub mod Laws
+pub mod OneMemory
 pub mod Waited
 pub mod InBytes
 pub mod Tight

@@ -24,7 +24,7 @@ use Rattle.paper.specs.Ticks.{finishedPart, finished, advanced, recordAfter, me
 use Rattle.paper.specs.Calls.{ticked, tickedMemory}
 use Rattle.paper.proofs.Soundness.{running-in-order}
 use Rattle.paper.proofs.Numbers.{ticks-taken}
-use Rattle.paper.proofs.Runs.{ran-all, rest-record, rest-memory, rest-works}
+use Rattle.paper.proofs.ManyTicks.{ran-all, rest-record, rest-memory, rest-works}
 use Rattle.ticks.specs.Waited.{ticksLeft, ticksReached, memoryReached, tickChange, waitedOf, waitedMemory, tickedBy}
 
 -- whichever it is

@@ -14,7 +14,7 @@ ghost use Rattle.paper.specs.Soundness.{soundOf};
 ghost use Rattle.paper.specs.Ticks.{finishedPart, ran};
 ghost use Rattle.paper.specs.Calls.{ticked, tickedMemory};
 ghost use Rattle.record_bytes.specs.Read.{recordIn};
-ghost use Rattle.ticks.specs.Runs.{pagesErased, bytesNarrowed, Within};
+ghost use Rattle.ticks.specs.OneMemory.{pagesErased, bytesNarrowed, Within};
 ghost use Rattle.ticks.specs.Waited.{ticksLeft, ticksReached, memoryReached, changeAfter, tickChange, waitedOf, waitedMemory};
 ghost use Rattle.ticks.specs.InBytes.{heldWorked, tickBytes, tickMemory};
 use record_bytes::places;

@@ -1,4 +1,4 @@
-pub mod Laws
+pub mod Filled
 pub mod Outputs
 pub mod Driven
 pub mod Tight

@@ -171,9 +171,9 @@ fn answer_to(
     }
 }
 
-// A transaction on a part with an identity in a phase, of a record that is sound or is not, as the caller says. WP# is high where wp is
-// true. It answers what becomes of the record, the number and the first driven place, and fills the output; refused,
-// with 1 to 5, it writes nothing and the record stays the same.
+// A transaction on a part with an identity in a phase, of a record that is sound or is not, as the caller says. WP# is
+// high where wp is true. It answers what becomes of the record, the number and the first driven place, and fills the
+// output; refused, with 1 to 5, it writes nothing and the record stays the same.
 pub fn transact_part(
     identity: Identity,
     part: Part,

@@ -13,9 +13,9 @@ use Rattle.types.specs.declared.Stored.{Stored}
 use Rattle.types.specs.declared.Record.{Record}
 use Rattle.types.specs.declared.Outcome.{Outcome}
 use Rattle.types.specs.declared.PoweredUp.{PoweredUp}
-use Rattle.words.specs.Logic.{_and_, unless, _orElse_}
+use Rattle.words.specs.Logic.{_and_, _orElse_}
 use Rattle.words.proofs.Tests.{and-l, and-r, unless-zero, orElse-zero, orElse-on, orElse-first}
-use Rattle.paper.specs.Soundness.{sound, soundOf}
+use Rattle.paper.specs.Soundness.{sound}
 use Rattle.paper.specs.Registers.{withBytes, withExtended}
 use Rattle.paper.specs.Program.{noData}
 use Rattle.paper.specs.Records.{fresh}
@@ -85,7 +85,7 @@ module _ (h : Held) (a r n : ℕ) where
 
 -- power-up: what the numbers that it can take are
 pub record Given (l : ℕ) (q : Asked) : Type 0 where
-  pub whole : l ≡ recordLength
+  pub long : l ≡ recordLength
   pub few : q .blocks ≤ 512
   pub maker : q .maker ≤ 255
   pub kind : q .kind ≤ 255
@@ -106,7 +106,7 @@ given l q e =
     let q4 = and-r _ _ q3 in
     let q5 = and-r _ _ q4 in
     let q6 = and-r _ _ q5 in
-    record { whole = eqb-true _ _ (and-l _ _ w); few = size-range (q .blocks) (unless-zero _ 0 (z .0)) .1; maker = leb-true _ _ (and-l _ _ q1); kind = leb-true _ _ (and-l _ _ q2); capacity = leb-true _ _ (and-l _ _ q3); device = leb-true _ _ (and-l _ _ q4); status-byte = leb-true _ _ (and-l _ _ q5); function-byte = leb-true _ _ (and-l _ _ q6); extended-byte = leb-true _ _ (and-r _ _ q6) }
+    record { long = eqb-true _ _ (and-l _ _ w); few = size-range (q .blocks) (unless-zero _ 0 (z .0)) .1; maker = leb-true _ _ (and-l _ _ q1); kind = leb-true _ _ (and-l _ _ q2); capacity = leb-true _ _ (and-l _ _ q3); device = leb-true _ _ (and-l _ _ q4); status-byte = leb-true _ _ (and-l _ _ q5); function-byte = leb-true _ _ (and-l _ _ q6); extended-byte = leb-true _ _ (and-r _ _ q6) }
 
 -- power-up with these bytes in registers that have nothing else
 pub up-with : (q : Asked) (s : Stored) → s ≡ noStored → poweredUp (q .blocks) (identityOf q) (withBytes (q .status) (q .function) (withExtended (q .extended) s)) ≡ upOf q

@@ -1,4 +1,4 @@
-pub mod Laws
+pub mod FirstPlace
 pub mod Face
 pub mod Refused
 pub mod Question

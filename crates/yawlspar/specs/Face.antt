@@ -1,7 +1,7 @@
 -- The three calls as C makes them: on the record that bytes hold, with one number as the answer.
 use Prim.Native.Nat.{ℕ, _+_, _*_}
 use mathlib.Core.List.{List}
-use mathlib.Core.Bool.{Bool, false, cond}
+use mathlib.Core.Bool.{Bool, false}
 use lib.Dec.{eqb, leb}
 use lib.ListN.{length}
 use Rattle.types.specs.declared.Identity.{Identity}

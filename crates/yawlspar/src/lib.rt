@@ -38,7 +38,7 @@ fn given_number(
     ensures { λ r. ⌜ r ≡ givenNumber length (asked blocks maker kind capacity device status function extended) ⌝ }
 {
     let size = sizes::size_ok(blocks);
-    let whole = length == places::END;
+    let long = length == places::END;
     let m = maker <= 255;
     let t = kind <= 255;
     let c = capacity <= 255;
@@ -48,7 +48,7 @@ fn given_number(
     let e = extended <= 255;
     let registers = words::both(s, words::both(f, e));
     let bytes = words::both(m, words::both(t, words::both(c, words::both(d, registers))));
-    let fits = words::both(whole, bytes);
+    let fits = words::both(long, bytes);
     words::number_or(size, 1, words::number_or(fits, 5, 0))
 }
 

@@ -32,12 +32,12 @@ pub extern "C" fn yawlspar_protected_count(code: u64, blocks: u64) -> u64
 pub extern "C" fn yawlspar_protected(code: u64, blocks: u64, address: u64) -> u64
     ensures { λ r. ⌜ r ≡ protectedAnswer code blocks address ⌝ }
 {
-    let held = protection::protected_blocks(code, blocks);
-    if held.count == 0 {
+    let protected = protection::protected_blocks(code, blocks);
+    if protected.count == 0 {
         return 0;
     }
     let place = address % (blocks * 65536);
-    words::bit_of(protection::is_among(held, (place / 65536) as usize)) as u64
+    words::bit_of(protection::is_among(protected, (place / 65536) as usize)) as u64
 }
 
 // The place in a page of byte index of bytes that are sent from the place start on; 256 where there is none.

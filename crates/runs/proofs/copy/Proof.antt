@@ -5,7 +5,7 @@ use mathlib.Core.List.{_++_}
 use native.Mathlib.Omega.{arith}
 use lib.ListN.{length, take, drop, length-take, length-drop}
 use denote.Ref.{now}
-use Rattle.runs.proofs.Laws.{more-over, all-over, over-length}
+use Rattle.runs.proofs.Copied.{more-over, all-over, over-length}
 use borrow.Author.Needs.{needs}
 use Rattle.runs.proofs.copy.Statement.{statement}
 use Rattle.runs.proofs.copy.Tie as tie

@@ -4,7 +4,7 @@ use mathlib.Core.Path.{ap, _∙_}
 use lib.ListN.{length, take}
 use native.Mathlib.Omega.{arith}
 use denote.Ref.{now}
-use Rattle.runs.proofs.Laws.{copied-whole, taken-back}
+use Rattle.runs.proofs.Copied.{copied-whole, taken-back}
 use borrow.Author.Needs.{needs}
 use Rattle.runs.proofs.copy_chunk.Statement.{statement}
 use Rattle.runs.proofs.copy_chunk.Tie as tie

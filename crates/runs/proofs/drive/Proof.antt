@@ -8,7 +8,7 @@ use denote.Ref.{now}
 use borrow.Rule.Slice.PartMut.{putMid}
 use Rattle.words.proofs.Lists.{driven-empty, driven-past, driven-laid, laid, laid-none, length-laid, round-more, begins-again}
 use Rattle.words.specs.Lists.{round}
-use Rattle.runs.proofs.Laws.{run}
+use Rattle.runs.proofs.Copied.{run}
 use Rattle.runs.proofs.drive.Statement.{statement}
 use Rattle.runs.proofs.drive.Tie as tie
 

@@ -5,8 +5,8 @@ use native.Mathlib.Numerals.{add-one}
 use native.Mathlib.Omega.{arith}
 use lib.ListN.{length}
 use denote.Ref.{now}
-use Rattle.ticks.specs.Runs.{pagesErased}
-use Rattle.ticks.proofs.Laws.{pages-length}
+use Rattle.ticks.specs.OneMemory.{pagesErased}
+use Rattle.ticks.proofs.OneMemory.{pages-length}
 use Rattle.ticks.proofs.erase_pages.Statement.{statement}
 use Rattle.ticks.proofs.erase_pages.Tie as tie
 

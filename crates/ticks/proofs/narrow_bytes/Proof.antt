@@ -1,5 +1,5 @@
 -- `ticks::narrow_bytes` meets its contract: the page is lent on, and goes back to its place.
-use Rattle.ticks.proofs.Laws.{narrowed-back}
+use Rattle.ticks.proofs.OneMemory.{narrowed-back}
 use denote.Ref.{now}
 use Prim.Native.Nat.{_+_, _-_}
 use borrow.Author.Needs.{needs}

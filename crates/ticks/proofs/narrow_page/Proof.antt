@@ -8,8 +8,8 @@ use lib.ListN.{length}
 use denote.Ref.{now}
 use borrow.Author.Needs.{needs}
 use Rattle.paper.specs.Program.{pagePlace, narrowed}
-use Rattle.ticks.specs.Runs.{bytesNarrowed}
-use Rattle.ticks.proofs.Laws.{bytes-length}
+use Rattle.ticks.specs.OneMemory.{bytesNarrowed}
+use Rattle.ticks.proofs.OneMemory.{bytes-length}
 use native.Mathlib.Omega.{arith}
 use Rattle.ticks.proofs.narrow_page.Statement.{statement}
 use Rattle.ticks.proofs.narrow_page.Tie as tie

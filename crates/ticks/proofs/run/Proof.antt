@@ -1,5 +1,5 @@
 -- `ticks::run` meets its contract: a part on which nothing runs is left as it is.
-use Rattle.ticks.proofs.Laws.{same-waited}
+use Rattle.ticks.proofs.OneMemory.{same-waited}
 use Rattle.ticks.specs.Waited.{ticksReached, memoryReached, tickChange}
 use Rattle.paper.specs.Phases.{running}
 use Rattle.types.specs.declared.Work.the-variants.{NoWork, At}

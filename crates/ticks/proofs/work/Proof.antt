@@ -1,5 +1,5 @@
 -- `ticks::work` meets its contract: as many ticks of the operation as find something to do.
-use Rattle.ticks.proofs.Laws.{left-within, all-le, same-waited}
+use Rattle.ticks.proofs.OneMemory.{left-within, all-le, same-waited}
 use Rattle.ticks.specs.Waited.{ticksLeft, changeAfter}
 use Rattle.paper.specs.Calls.{noIdentity}
 use Rattle.paper.specs.Ticks.{ran}

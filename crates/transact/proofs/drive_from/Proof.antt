@@ -4,7 +4,7 @@ use mathlib.Core.Path.{_∙_}
 use native.Mathlib.Omega.{arith}
 use denote.Ref.{now}
 use borrow.Author.Needs.{needs}
-use Rattle.transact.proofs.Laws.{driven-blank}
+use Rattle.transact.proofs.Filled.{driven-blank}
 use Rattle.transact.proofs.drive_from.Statement.{statement}
 use Rattle.transact.proofs.drive_from.Tie as tie
 

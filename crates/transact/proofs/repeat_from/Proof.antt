@@ -4,7 +4,7 @@ use native.Mathlib.Omega.{arith}
 use lib.ListN.{length}
 use denote.Ref.{now}
 use borrow.Author.Needs.{needs}
-use Rattle.transact.proofs.Laws.{repeated-blank}
+use Rattle.transact.proofs.Filled.{repeated-blank}
 use Rattle.transact.proofs.repeat_from.Statement.{statement}
 use Rattle.transact.proofs.repeat_from.Tie as tie
 

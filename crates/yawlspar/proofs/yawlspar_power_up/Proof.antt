@@ -83,7 +83,7 @@ returns-3 c =
     let z = c .before .before .before .before .before .before .before .before .before .before .before .if1 .left in
     let o = c .before .before .before .before .before .before .before .if2 .left in
     let e = own-number q (now (a .bytes)) (g .result) (g .ensures) (u .result) z w in
-    (omega (arith, e, o), c .before .before .write-idle .ensures ∙ written-in _ _ (given _ _ (sym (g .ensures) ∙ z) .whole) ∙ ap recordBytes (up-idle q (u .result) w) ∙ own-bytes q (now (a .bytes)) (g .result) (g .ensures) (u .result) z w o)
+    (omega (arith, e, o), c .before .before .write-idle .ensures ∙ written-in _ _ (given _ _ (sym (g .ensures) ∙ z) .long) ∙ ap recordBytes (up-idle q (u .result) w) ∙ own-bytes q (now (a .bytes)) (g .result) (g .ensures) (u .result) z w o)
 
 pub yawlspar-power-up-spec : {M : Type 1} → statement M
 yawlspar-power-up-spec =

@@ -6,7 +6,7 @@ use Rattle.record_bytes.specs.declared.Found.{Found}
 use Rattle.record_bytes.specs.Read.{recordIn}
 use Rattle.record_bytes.proofs.Back.{held-length}
 use Rattle.yawlspar.proofs.Face.{unheld-answer, unheld-bytes, unheld-output, told-answer, told-bytes, told-output}
-use Rattle.yawlspar.proofs.Laws.{first-packs}
+use Rattle.yawlspar.proofs.FirstPlace.{first-packs}
 use borrow.Author.Needs.{needs}
 use Rattle.yawlspar.proofs.yawlspar_transact.Statement.{statement}
 use Rattle.yawlspar.proofs.yawlspar_transact.Tie as tie

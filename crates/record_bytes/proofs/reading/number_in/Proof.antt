@@ -1,6 +1,6 @@
 -- `record_bytes::reading::number_in` meets its contract: each byte times its place, and the sum of eight bytes fits.
 use denote.Ref.{now}
-use Rattle.record_bytes.proofs.Laws.{eight-bytes}
+use Rattle.record_bytes.proofs.Laid.{eight-bytes}
 use borrow.Author.Needs.{needs}
 use native.Mathlib.Omega.{arith}
 use Rattle.record_bytes.proofs.reading.number_in.Statement.{statement}

@@ -1,7 +1,7 @@
 -- `record_bytes::reading::part_in` meets its contract: every field is read at its place; two bytes are below 65,536.
 use denote.Ref.{now}
 use Rattle.record_bytes.specs.Read.{partIn}
-use Rattle.record_bytes.proofs.Laws.{two-bytes}
+use Rattle.record_bytes.proofs.Laid.{two-bytes}
 use borrow.Author.Needs.{needs}
 use native.Mathlib.Omega.{arith}
 use Rattle.record_bytes.proofs.reading.part_in.Statement.{statement}

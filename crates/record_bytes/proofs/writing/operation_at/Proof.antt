@@ -1,5 +1,5 @@
 -- `record_bytes::writing::operation_at` meets its contract: the bytes are copied whole.
-use Rattle.runs.proofs.Laws.{copied-whole}
+use Rattle.runs.proofs.Copied.{copied-whole}
 use denote.Ref.{now}
 use mathlib.Core.Path.{_∙_}
 use native.Mathlib.Omega.{arith}

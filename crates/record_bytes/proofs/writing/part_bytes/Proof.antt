@@ -1,5 +1,5 @@
 -- `record_bytes::writing::part_bytes` meets its contract: byte by byte it is the definition.
-use Rattle.record_bytes.proofs.Laws.{part-as}
+use Rattle.record_bytes.proofs.Laid.{part-as}
 use borrow.Author.Needs.{needs}
 use Rattle.record_bytes.proofs.writing.part_bytes.Statement.{statement}
 use Rattle.record_bytes.proofs.writing.part_bytes.Tie as tie

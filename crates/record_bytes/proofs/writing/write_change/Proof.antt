@@ -1,5 +1,5 @@
 -- `record_bytes::writing::write_change` meets its contract: an arm for each change; where other work runs, page data stands behind the header and becomes there what it becomes.
-use Rattle.record_bytes.proofs.Laws.{running-header-length, page-there, page-laid}
+use Rattle.record_bytes.proofs.Laid.{running-header-length, page-there, page-laid}
 use Rattle.record_bytes.specs.Layout.{headerRunning, changeWritten}
 use borrow.Author.Tests.{eq-eqb, ne-eqb}
 use denote.Ref.{now}

@@ -2,7 +2,7 @@
 use Rattle.types.specs.declared.Phase.the-variants.{Idle}
 use Rattle.paper.specs.Program.{noData}
 use Rattle.record_bytes.specs.Layout.{headerIdle}
-use Rattle.record_bytes.proofs.Laws.{phase-room, part-laid, idle-laid, idle-header-length, page-room, page-laid, idle-bytes, no-data-bytes}
+use Rattle.record_bytes.proofs.Laid.{phase-room, part-laid, idle-laid, idle-header-length, page-room, page-laid, idle-bytes, no-data-bytes}
 use lib.ListN.{replicate}
 use denote.Ref.{now}
 use mathlib.Core.Path.{_∙_, ap}

@@ -7,7 +7,7 @@ use borrow.Author.Tests.{eq-eqb, ne-eqb}
 use Rattle.types.specs.declared.Phase.the-variants.{Idle}
 use Rattle.paper.specs.Program.{noData}
 use Rattle.record_bytes.specs.Layout.{partBytes, phaseBytes, recordBytes, written}
-use Rattle.record_bytes.proofs.Laws.{signed-length, signed-as}
+use Rattle.record_bytes.proofs.Laid.{signed-length, signed-as}
 use borrow.Author.Needs.{needs}
 use Rattle.record_bytes.proofs.writing.write_idle.Statement.{statement}
 use Rattle.record_bytes.proofs.writing.write_idle.Tie as tie

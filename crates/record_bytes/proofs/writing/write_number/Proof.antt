@@ -3,7 +3,7 @@ use mathlib.Core.Path.{_∙_, ap}
 use lib.ListN.{length}
 use native.Mathlib.Omega.{arith}
 use denote.Ref.{now}
-use Rattle.runs.proofs.Laws.{copied-whole}
+use Rattle.runs.proofs.Copied.{copied-whole}
 use borrow.Author.Needs.{needs}
 use Rattle.record_bytes.proofs.writing.write_number.Statement.{statement}
 use Rattle.record_bytes.proofs.writing.write_number.Tie as tie

@@ -1,5 +1,5 @@
 -- `record_bytes::writing::write_operation` meets its contract: over zeros each cell is written in its place.
-use Rattle.record_bytes.proofs.Laws.{operation-length, first-length, base-length, count-length, cells-laid}
+use Rattle.record_bytes.proofs.Laid.{operation-length, first-length, base-length, count-length, cells-laid}
 use Rattle.record_bytes.specs.Layout.{operationBytes}
 use lib.ListN.{length, replicate}
 use mathlib.Core.Path.{_∙_, sym, ap}

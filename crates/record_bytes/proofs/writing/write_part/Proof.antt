@@ -3,7 +3,7 @@ use mathlib.Core.Path.{_∙_, ap}
 use lib.ListN.{length}
 use denote.Ref.{now}
 use Rattle.record_bytes.specs.Layout.{partLength}
-use Rattle.record_bytes.proofs.Laws.{copied-over, part-length}
+use Rattle.record_bytes.proofs.Laid.{copied-over, part-length}
 use borrow.Author.Needs.{needs}
 use Rattle.record_bytes.proofs.writing.write_part.Statement.{statement}
 use Rattle.record_bytes.proofs.writing.write_part.Tie as tie

@@ -1,5 +1,5 @@
 -- `record_bytes::writing::write_running` meets its contract: what runs is written in its place, and what the part is before; all else stays.
-use Rattle.record_bytes.proofs.Laws.{part-kept}
+use Rattle.record_bytes.proofs.Laid.{part-kept}
 use denote.Ref.{now}
 use mathlib.Core.Path.{_∙_}
 use borrow.Author.Needs.{needs}

@@ -1,5 +1,5 @@
 -- `record_bytes::writing::write_work` meets its contract: zeros, or the cells of the operation.
-use Rattle.record_bytes.proofs.Laws.{none-bytes}
+use Rattle.record_bytes.proofs.Laid.{none-bytes}
 use lib.ListN.{replicate}
 use mathlib.Core.Path.{_∙_, ap}
 use Prim.Native.Nat.{ℕ}

@@ -1,7 +1,7 @@
 -- `record_bytes::writing::write_works` meets its contract: both are copied to their places, and what the part is before.
 use Rattle.record_bytes.specs.Layout.{operationLength}
-use Rattle.record_bytes.proofs.Laws.{running-room, put-room, works-put}
-use Rattle.runs.proofs.Laws.{copied-whole}
+use Rattle.record_bytes.proofs.Laid.{running-room, put-room, works-put}
+use Rattle.runs.proofs.Copied.{copied-whole}
 use lib.ListN.{length}
 use denote.Ref.{now}
 use mathlib.Core.Path.{_≡_, _∙_}

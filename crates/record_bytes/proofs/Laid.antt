@@ -1,4 +1,4 @@
--- Bytes that are copied to their places, and read from them.
+-- Bytes that are laid at their places in a record, and read from there.
 use Prim.Native.Nat.{ℕ, suc, _+_, _*_, _/_, _%_, _<_, _≤_}
 use mathlib.Core.Path.{_≡_, refl, sym, ap, _∙_}
 use mathlib.Core.List.{List, [], _∷_, _++_, append-nil, append-assoc}
@@ -16,15 +16,10 @@ use Rattle.paper.specs.Sizes.{pageBytes}
 use Rattle.paper.specs.Program.{noData}
 use Rattle.paper.specs.Address.{highFirst}
 use Rattle.paper.proofs.Addresses.{high-first-none, high-first-more}
-use Rattle.runs.proofs.Laws.{copied-whole}
 use Rattle.address.specs.Bytes.{highFirstBytes}
 use Rattle.cells.specs.declared.Cells.{Cells}
 use Rattle.cells.specs.Operations.{workCells}
 use Rattle.record_bytes.specs.Layout.{baseAt, countAt, doneAt, operationLength, runningAt, haltedAt, identityAt, identityLength, partLength, phaseLength, headerLength, recordLength, storedBytes, partBytes, operationBytes, worksBytes, phaseBytes, identityBytes, header, headerRunning, worksLaid, headerIdle}
-
--- of at most eight bytes the first eight are all
-pub take-few : (k : ℕ) (l : List ℕ) → k ≤ 8 → take 8 (take k l) ≡ take k l
-take-few k l h = take-all 8 (take k l) (simp length-take (omega arith))
 
 -- the number that two bytes are
 pub two-bytes : (bs : List ℕ) → 2 ≤ length bs → getD bs 0 0 * 256 + getD bs 1 0 ≡ highFirst (take 2 bs)
@@ -60,16 +55,6 @@ module _ (bs a : List ℕ) (n m : ℕ) (x : List ℕ) (la : length a ≡ n) (e :
   pub laid : (y z : List ℕ) → y ≡ z → take n x ++ (y ++ drop m (drop n x)) ≡ (a ++ z) ++ drop (n + m) bs
   laid y z h =
       rw (h, behind, drop-drop) (ap (λ (t : List ℕ). t ++ (z ++ drop (n + m) bs)) (ap (take n) e ∙ take-at a (drop n bs) n la) ∙ sym (append-assoc a z (drop (n + m) bs)))
-
--- page data copied out of a record's bytes
-abbrev pageIn : List ℕ → List ℕ
-pageIn bs = take pageBytes (drop headerLength bs)
-
-pub page-copied : (bs d : List ℕ) → length bs ≡ recordLength → length d ≡ pageBytes → take (length (pageIn bs)) (pageIn bs) ++ drop (length (pageIn bs)) d ≡ drop headerLength bs
-page-copied bs d l ld =
-    let t : pageIn bs ≡ drop headerLength bs = take-all pageBytes (drop headerLength bs) (simp length-drop (omega arith)) in
-    let n : length d ≤ length (drop headerLength bs) = simp length-drop (omega arith) in
-    rw t (copied-whole (drop headerLength bs) d n)
 
 pub part-length : (p : Part) → length (partBytes p) ≡ partLength
 unfolding partBytes

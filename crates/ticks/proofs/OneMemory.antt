@@ -25,7 +25,7 @@ use Rattle.paper.specs.Ticks.{ran}
 use Rattle.paper.proofs.Pages.{erased-length, narrowed-length, unit-pages-le}
 use Rattle.paper.proofs.Soundness.{InOrder}
 use Rattle.words.proofs.Tests.{and-l, and-r}
-use Rattle.ticks.specs.Runs.{pagesErased, bytesNarrowed, pick, Within}
+use Rattle.ticks.specs.OneMemory.{pagesErased, bytesNarrowed, pick, Within}
 
 pub pages-length : (k from : ℕ) (xs : List ℕ) → length (pagesErased k from xs) ≡ length xs
 pages-length zero from xs = refl
