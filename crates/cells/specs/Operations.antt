@@ -1,6 +1,6 @@
 -- An operation in plain numbers, its cells, and the operation of cells.
 use Prim.Native.Nat.{ℕ}
-use mathlib.Core.Bool.{cond}
+use mathlib.Core.Bool.{Bool, cond}
 use lib.Dec.{eqb}
 use Rattle.types.specs.declared.Memory.{Memory}
 use Rattle.types.specs.declared.Memory.the-variants.{Array, Rows}
@@ -12,6 +12,7 @@ use Rattle.types.specs.declared.Operation.{Operation}
 use Rattle.types.specs.declared.Operation.the-variants.{Program, Erase, Write}
 use Rattle.types.specs.declared.Work.{Work}
 use Rattle.types.specs.declared.Work.the-variants.{NoWork, At}
+use Rattle.words.specs.Logic.{_and_}
 use Rattle.cells.specs.declared.Cells.{Cells}
 
 -- a kind for each operation: 1 and 2 programs, 3 to 7 erases, 8 to 10 register writes
@@ -76,3 +77,16 @@ operationIn s = operationOf (s .kind) s
 -- the same, or none where the kind is 0
 abbrev pub workOf : Cells → Work
 workOf s = cond (eqb (s .kind) 0) NoWork (At (operationIn s))
+
+-- two operations have the same cells
+unfoldable pub sameCells : Cells → Cells → Bool
+sameCells s t =
+    eqb (s .kind) (t .kind)
+    and eqb (s .value) (t .value)
+    and eqb (s .base) (t .base)
+    and eqb (s .count) (t .count)
+    and eqb (s .done) (t .done)
+
+-- cells are those of the operation that they are read as
+unfoldable pub own : Cells → Bool
+own s = sameCells (cellsOf (operationIn s)) s

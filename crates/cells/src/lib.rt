@@ -1,6 +1,6 @@
 // An operation in plain numbers, its cells, and the operation of cells. One that is made into cells comes back.
 ghost use mathlib.Core.Path.{_≡_};
-ghost use Rattle.cells.specs.Operations.{programKind, eraseKind, writeKind, cellsOf, programIn, eraseIn, writeIn, operationOf, operationIn};
+ghost use Rattle.cells.specs.Operations.{programKind, eraseKind, writeKind, cellsOf, programIn, eraseIn, writeIn, operationOf, operationIn, own};
 use types::EraseUnit;
 use types::Memory;
 use types::Operation;
@@ -150,4 +150,22 @@ pub fn operation_in(cells: Cells) -> Operation
     ensures { λ r. ⌜ r ≡ operationIn cells ⌝ }
 {
     operation_of(cells.kind, cells)
+}
+
+// Whether cells are those of the operation that they are read as: the kind is one, and what the operation does not have is
+// 0.
+pub fn is_own(cells: Cells) -> bool
+    ensures { λ r. ⌜ r ≡ own cells ⌝ }
+{
+    let kind = cells.kind;
+    let value = cells.value == 0;
+    let base = cells.base == 0;
+    let count = cells.count == 0;
+    let done = cells.done == 0;
+    match kind {
+        1 | 2 => true,
+        3 | 4 | 5 | 6 | 7 => words::both(value, count),
+        8 | 9 | 10 => words::both(base, words::both(count, done)),
+        _ => false,
+    }
 }

@@ -31,11 +31,11 @@ use Rattle.paper.proofs.Addresses.{high-first-fits}
 use Rattle.paper.proofs.Phases.{phase-runs, phase-halts}
 use Rattle.address.specs.Bytes.{highFirstBytes}
 use Rattle.cells.specs.declared.Cells.{Cells}
-use Rattle.cells.specs.Operations.{cellsOf, workCells, programIn, eraseIn, writeIn, operationOf, operationIn, workOf}
+use Rattle.cells.specs.Operations.{cellsOf, workCells, programIn, eraseIn, writeIn, operationOf, operationIn, workOf, sameCells}
 use Rattle.record_bytes.specs.declared.Doing.{Doing}
 use Rattle.record_bytes.specs.declared.Found.{Found}
 use Rattle.record_bytes.specs.Layout.{welAt, armedAt, asleepAt, liveAt, bankAt, baseAt, countAt, doneAt, operationLength, runningAt, haltedAt, identityAt, identityLength, phaseLength, headerLength, recordLength, partBytes, operationBytes, worksBytes, phaseBytes, identityBytes, operationAt}
-use Rattle.record_bytes.specs.Read.{numberAt, marksIn, sameCells, sameBytes, cellsIn, workAt, storedOf, partIn, phaseIn, identityIn, fieldsIn, ownCells, doingIn, holds, nothing, recordIn, found, Fitting}
+use Rattle.record_bytes.specs.Read.{numberAt, marksIn, sameBytes, cellsIn, workAt, storedOf, partIn, phaseIn, identityIn, fieldsIn, ownCells, doingIn, holds, nothing, recordIn, found, Fitting}
 use Rattle.record_bytes.proofs.Laid.{two-bytes, operation-length, header-front}
 use Rattle.record_bytes.proofs.Same.{same-bytes, same-append, same-number}
 use Rattle.record_bytes.proofs.Back.{taken}

@@ -18,7 +18,7 @@ use Rattle.paper.specs.Phases.{running, halted, phaseOf}
 use Rattle.paper.specs.Address.{highFirst}
 use Rattle.paper.specs.Calls.{zeroRecord}
 use Rattle.cells.specs.declared.Cells.{Cells}
-use Rattle.cells.specs.Operations.{cells, workCells, workOf}
+use Rattle.cells.specs.Operations.{cells, workCells, workOf, sameCells}
 use Rattle.record_bytes.specs.declared.Found.{Found}
 use Rattle.record_bytes.specs.declared.Doing.{Doing}
 use Rattle.record_bytes.specs.Layout.{storedAt, welAt, armedAt, asleepAt, liveAt, bankAt, baseAt, countAt, doneAt, runningAt, haltedAt, identityAt, headerLength, recordLength, header, operationAt}
@@ -61,15 +61,6 @@ fieldsIn bs =
 -- WEL and the marks are 0 or 1
 unfoldable pub marksIn : List ℕ → Bool
 marksIn bs = leb (getD bs welAt 0) 1 and leb (getD bs armedAt 0) 1 and leb (getD bs asleepAt 0) 1
-
--- two operations have the same cells
-unfoldable pub sameCells : Cells → Cells → Bool
-sameCells s t =
-    eqb (s .kind) (t .kind)
-    and eqb (s .value) (t .value)
-    and eqb (s .base) (t .base)
-    and eqb (s .count) (t .count)
-    and eqb (s .done) (t .done)
 
 -- the cells at a place are those of the operation that they are read as, or of none
 unfoldable pub ownCells : List ℕ → ℕ → Bool

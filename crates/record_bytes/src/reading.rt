@@ -3,9 +3,9 @@ ghost use mathlib.Core.Path.{_≡_};
 ghost use lib.ListN.{length, getD};
 ghost use Rattle.types.specs.declared.Work.the-variants.{NoWork};
 ghost use Rattle.paper.specs.Address.{highFirst};
-ghost use Rattle.cells.specs.Operations.{workCells};
+ghost use Rattle.cells.specs.Operations.{workCells, sameCells};
 ghost use Rattle.record_bytes.specs.Layout.{operationLength, recordLength};
-ghost use Rattle.record_bytes.specs.Read.{sameCells, marksIn, cellsIn, storedOf, partIn, doingIn, nothing, recordIn, found};
+ghost use Rattle.record_bytes.specs.Read.{marksIn, cellsIn, storedOf, partIn, doingIn, nothing, recordIn, found};
 use crate::Doing;
 use crate::Found;
 use crate::places;
@@ -94,31 +94,17 @@ fn marks_in(bytes: &[u8]) -> bool
     words::both(wel, words::both(armed, asleep))
 }
 
-// Whether two operations have the same cells.
-fn same_cells(a: Cells, b: Cells) -> bool
-    ensures { λ r. ⌜ r ≡ sameCells a b ⌝ }
-{
-    let kind = a.kind == b.kind;
-    let value = a.value == b.value;
-    let base = a.base == b.base;
-    let count = a.count == b.count;
-    let done = a.done == b.done;
-    let last = words::both(base, words::both(count, done));
-    words::both(kind, words::both(value, last))
-}
-
-// Whether cells are those of no operation.
+// Whether cells are those of no operation: all are 0.
 fn is_none(cells: Cells) -> bool
     ensures { λ r. ⌜ r ≡ sameCells (workCells NoWork) cells ⌝ }
 {
-    let none = Cells {
-        kind: 0,
-        value: 0,
-        base: 0,
-        count: 0,
-        done: 0,
-    };
-    same_cells(none, cells)
+    let kind = cells.kind == 0;
+    let value = cells.value == 0;
+    let base = cells.base == 0;
+    let count = cells.count == 0;
+    let done = cells.done == 0;
+    let last = words::both(base, words::both(count, done));
+    words::both(kind, words::both(value, last))
 }
 
 // What the bytes say that a part does: what runs and what is suspended, each an operation or none, as the kinds say; and
@@ -139,14 +125,14 @@ fn doing_in(bytes: &[u8]) -> Doing
     }
     if !stands {
         let op = cells::operation_in(running);
-        let kept = same_cells(cells::cells_of(op), running);
+        let kept = cells::is_own(running);
         return Doing {
             ok: words::both(kept, is_none(halted)),
             phase: Phase::Busy(op),
         };
     }
     let outer = cells::operation_in(halted);
-    let beneath = same_cells(cells::cells_of(outer), halted);
+    let beneath = cells::is_own(halted);
     if !runs {
         return Doing {
             ok: words::both(is_none(running), beneath),
@@ -154,7 +140,7 @@ fn doing_in(bytes: &[u8]) -> Doing
         };
     }
     let op = cells::operation_in(running);
-    let kept = same_cells(cells::cells_of(op), running);
+    let kept = cells::is_own(running);
     Doing {
         ok: words::both(kept, beneath),
         phase: Phase::Nested(op, outer),
