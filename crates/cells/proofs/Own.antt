@@ -72,7 +72,7 @@ module _ (s : Cells) where
   own-write r e =
       rw (write-read r s e, eq-eqb (writeKind r) (s .kind) (sym e), eq-eqb (s .value) (s .value) refl, either-way 0 (s .base), either-way 0 (s .count), either-way 0 (s .done))
 
--- what holds of each number from n on holds of one that is not below n
+-- what holds of n, and of k where k is above it, holds of a k that is not below n
 from-on : (P : ℕ → Type 0) (n k : ℕ) → P n → (n < k → P k) → n ≤ k → P k
 from-on P n k a f h = ⊎-elim (λ e. subst P e a) f (eq-or-lt-of-le h)
 
