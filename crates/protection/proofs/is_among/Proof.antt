@@ -4,23 +4,18 @@ use Rattle.protection.proofs.is_among.Statement.{statement}
 use Rattle.protection.proofs.is_among.Tie as tie
 use Rattle.paper.specs.Protection.{among}
 
--- src/lib.rt:146:17
 cast-first : tie.Need-cast-first
 cast-first c = search needs
 
--- src/lib.rt:148:35
 cast-before : tie.Need-cast-before
 cast-before c = search needs
 
--- src/lib.rt:148:26
 add-before : tie.Need-add-before
 add-before c = search needs
 
--- src/lib.rt:149:5
 both-requires : tie.Need-both-requires
 both-requires c κs = search needs
 
--- src/lib.rt:143:1
 returns : tie.Need-returns
 unfolding among
 returns c = rw (c .both .ensures)
