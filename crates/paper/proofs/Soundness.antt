@@ -31,7 +31,7 @@ pub record Sound (p : Part) (f : Phase) (g : List ℕ) : Type 0 where
   pub large : largeOk (p .blocks) (p .stored .function) (p .bank) ≡ true
   pub page-ok : pageOk f g ≡ true
 
--- a record of what it is made of
+-- the record with this identity, part, phase and page data
 abbrev pub recordOf : Identity → Part → Phase → List ℕ → Record
 recordOf id p f g = record { part = p; phase = f; identity = id; page = g }
 

@@ -91,7 +91,7 @@ changeBy Resumes g w p f i = GoesOn (unarmed (settled p (resumedIn f) true))
 changeBy Sleeps g w p f i = Anew (unarmed (resting p true))
 changeBy Wakes g w p f i = Anew (unarmed (resting p false))
 changeBy Arms g w p f i = Marked true
--- both operations dropped, WEL 0, awake, unarmed, the live byte loaded, the bank register 00h: what power-up gives for the same size and stored register bits
+-- both operations dropped, WEL 0, awake, unarmed, the live byte loaded, the bank register 00h, the identity as it was: what power-up gives for the same size, identity and stored register bits
 changeBy Resets g w p f i = Clears (freshPart (p .blocks) (p .stored))
 -- 83h and 82h act at once, and leave WEL
 changeBy SetsLive g w p f i = Live (liveSet (getD i 1 0) (p .live))
