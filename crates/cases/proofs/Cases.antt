@@ -8,7 +8,6 @@ use lib.ListN.{length, replicate}
 use Rattle.types.specs.declared.Addressing.the-variants.{Three}
 use Rattle.types.specs.declared.Blocks.{Blocks}
 use Rattle.types.specs.declared.Identity.{Identity}
-use Rattle.types.specs.declared.Phase.the-variants.{Idle}
 use Rattle.types.specs.declared.PoweredUp.{PoweredUp}
 use Rattle.types.specs.declared.Answer.{Answer}
 use Rattle.types.specs.declared.Record.{Record}
@@ -26,7 +25,8 @@ use Rattle.paper.specs.Protection.{codeOf, blocksOf, question, protectedBlocks,
 use Rattle.paper.proofs.Protected.{InBlocks, protected-exactly, none-protected, none-counted}
 use Rattle.paper.proofs.Kept.{fresh-sound}
 use Rattle.cases.proofs.Paper.{send, Ready, coded, powered, enabledPart, filled, Protected, Free, Part16, Case1, Case2, Case3, Case6, Case7, Case11, Cases}
-use Rattle.cases.proofs.Parts.{turned, enabled, enabled-ready, filled-length, filled-at}
+use Rattle.laws.proofs.Commanded.{enabled}
+use Rattle.cases.proofs.Parts.{enabled-so, enabled-ready, filled-length, filled-at}
 use Rattle.cases.proofs.Everywhere.{everywhere}
 
 -- registers with IRL bits have TBS 0
@@ -60,19 +60,19 @@ module _ (id : Identity) (c k : ℕ) where
   powered-as : powered id c k ≡ first
   powered-as = ap (λ (u : PoweredUp). u .next) (powered-up id c k)
 
-  enabled-as : enabledPart id c k ≡ turned first Idle true false
+  enabled-as : enabledPart id c k ≡ enabled first
   enabled-as =
-      ap (λ (p : Record). send p (0x06 ∷ []) .next) powered-as ∙ ap (λ (t : Answer). t .next) (enabled first first-ready)
+      ap (λ (p : Record). send p (0x06 ∷ []) .next) powered-as ∙ ap (λ (t : Answer). t .next) (enabled-so first first-ready)
 
   part-16 : c < 16 → Part16 id c k
   part-16 h =
-      let s : codeOf (turned first Idle true false .part .stored .status) ≡ c = omega arith in
+      let s : codeOf (enabled first .part .stored .status) ≡ c = omega arith in
       let u : first .part .stored .function ≡ k * 16 = omega arith in
-      let f : turned first Idle true false .part .stored .function ≡ k * 16 = omega (arith, u) in
+      let f : enabled first .part .stored .function ≡ k * 16 = omega (arith, u) in
       record {
         up = ap (λ (u : PoweredUp). u .number) (powered-up id c k);
         ready = subst⁻¹ Ready powered-as first-ready;
-        enables = ap (λ (p : Record). send p (0x06 ∷ []) .number) powered-as ∙ ap (λ (t : Answer). t .number) (enabled first first-ready);
+        enables = ap (λ (p : Record). send p (0x06 ∷ []) .number) powered-as ∙ ap (λ (t : Answer). t .number) (enabled-so first first-ready);
         enabled-ready = subst⁻¹ Ready enabled-as (enabled-ready first first-ready);
         size = ap (λ (p : Record). p .part .blocks) enabled-as;
         wel = ap (λ (p : Record). p .part .wel) enabled-as;

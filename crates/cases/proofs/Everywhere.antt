@@ -12,10 +12,9 @@ use borrow.Author.Tests.{le-leb}
 use Rattle.types.specs.declared.Memory.the-variants.{Array}
 use Rattle.types.specs.declared.Addressing.the-variants.{Three}
 use Rattle.types.specs.declared.Operation.the-variants.{Program}
+use Rattle.types.specs.declared.Phase.the-variants.{Busy}
 use Rattle.types.specs.declared.Command.the-variants.{ReadStatus, WriteEnable, ChipErase, ArmReset, Reset, RowProgram}
 use Rattle.types.specs.declared.Decoded.the-variants.{Known}
-use Rattle.types.specs.declared.Identity.{Identity}
-use Rattle.types.specs.declared.Part.{Part}
 use Rattle.types.specs.declared.Record.{Record}
 use Rattle.types.specs.declared.Answer.{Answer}
 use Rattle.types.specs.declared.Ticked.{Ticked}
@@ -32,12 +31,12 @@ use Rattle.paper.specs.Protection.{codeOf, locked}
 use Rattle.paper.proofs.Sizes.{size-range}
 use Rattle.paper.proofs.Addresses.{in-page}
 use Rattle.paper.proofs.Soundness.{recordOf, sound-parts, marked-sound}
+use Rattle.laws.proofs.Commanded.{standing, did}
 use Rattle.cases.proofs.Paper.{send, Ready, Free, Case4Everywhere, Case5Everywhere, Case6Everywhere, Case7Everywhere, Case8Everywhere, Case9Everywhere, Case10Everywhere, Case11Everywhere, Everywhere}
 use Rattle.paper.proofs.Answers.{executes, ignores, arm-number, read-status-number, reset-number}
 use Rattle.paper.proofs.Protected.{none-protected, fifteen-counted}
 use Rattle.cases.proofs.EraseCut.{erase-begins, erase-runs, erase-runs-on, erase-suspends, cut-arms, cut-resets}
-use Rattle.cases.proofs.Parts.{did, known-here, enabled}
-use Rattle.cases.proofs.ProgramRun.{programming}
+use Rattle.cases.proofs.Parts.{known-here, enabled-so}
 use Rattle.cases.proofs.ProgramSent.{program-run, program-ticks, program-array, program-tick}
 
 abbrev number : Answer → ℕ
@@ -66,12 +65,12 @@ at-FE : (n : ℕ) → 1 ≤ n → addressIn (Three false) n (0x02 ∷ 0x00 ∷ 0
 unfolding addressIn highFirst
 at-FE n h = mod-eq-of-lt (omega arith)
 
-abbrev started : Identity → Part → Record
-started id p = programming id p (Program Array 0xFE 0x000000 3 0) three
+abbrev started : Record → Record
+started p = standing p (Busy (Program Array 0xFE 0x000000 3 0)) true (pageData three)
 
-three-begun : (id : Identity) (p : Part) → 1 ≤ p .blocks → programming id p (programOf Array (Three false) (p .blocks) (0x02 ∷ 0x00 ∷ 0x00 ∷ 0xFE ∷ three)) three ≡ started id p
+three-begun : (p : Record) → 1 ≤ p .part .blocks → standing p (Busy (programOf Array (Three false) (p .part .blocks) (0x02 ∷ 0x00 ∷ 0x00 ∷ 0xFE ∷ three))) true (pageData three) ≡ started p
 unfolding programOf pagePlace
-three-begun id p n = rw (at-FE (p .blocks) n)
+three-begun p n = rw (at-FE (p .part .blocks) n)
 
 module _ (xs : List ℕ) (a : getD xs 0x0000FE 0 ≡ 0xFF) (b : getD xs 0x0000FF 0 ≡ 0xFF) (c : getD xs 0x000000 0 ≡ 0xFF) where
   three-written : narrowed (narrowed (narrowed xs 0x0000FE 0x01) 0x0000FF 0x02) 0x000000 0x03 ≡ set (set (set xs 0x0000FE 0x01) 0x0000FF 0x02) 0x000000 0x03
@@ -82,9 +81,9 @@ module _ (xs : List ℕ) (a : getD xs 0x0000FE 0 ≡ 0xFF) (b : getD xs 0x0000FF
       let z : getD zs 0x000000 0 ≡ 0xFF = getD-set-other ys 0x0000FF 0x000000 0x02 0 (omega arith) ∙ getD-set-other xs 0x0000FE 0x000000 0x01 0 (omega arith) ∙ c in
       rw (over-FF xs 0x0000FE 0x01 a, over-FF ys 0x0000FF 0x02 y, over-FF zs 0x000000 0x03 z)
 
-  three-run : (id : Identity) (p : Part) → memoryAfter Array 3 (started id p) xs ≡ set (set (set xs 0x0000FE 0x01) 0x0000FF 0x02) 0x000000 0x03
+  three-run : (p : Record) → memoryAfter Array 3 (started p) xs ≡ set (set (set xs 0x0000FE 0x01) 0x0000FF 0x02) 0x000000 0x03
   unfolding worked pagePlace pageData
-  three-run id p = three-written
+  three-run p = three-written
 
 case-5 : Case5Everywhere
 unfolding worked
@@ -92,9 +91,9 @@ case-5 p r w f xs l a b c =
     let n : 1 ≤ p .part .blocks = size-range (p .part .blocks) (sound-parts p (r .is-sound) .size) .0 in
     let g : Free (codeOf (p .part .stored .status)) (p .part .blocks) (addressIn (Three false) (p .part .blocks) (0x02 ∷ 0x00 ∷ 0x00 ∷ 0xFE ∷ three)) = rw (at-FE (p .part .blocks) n) f in (
       ap number (program-run p r w 0x00 0x00 0xFE three (omega arith) (omega arith) g),
-      program-array p r w 0x00 0x00 0xFE three (omega arith) (omega arith) g xs l 3 (omega arith) ∙ ap (λ (q : Record). memoryAfter Array 3 q xs) (three-begun (p .identity) (p .part) n) ∙ three-run xs a b c (p .identity) (p .part),
-      ap (λ (t : Ticked). t .next .phase) (program-ticks p r w 0x00 0x00 0xFE three (omega arith) (omega arith) g 3 (omega arith)) ∙ ap (λ (q : Record). recordAfter 3 q .phase) (three-begun (p .identity) (p .part) n),
-      ap (λ (t : Ticked). t .done) (program-ticks p r w 0x00 0x00 0xFE three (omega arith) (omega arith) g 4 (omega arith)) ∙ ap (workingTicks 4) (three-begun (p .identity) (p .part) n),
+      program-array p r w 0x00 0x00 0xFE three (omega arith) (omega arith) g xs l 3 (omega arith) ∙ ap (λ (q : Record). memoryAfter Array 3 q xs) (three-begun p n) ∙ three-run xs a b c p,
+      ap (λ (t : Ticked). t .next .phase) (program-ticks p r w 0x00 0x00 0xFE three (omega arith) (omega arith) g 3 (omega arith)) ∙ ap (λ (q : Record). recordAfter 3 q .phase) (three-begun p n),
+      ap (λ (t : Ticked). t .done) (program-ticks p r w 0x00 0x00 0xFE three (omega arith) (omega arith) g 4 (omega arith)) ∙ ap (workingTicks 4) (three-begun p n),
     )
 
 offset-2 : (n h m : ℕ) (d : List ℕ)
@@ -164,8 +163,8 @@ case-10 p r w k d (n, most) = (
 case-11 : Case11Everywhere
 case-11 p r has free m l hm hl xs e =
     let k : 100 < 256 = omega arith in
-    rw (enabled p r, erase-begins p r has free m l hm hl, erase-runs p r has free 100 k, erase-suspends p r has free 100 k, cut-arms p r has free 100 k, cut-resets p r has free 100 k)
-    (refl, refl, refl, refl, refl, refl, refl, refl, refl, erase-runs-on p r has free 100 xs k e)
+    rw (enabled-so p r, erase-begins p r has free m l hm hl, erase-runs p r has free 100 k, erase-suspends p r has free 100 k, cut-arms p r has free 100 k, cut-resets p r has free 100 k)
+    (refl, refl, refl, refl, refl, refl, refl, refl, refl, erase-runs-on p r has free 100 k xs e)
 
 pub everywhere : Everywhere
 everywhere =

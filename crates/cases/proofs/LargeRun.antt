@@ -29,7 +29,7 @@ use Rattle.paper.specs.Calls.{noStored, poweredUp, outcomeOf, transacted, outpu
 use Rattle.paper.specs.History.{Call, transaction, ticks}
 use Rattle.history.specs.Run.{Run, done, sends, waits}
 use Rattle.history.specs.Course.{Step, sent, waited, course}
-use Rattle.cases.proofs.Parts.{did}
+use Rattle.laws.proofs.Commanded.{did}
 use Rattle.cases.proofs.Everywhere.{over-FF}
 use Rattle.cases.proofs.Worked.{identity}
 

@@ -1,6 +1,5 @@
 pub mod Paper
 pub mod Parts
-pub mod ProgramRun
 pub mod ProgramSent
 pub mod EraseCut
 pub mod Everywhere

@@ -30,7 +30,7 @@ use Rattle.paper.specs.History.{Call, transaction, ticks}
 use Rattle.paper.proofs.Pages.{erased-length, narrowed-length}
 use Rattle.history.specs.Run.{Run, done, sends, waits}
 use Rattle.history.specs.Course.{Step, sent, waited, course}
-use Rattle.cases.proofs.Parts.{did}
+use Rattle.laws.proofs.Commanded.{did}
 use Rattle.cases.proofs.Worked.{identity}
 
 -- the part's record with this status and function, this latch and this live byte, in this phase and with this page data

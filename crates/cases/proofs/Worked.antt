@@ -34,7 +34,8 @@ use Rattle.reset.specs.Closing.{closing}
 use Rattle.reset.specs.Demand3.{FreshRun}
 use Rattle.reset.proofs.Demand3.{reset-after-run}
 use Rattle.cases.proofs.Paper.{filled}
-use Rattle.cases.proofs.Parts.{did, filled-length, filled-at}
+use Rattle.laws.proofs.Commanded.{did}
+use Rattle.cases.proofs.Parts.{filled-length, filled-at}
 use Rattle.cases.proofs.Everywhere.{over-FF}
 
 -- M T C D = 11 22 33 44h

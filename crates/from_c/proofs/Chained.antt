@@ -4,7 +4,7 @@ use mathlib.Core.List.{List}
 use Rattle.types.specs.declared.Record.{Record}
 use Rattle.history.specs.Run.{done}
 use Rattle.from_c.specs.Driven.{Lent, CCall, callsOf, Driven, ended, calls, heard}
-use Rattle.from_c.proofs.Holding.{Holding}
+use Rattle.from_c.specs.Holding.{Holding}
 use Rattle.from_c.proofs.Leads.{Leads, leads-told, leads-on}
 use Rattle.from_c.proofs.Stands.{stands}
 

@@ -36,6 +36,7 @@ use Rattle.paper.proofs.CallKept.{after-tick-call}
 use Rattle.paper.proofs.Soundness.{InOrder, sound-parts, running-in-order, halted-in-order}
 use Rattle.cells.specs.Operations.{cellsOf, workCells}
 use Rattle.record_bytes.specs.Read.{Fitting, Fits}
+use Rattle.from_c.specs.Holding.{Page}
 
 memory-few : (m : Memory) (n : ℕ) → n ≤ 512 → memoryBytes m n ≤ 2 ^ 25
 memory-few Array n h = omega arith
@@ -56,10 +57,6 @@ operation-fits n g (Write r v) few i = record { base = omega arith; count = omeg
 work-fits : (n : ℕ) (g : Stored) (w : Work) → n ≤ 512 → ((o : Operation) → w ≡ At o → InOrder o n g) → Fitting (workCells w)
 work-fits n g NoWork few h = record { base = omega arith; count = omega arith; done = omega arith }
 work-fits n g (At o) few h = operation-fits n g o few (h o refl)
-
--- so many bytes of page data
-abbrev pub Page : Record → Type 0
-Page p = length (p .page) ≡ pageBytes
 
 pub sound-fits : (p : Record) → sound p ≡ true → Page p → Fits p
 sound-fits p s h =

@@ -16,8 +16,9 @@ use Rattle.reset.specs.Demand3.{PoweredAndSent}
 use Rattle.reset.proofs.Demand3.{history-told}
 use Rattle.from_c.specs.Driven.{Lent, lent, CCall, callsOf, Driven, packedSteps}
 use Rattle.from_c.specs.FromC.{FromC}
-use Rattle.from_c.proofs.Fitting.{Page, none-page}
-use Rattle.from_c.proofs.Holding.{Holding, in-bytes}
+use Rattle.from_c.specs.Holding.{Page, Holding}
+use Rattle.from_c.proofs.Fitting.{none-page}
+use Rattle.from_c.proofs.Holding.{in-bytes}
 use Rattle.from_c.proofs.Chained.{driven-run}
 
 -- the numbers that yawlspar_power_up was given, and the buffer that it was lent

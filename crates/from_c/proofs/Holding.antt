@@ -1,11 +1,8 @@
--- What is lent holds a sound record, its memory's lengths among it; and it does so again after a run of any calls whose last record is written to its bytes.
+-- What is lent holds a sound record again after a run of any calls whose last record is written to its bytes.
 use mathlib.Core.Path.{_≡_, sym, ap, subst⁻¹, _∙_}
-use mathlib.Core.Bool.{true}
 use mathlib.Core.List.{List}
-use lib.ListN.{length}
 use Rattle.types.specs.declared.Record.{Record}
-use Rattle.paper.specs.Sizes.{arrayBytes, rowsBytes}
-use Rattle.paper.specs.Soundness.{sound}
+use Rattle.paper.specs.Sizes.{arrayBytes}
 use Rattle.paper.specs.History.{Call}
 use Rattle.record_bytes.specs.Layout.{recordBytes}
 use Rattle.record_bytes.specs.Read.{held, recordIn}
@@ -13,15 +10,8 @@ use Rattle.record_bytes.proofs.Back.{read-back}
 use Rattle.history.specs.Run.{Run}
 use Rattle.history.proofs.Told.{run-told}
 use Rattle.from_c.specs.Driven.{Lent}
-use Rattle.from_c.proofs.Fitting.{Page, sound-fits, calls-page}
-
--- the bytes of a sound record, and memory of its lengths
-pub record Holding (l : Lent) (p : Record) : Type 0 where
-  pub bytes : l .bytes ≡ recordBytes p
-  pub is-sound : sound p ≡ true
-  pub page : Page p
-  pub array : length (l .array) ≡ arrayBytes (p .part .blocks)
-  pub rows : length (l .rows) ≡ rowsBytes
+use Rattle.from_c.specs.Holding.{Page, Holding}
+use Rattle.from_c.proofs.Fitting.{sound-fits, calls-page}
 
 -- the record is read back from them
 pub in-bytes : {l : Lent} {p : Record} → Holding l p → recordIn (l .bytes) ≡ held p

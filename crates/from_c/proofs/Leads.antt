@@ -11,7 +11,7 @@ use Rattle.history.specs.Course.{Step, sent, waited, courseOf}
 use Rattle.history.proofs.Told.{run-told}
 use Rattle.history.proofs.Joined.{run-joined, course-joined}
 use Rattle.from_c.specs.Driven.{Lent, packedSteps}
-use Rattle.from_c.proofs.Holding.{Holding}
+use Rattle.from_c.specs.Holding.{Holding}
 
 -- from what l lends to a part with the record p the calls cs lead to what m lends, and C hears the answers ks
 pub record Leads (l : Lent) (p : Record) (cs : List Call) (m : Lent) (ks : List ℕ) : Type 0 where

@@ -8,3 +8,4 @@ pub mod Chained
 pub mod FromC
 pub mod Reset
 pub mod Contracts
+pub mod LawsFromC

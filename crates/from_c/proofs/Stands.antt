@@ -11,7 +11,8 @@ use Rattle.paper.specs.History.{transaction}
 use Rattle.history.specs.Run.{Run, done, sends, waits}
 use Rattle.from_c.specs.Driven.{Lent, CCall, transact, tick, Given, gives, callOf, heardOf}
 use Rattle.from_c.proofs.Held.{held-answer, held-transacted, held-ticks-answer, held-ticked, held-array, held-rows, no-level}
-use Rattle.from_c.proofs.Holding.{Holding, in-bytes, run-holding}
+use Rattle.from_c.specs.Holding.{Holding}
+use Rattle.from_c.proofs.Holding.{in-bytes, run-holding}
 use Rattle.from_c.proofs.Leads.{Leads}
 
 -- the call c, lent l on a part with the record p, gave g

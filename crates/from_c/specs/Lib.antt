@@ -1,2 +1,4 @@
 pub mod Driven
+pub mod Holding
 pub mod FromC
+pub mod LawsFromC

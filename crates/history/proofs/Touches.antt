@@ -1,13 +1,13 @@
 -- Touches, place by place: what a touch, the touches of so many ticks, and a tick call leave at each place of a memory is what the history says of its byte.
-use Prim.Native.Nat.{ℕ, zero, suc, _+_, _-_, _≤_, _<_}
+use Prim.Native.Nat.{ℕ, zero, suc, _+_, _≤_, _<_}
 use mathlib.Core.Path.{_≡_, refl, sym, ap, _∙_}
 use mathlib.Core.Bool.{Bool, true, false, cond}
-use mathlib.Core.List.{List, [], _∷_, _++_}
+use mathlib.Core.List.{List, [], _∷_}
 use native.Mathlib.Omega.{arith}
-use lib.ListN.{length, take, drop, replicate, getD, length-replicate, getD-replicate, List·getD-append}
-use lib.Seq.{getD-append-add, getD-set-same, getD-set-other, getD-take, getD-drop, length-take-le}
-use lib.Dec.{eqb, leb, ltb}
-use borrow.Author.Tests.{eqb-true, eqb-false, leb-true, leb-false, ltb-true, ltb-false, le-leb}
+use lib.ListN.{length, getD}
+use lib.Seq.{getD-set-same, getD-set-other}
+use lib.Dec.{eqb}
+use borrow.Author.Tests.{eqb-true, eqb-false, leb-true, le-leb}
 use Rattle.types.specs.declared.Memory.{Memory}
 use Rattle.types.specs.declared.Memory.the-variants.{Array, Rows}
 use Rattle.types.specs.declared.Operation.{Operation}
@@ -17,7 +17,7 @@ use Rattle.types.specs.declared.Work.the-variants.{NoWork, At}
 use Rattle.types.specs.declared.Stored.{Stored}
 use Rattle.types.specs.declared.Record.{Record}
 use Rattle.words.specs.Logic.{_and_}
-use Rattle.paper.specs.Sizes.{memoryBytes, pageBytes}
+use Rattle.paper.specs.Sizes.{memoryBytes, pageBytes, fromOn}
 use Rattle.paper.specs.Program.{narrowedByte, narrowed}
 use Rattle.paper.specs.Erase.{memoryOf, unitBytes, erasedByte, pageErased}
 use Rattle.paper.specs.Phases.{running}
@@ -27,56 +27,15 @@ use Rattle.paper.specs.Ticks.{recordAfter, touchAt, touchOf, memoryAfter}
 use Rattle.paper.specs.Numbers.{tickNumber}
 use Rattle.paper.specs.Calls.{tickedMemory}
 use Rattle.paper.specs.History.{tickTouches, byteAfter, byteAfterAll}
-use Rattle.paper.proofs.Pages.{erased-length, narrowed-length}
+use Rattle.paper.proofs.Pages.{erased-length, narrowed-length, stretch-at}
 use Rattle.paper.proofs.Soundness.{InOrder, running-in-order}
 use Rattle.paper.proofs.Kept.{run-sound, run-size}
 use Rattle.paper.proofs.Histories.{bytes-append}
 
 -- a place of a memory after a page of it was set to FFh
-module _ (xs : List ℕ) (b at : ℕ) (h : b + pageBytes ≤ length xs) where
-  pages : pageErased xs b ≡ take b xs ++ (replicate pageBytes erasedByte ++ drop (b + pageBytes) xs)
-  unfolding pageErased
-  pages = rw (le-leb _ _ h)
-
-  before-page : at < b → getD (pageErased xs b) at 0 ≡ getD xs at 0
-  before-page l =
-      ap (λ (ys : List ℕ). getD ys at 0) pages
-      ∙ List·getD-append (take b xs) (replicate pageBytes erasedByte ++ drop (b + pageBytes) xs) 0 at (rw (length-take-le b xs (omega arith)) l)
-      ∙ getD-take b xs at 0 l
-
-  -- k places after the place where the page begins
-  behind : (k : ℕ) → at ≡ b + k → getD (pageErased xs b) at 0 ≡ getD (replicate pageBytes erasedByte ++ drop (b + pageBytes) xs) k 0
-  behind k e =
-      let n : length (take b xs) ≡ b = length-take-le b xs (omega arith) in
-      let f : at ≡ length (take b xs) + k = rw n e in
-      ap (λ (ys : List ℕ). getD ys at 0) pages
-      ∙ ap (λ (j : ℕ). getD (take b xs ++ (replicate pageBytes erasedByte ++ drop (b + pageBytes) xs)) j 0) f
-      ∙ getD-append-add (take b xs) (replicate pageBytes erasedByte ++ drop (b + pageBytes) xs) k 0
-
-  in-page : b ≤ at → at < b + pageBytes → getD (pageErased xs b) at 0 ≡ erasedByte
-  in-page l u =
-      behind (at - b) (omega arith)
-      ∙ List·getD-append (replicate pageBytes erasedByte) (drop (b + pageBytes) xs) 0 (at - b) (rw (length-replicate pageBytes erasedByte) (omega arith))
-      ∙ getD-replicate pageBytes (at - b) erasedByte 0 (omega arith)
-
-  after-page : b + pageBytes ≤ at → getD (pageErased xs b) at 0 ≡ getD xs at 0
-  after-page l =
-      let n : at - b ≡ length (replicate pageBytes erasedByte) + (at - b - pageBytes) = rw (length-replicate pageBytes erasedByte) (omega arith) in
-      let e : b + pageBytes + (at - b - pageBytes) ≡ at = omega arith in
-      behind (at - b) (omega arith)
-      ∙ ap (λ (j : ℕ). getD (replicate pageBytes erasedByte ++ drop (b + pageBytes) xs) j 0) n
-      ∙ getD-append-add (replicate pageBytes erasedByte) (drop (b + pageBytes) xs) (at - b - pageBytes) 0
-      ∙ getD-drop (b + pageBytes) xs (at - b - pageBytes) 0
-      ∙ ap (λ (j : ℕ). getD xs j 0) e
-
-  page-as : (t u : Bool) → leb b at ≡ t → ltb at (b + pageBytes) ≡ u → getD (pageErased xs b) at 0 ≡ cond (t and u) erasedByte (getD xs at 0)
-  unfolding _and_
-  page-as false u e f = before-page (leb-false _ _ e)
-  page-as true true e f = in-page (leb-true _ _ e) (ltb-true _ _ f)
-  page-as true false e f = after-page (ltb-false _ _ f)
-
-  page-at : getD (pageErased xs b) at 0 ≡ cond (leb b at and ltb at (b + pageBytes)) erasedByte (getD xs at 0)
-  page-at = page-as (leb b at) (ltb at (b + pageBytes)) refl refl
+page-at : (xs : List ℕ) (b at : ℕ) → b + pageBytes ≤ length xs → getD (pageErased xs b) at 0 ≡ cond (fromOn b pageBytes at) erasedByte (getD xs at 0)
+unfolding pageErased
+page-at xs b at h = rw (le-leb _ _ h) (stretch-at xs b pageBytes at h)
 
 -- a place of a memory after a place of it was narrowed
 module _ (xs : List ℕ) (a d at : ℕ) (l : at < length xs) where

@@ -1,14 +1,13 @@
 -- The error bits of the extended read register: a call sets one only by a transaction that answers 28, and one that is set stays, or all three are cleared.
-use Prim.Native.Nat.{ℕ, zero, suc, _+_, _/_, _%_}
-use mathlib.Core.Path.{_≡_, refl, _∙_}
+use Prim.Native.Nat.{ℕ, _/_, _%_}
+use mathlib.Core.Path.{_≡_, refl}
 use mathlib.Core.Bool.{Bool, true, false, cond}
 use mathlib.Core.List.{List}
 use mathlib.Core.Logic.{_⊎_, inl, inr}
 use native.Mathlib.Omega.{arith}
 use lib.ListN.{getD}
-use lib.Dec.{eqb, ltb}
+use lib.Dec.{eqb}
 use borrow.Author.Tests.{eqb-true}
-use Rattle.types.specs.declared.Operation.{Operation}
 use Rattle.types.specs.declared.Work.{Work}
 use Rattle.types.specs.declared.Work.the-variants.{NoWork, At}
 use Rattle.types.specs.declared.Decoded.{Decoded}
@@ -20,16 +19,15 @@ use Rattle.types.specs.declared.Data.the-variants.{Kept, Sent}
 use Rattle.types.specs.declared.Addressing.{Addressing}
 use Rattle.types.specs.declared.Change.the-variants.{Marked}
 use Rattle.types.specs.declared.Outcome.{Outcome}
+use Rattle.types.specs.declared.Part.{Part}
 use Rattle.types.specs.declared.Record.{Record}
-use Rattle.paper.specs.Phases.{running}
 use Rattle.paper.specs.Registers.{liveSet, liveFailed}
-use Rattle.paper.specs.Operations.{ticksInAll, ticksDone, advancedBy}
 use Rattle.paper.specs.Soundness.{sound}
 use Rattle.paper.specs.Table.{columns, addressingOn}
 use Rattle.paper.specs.Commands.{changed, begun, starts, changeBy, errorsOf, changeBarred, changeIgnored}
 use Rattle.paper.specs.Calls.{transacted, ticked}
-use Rattle.paper.specs.Ticks.{finished, advanced, worked, tickedAt, recordAfter}
 use Rattle.paper.proofs.Extended.{cleared-bits, loaded-bits, or-bit}
+use Rattle.paper.proofs.Kept.{run-keeps}
 use Rattle.paper.proofs.TransactionKept.{any-outcome}
 use Rattle.paper.proofs.CallKept.{after-tick-call}
 
@@ -82,21 +80,8 @@ module _ (p : Record) (i : List ℕ) where
       (λ k c e. effect-live (columns k .effect) (addressingOn (columns k) (p .part)) (begun (columns k) (p .part) i)) (sound p) a r o
 
 -- ticks leave it, an 85h's too
-worked-live : (p : Record) (o : Operation) (t : Bool) → cond t (advanced p (advancedBy 1 o)) (finished p o) .part .live ≡ p .part .live
-worked-live p o true = refl
-worked-live p o false = refl
-
-ticked-live : (p : Record) (w : Work) → tickedAt p w .part .live ≡ p .part .live
-unfolding worked
-ticked-live p NoWork = refl
-ticked-live p (At o) = worked-live p o (ltb (ticksDone o + 1) (ticksInAll o (p .part .blocks)))
-
-run-live : (n : ℕ) (p : Record) → recordAfter n p .part .live ≡ p .part .live
-run-live zero p = refl
-run-live (suc n) p = ticked-live (recordAfter n p) (running (recordAfter n p .phase)) ∙ run-live n p
-
 pub ticks-live : (n : ℕ) (p : Record) (a r : ℕ) → ticked p a r n .next .part .live ≡ p .part .live
-ticks-live n p = after-tick-call (λ (q : Record). q .part .live ≡ p .part .live) p n refl (run-live n p)
+ticks-live n p = after-tick-call (λ (q : Record). q .part .live ≡ p .part .live) p n refl (run-keeps (λ (q : Part). q .live) (λ q g h wel. refl) n p)
 
 -- E_ERR, P_ERR and PROT_E that are set in one live byte are set in another
 pub record Stay (live after : ℕ) : Type 0 where

@@ -189,26 +189,28 @@ module _ (p : Record) where
   pub tick-sound : sound p ≡ true → sound (tickOnce p) ≡ true
   tick-sound = ticked-sound (running (p .phase)) refl
 
-  worked-size : (o : Operation) (t : Bool) → cond t (advanced p (advancedBy 1 o)) (finished p o) .part .blocks ≡ p .part .blocks
-  worked-size o true = refl
-  worked-size o false = refl
-
-  ticked-size : (w : Work) → tickedAt p w .part .blocks ≡ p .part .blocks
-  unfolding worked
-  ticked-size NoWork = refl
-  ticked-size (At o) = worked-size o (ltb (ticksDone o + 1) (ticksInAll o (p .part .blocks)))
-
-  pub tick-size : tickOnce p .part .blocks ≡ p .part .blocks
-  tick-size = ticked-size (running (p .phase))
-
 -- n ticks
 pub run-sound : (n : ℕ) (p : Record) → sound p ≡ true → sound (recordAfter n p) ≡ true
 run-sound zero p s = s
 run-sound (suc n) p s = tick-sound (recordAfter n p) (run-sound n p s)
 
+-- what is as it was wherever a part is made anew, no tick changes
+module _ {A : Type 0} (f : Part → A) (kept : (q : Part) (g : Stored) (h : Phase) (wel : Bool) → f (made q g h wel) ≡ f q) where
+  worked-keeps : (p : Record) (o : Operation) (t : Bool) → f (cond t (advanced p (advancedBy 1 o)) (finished p o) .part) ≡ f (p .part)
+  worked-keeps p o true = refl
+  worked-keeps p o false = kept (p .part) (storedAfter o (p .part .stored)) (restOf (p .phase)) false
+
+  ticked-keeps : (p : Record) (w : Work) → f (tickedAt p w .part) ≡ f (p .part)
+  unfolding worked
+  ticked-keeps p NoWork = refl
+  ticked-keeps p (At o) = worked-keeps p o (ltb (ticksDone o + 1) (ticksInAll o (p .part .blocks)))
+
+  pub run-keeps : (n : ℕ) (p : Record) → f (recordAfter n p .part) ≡ f (p .part)
+  run-keeps zero p = refl
+  run-keeps (suc n) p = ticked-keeps (recordAfter n p) (running (recordAfter n p .phase)) ∙ run-keeps n p
+
 pub run-size : (n : ℕ) (p : Record) → recordAfter n p .part .blocks ≡ p .part .blocks
-run-size zero p = refl
-run-size (suc n) p = tick-size (recordAfter n p) ∙ run-size n p
+run-size = run-keeps (λ (q : Part). q .blocks) (λ q g h wel. refl)
 
 pub works-at-most : (n : ℕ) (p : Record) → workingTicks n p ≤ n
 works-at-most zero p = omega arith

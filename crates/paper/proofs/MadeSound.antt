@@ -65,7 +65,7 @@ module _ (f : Phase) (wel : Bool) (g : Stored) where
   unit-stored Chip b n = ap (λ (c : ℕ). eqb c 0) code-made
   unit-stored Row b n = free-stored Rows b n
 
-  target-stored : (o : Operation) (n : ℕ) → targetFree o n (registersIn f wel g) ≡ targetFree o n g
+  pub target-stored : (o : Operation) (n : ℕ) → targetFree o n (registersIn f wel g) ≡ targetFree o n g
   target-stored (Program m s b k d) n = free-stored m b n
   target-stored (Erase u b d) n = unit-stored u b n
   target-stored (Write r v) n = refl

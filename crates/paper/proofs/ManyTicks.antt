@@ -9,6 +9,7 @@ use native.Mathlib.Numerals.{add-one}
 use lib.Dec.{eqb, ltb}
 use borrow.Author.Tests.{ltb-true, ltb-false, lt-ltb, le-ltb, eq-eqb, ne-eqb}
 use Rattle.types.specs.declared.Memory.{Memory}
+use Rattle.types.specs.declared.EraseUnit.{EraseUnit}
 use Rattle.types.specs.declared.Operation.{Operation}
 use Rattle.types.specs.declared.Operation.the-variants.{Program, Erase, Write}
 use Rattle.types.specs.declared.Phase.{Phase}
@@ -17,7 +18,9 @@ use Rattle.types.specs.declared.Work.the-variants.{NoWork, At}
 use Rattle.types.specs.declared.Stored.{Stored}
 use Rattle.types.specs.declared.Record.{Record}
 use Rattle.words.specs.Logic.{bit}
+use Rattle.paper.specs.Sizes.{sameMemory}
 use Rattle.paper.specs.Program.{noData}
+use Rattle.paper.specs.Erase.{memoryOf}
 use Rattle.paper.specs.Registers.{storedAfter}
 use Rattle.paper.specs.Phases.{running, workIs, anyOperation, workingOn, restOf}
 use Rattle.paper.specs.Records.{made}
@@ -185,3 +188,13 @@ module _ (p : Record) (e : running (p .phase) ≡ NoWork) where
   rest-works (suc n) =
       let w : works (recordAfter n p) ≡ 0 = ap works (rest-record n) ∙ ap workBit e in
       rw (w, rest-works n)
+
+-- a ticks and then b more
+pub ticks-more : (a b : ℕ) (p : Record) → recordAfter (a + b) p ≡ recordAfter b (recordAfter a p)
+ticks-more a zero p = rw add-zero refl
+ticks-more a (suc b) p = rw add-suc (ap tickOnce (ticks-more a b p))
+
+-- ticks of an erase leave the other memory
+pub erase-other : (k : ℕ) (u : EraseUnit) (b d : ℕ) (g xs : List ℕ) (m : Memory) → sameMemory m (memoryOf u) ≡ false → ran m k (Erase u b d) g xs ≡ xs
+erase-other zero u b d g xs m e = refl
+erase-other (suc k) u b d g xs m e = rw e (erase-other k u b d g xs m e)

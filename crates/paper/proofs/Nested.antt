@@ -1,12 +1,9 @@
--- A program within a suspended erase: what the registers show, and how it begins, goes on and ends.
-use Prim.Native.Nat.{ℕ, suc, _+_, _-_, _≤_, _<_}
-use mathlib.Core.Path.{_≡_, refl, sym, ap, _∙_, subst}
-use mathlib.Core.Bool.{Bool, true, false, cond, false≢true}
+-- A program within a suspended erase: what the registers show, and how it begins and goes on.
+use Prim.Native.Nat.{ℕ, _+_, _<_}
+use mathlib.Core.Path.{_≡_, refl, ap, _∙_, subst}
+use mathlib.Core.Bool.{Bool, true, false≢true}
 use mathlib.Core.List.{List}
-use native.Mathlib.Omega.{arith}
-use lib.ListN.{length, getD}
-use lib.Dec.{eqb}
-use borrow.Author.Tests.{eqb-true}
+use lib.ListN.{getD}
 use Rattle.types.specs.declared.Memory.the-variants.{Array}
 use Rattle.types.specs.declared.Operation.{Operation}
 use Rattle.types.specs.declared.Operation.the-variants.{Program, Erase, Write}
@@ -18,24 +15,23 @@ use Rattle.types.specs.declared.Effect.{Effect}
 use Rattle.types.specs.declared.Effect.the-variants.{Programs}
 use Rattle.types.specs.declared.Stored.{Stored}
 use Rattle.types.specs.declared.Record.{Record}
-use Rattle.types.specs.declared.Outcome.{Outcome}
 use Rattle.types.specs.declared.Answer.{Answer}
 use Rattle.words.specs.Logic.{bit}
 use Rattle.words.proofs.Tests.{and-l}
-use Rattle.paper.specs.Program.{dataSent, pageData, noData, programOf}
-use Rattle.paper.specs.Phases.{running, isProgram, isErase, workingOn, restOf}
+use Rattle.paper.specs.Program.{dataSent, pageData, programOf}
+use Rattle.paper.specs.Phases.{running, isProgram, isErase, workingOn}
 use Rattle.paper.specs.Records.{wip, esus, psus}
 use Rattle.paper.specs.Registers.{WEL, WIP, ESUS, PSUS}
 use Rattle.paper.specs.Operations.{ticksInAll, ticksDone, advancedBy}
 use Rattle.paper.specs.Soundness.{sound}
 use Rattle.paper.specs.Table.{decoded, columns, addressingOn}
 use Rattle.paper.specs.Commands.{changed, begins, changeBy}
-use Rattle.paper.specs.Numbers.{transactionRefusal, ignoredNumber}
-use Rattle.paper.specs.Calls.{refused, ignored, executed, outcomeTo, outcomeOf, answered, transacted}
+use Rattle.paper.specs.Calls.{transacted}
 use Rattle.paper.specs.Ticks.{recordAfter}
 use Rattle.paper.proofs.Soundness.{recordOf, sound-parts, sound-in, in-nest}
 use Rattle.paper.proofs.Bits.{bits-parts}
-use Rattle.paper.proofs.ManyTicks.{run-record, run-past}
+use Rattle.paper.proofs.ManyTicks.{run-record}
+use Rattle.paper.proofs.Answers.{executed-so}
 
 -- what registers show
 pub record Showing (s : Stored) (wip wel esus psus : ℕ) : Type 0 where
@@ -76,31 +72,6 @@ suspended-shows p e f h s =
     let b = erase-bits e h in
     record { wip-shown = q .wip-shown; wel-shown = q .wel-shown; esus-shown = q .esus-shown ∙ b .0; psus-shown = q .psus-shown ∙ b .1 }
 
--- an outcome that goes by a number, and tells it where it is not 0, tells 0: the number is 0
-zero-number : (n : ℕ) (x y : Outcome) (t : Bool) → eqb n 0 ≡ t → y .number ≡ n → cond t x y .number ≡ 0 → n ≡ 0
-zero-number n x y true e h z = eqb-true _ _ e
-zero-number n x y false e h z = sym h ∙ z
-
--- a transaction that answers 0 executed the command that its first byte is, to which no number applied
-module _ (p : Record) (a r : ℕ) (wp : Bool) (i : List ℕ) (o : ℕ) (k : Command) (e : decoded (p .part .blocks) (p .part .bank) (getD i 0 0) ≡ Known k) (z : transacted p a r wp i o .number ≡ 0) where
-  not-refused : transactionRefusal (p .part .blocks) (sound p) a r (length i) o ≡ 0
-  unfolding transacted outcomeOf
-  not-refused =
-      let n = transactionRefusal (p .part .blocks) (sound p) a r (length i) o in
-      zero-number n (outcomeTo (decoded (p .part .blocks) (p .part .bank) (getD i 0 0)) (p .part) (p .phase) wp i) (refused n) (eqb n 0) refl refl z
-
-  taken : transacted p a r wp i o ≡ answered (outcomeTo (Known k) (p .part) (p .phase) wp i) i p
-  unfolding transacted outcomeOf
-  taken = rw (not-refused, e)
-
-  pub not-ignored : ignoredNumber (Known k) (p .part) (p .phase) i wp ≡ 0
-  not-ignored =
-      let n = ignoredNumber (Known k) (p .part) (p .phase) i wp in
-      zero-number n (executed (columns k) (p .part) (p .phase) i) (ignored (Known k) n (p .part) (length i)) (eqb n 0) refl refl (sym (ap (λ (t : Answer). t .number) taken) ∙ z)
-
-  pub executed-so : transacted p a r wp i o ≡ answered (executed (columns k) (p .part) (p .phase) i) i p
-  executed-so = taken ∙ rw not-ignored
-
 -- a 02h that is executed on a part that is suspended from e begins a program within it, with three address bytes or with four; WEL is 1 still, and the bytes that count are kept
 pub program-nests : (p : Record) (e : Operation) (a r : ℕ) (wp : Bool) (i : List ℕ) (o : ℕ) (k : Command) → p .phase ≡ Suspended e → decoded (p .part .blocks) (p .part .bank) (getD i 0 0) ≡ Known k
     → columns k .effect ≡ Programs Array → transacted p a r wp i o .number ≡ 0
@@ -116,12 +87,3 @@ program-nests p e a r wp i o k f d c z =
 pub nested-goes-on : (p : Record) (e o : Operation) (n : ℕ) → p .phase ≡ Nested o e → ticksDone o + n < ticksInAll o (p .part .blocks) → recordAfter n p ≡ recordOf (p .identity) (p .part) (Nested (advancedBy n o) e) (p .page)
 nested-goes-on p e o n f h =
     run-record p o (ap running f) n h ∙ ap (λ (g : Phase). recordOf (p .identity) (p .part) (workingOn g (advancedBy n o)) (p .page)) f
-
--- its last leaves the part suspended from the erase, with WEL 0 and page data zero; ticks past it change nothing
-pub nested-ends : (p : Record) (e o : Operation) (n : ℕ) → p .phase ≡ Nested o e → ticksDone o < ticksInAll o (p .part .blocks) → ticksInAll o (p .part .blocks) ≤ ticksDone o + n
-    → let q = recordAfter n p in (q .phase ≡ Suspended e) × (q .part .wel ≡ false) × (q .page ≡ noData)
-nested-ends p e o n f h l =
-    let k = ticksInAll o (p .part .blocks) - ticksDone o - 1 in
-    let z : n ≡ suc k + (n - suc k) = omega arith in
-    let q = ap (λ (j : ℕ). recordAfter j p) z ∙ run-past p o (ap running f) k (n - suc k) (omega arith) in
-    (ap (λ (r : Record). r .phase) q ∙ ap restOf f, ap (λ (r : Record). r .part .wel) q, ap (λ (r : Record). r .page) q)

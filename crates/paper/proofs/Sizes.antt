@@ -1,12 +1,14 @@
--- What holds of each of the five sizes holds of every size: they are 1 to 512 blocks, and a chip's pages are at most as many as a tick call may ask ticks.
+-- What holds of each of the five sizes holds of every size: they are 1 to 512 blocks, and a chip's pages are at most as many as a tick call may ask ticks. And the two memories.
 use Prim.Native.Nat.{ℕ, _*_, _≤_}
-use mathlib.Core.Path.{_≡_, subst⁻¹}
-use mathlib.Core.Bool.{Bool, true, false, cond}
+use mathlib.Core.Path.{_≡_, refl, subst⁻¹}
+use mathlib.Core.Bool.{Bool, true, false, cond, false≢true}
 use mathlib.Core.Logic.{⊎-elim}
 use native.Mathlib.Omega.{arith}
 use borrow.Author.Tests.{eqb-true}
+use Rattle.types.specs.declared.Memory.{Memory}
+use Rattle.types.specs.declared.Memory.the-variants.{Array, Rows}
 use Rattle.words.proofs.Tests.{or-cases}
-use Rattle.paper.specs.Sizes.{isLarge, sizeOk, tickLimit}
+use Rattle.paper.specs.Sizes.{isLarge, sizeOk, sameMemory, tickLimit}
 
 pub by-size : (P : ℕ → Type 0) → P 1 → P 4 → P 8 → P 16 → P 512 → (n : ℕ) → sizeOk n ≡ true → P n
 unfolding sizeOk
@@ -42,3 +44,10 @@ limit-range n = limit-as (isLarge n)
 pub chip-few : (n : ℕ) → sizeOk n ≡ true → n * 256 ≤ tickLimit n
 chip-few =
     by-size (λ (n : ℕ). n * 256 ≤ tickLimit n) (omega arith) (omega arith) (omega arith) (omega arith) (omega arith)
+
+-- two memories that are the same are one
+pub same-is : (m w : Memory) → sameMemory m w ≡ true → m ≡ w
+same-is Array Array e = refl
+same-is Array Rows e = absurd (false≢true e)
+same-is Rows Array e = absurd (false≢true e)
+same-is Rows Rows e = refl

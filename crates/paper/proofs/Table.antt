@@ -1,4 +1,4 @@
--- The lists of codes that the paper prints, read off the command table.
+-- The lists of codes that the paper prints, read off the command table; and what each row of it keeps to.
 use Prim.Native.Nat.{ℕ}
 use mathlib.Core.Path.{_≡_, refl, sym, ap, _∙_}
 use mathlib.Core.List.{List, [], _∷_, _++_}
@@ -11,11 +11,17 @@ use Rattle.types.specs.declared.Decoded.{Decoded}
 use Rattle.types.specs.declared.Decoded.the-variants.{Known, Unknown}
 use Rattle.types.specs.declared.Effect.{Effect}
 use Rattle.types.specs.declared.Effect.the-variants.{Looks, Enables, Disables, Programs, Erases, Writes, Suspends, Resumes, Sleeps, Wakes, Arms, Resets, SetsLive, ClearsErrors, SetsBank, SetsFar}
-use Rattle.words.specs.Logic.{_and_}
+use Rattle.types.specs.declared.Wanted.{Wanted}
+use Rattle.types.specs.declared.Wanted.the-variants.{Any, Running, Halted, Armed}
+use Rattle.types.specs.declared.Phase.{Phase}
+use Rattle.types.specs.declared.Part.{Part}
+use Rattle.words.specs.Logic.{_and_, _or_}
 use Rattle.words.proofs.Tests.{and-l, and-r}
 use Rattle.paper.specs.Sizes.{isLarge}
 use Rattle.paper.specs.Registers.{extadd}
-use Rattle.paper.specs.Table.{Entry, codes, largeCodes, farCodes, lookUp, decoded, columns, takenAsleep, takenBusy, takenSuspended, isRead}
+use Rattle.paper.specs.Table.{Entry, codes, largeCodes, farCodes, codesOn, lookUp, decoded, columns, takenAsleep, takenBusy, takenSuspended, isRead}
+use Rattle.paper.specs.Commands.{errorsOf}
+use Rattle.paper.specs.Numbers.{stateOk}
 
 -- the codes of the entries whose columns pass a test
 abbrev pub codesOf : (Columns → Bool) → List Entry → List ℕ
@@ -182,3 +188,84 @@ bank-large-as n bank c k false l e h =
 pub bank-large : (n bank c : ℕ) (k : Command) → decoded n bank c ≡ Known k → setsBank (columns k .effect) ≡ true → isLarge n ≡ true
 unfolding decoded
 bank-large n bank c k e h = bank-large-as n bank c k (isLarge n) refl e h
+
+-- what a read does: it looks, or wakes
+abbrev looks : Effect → Bool
+looks Looks = true
+looks Enables = false
+looks Disables = false
+looks (Programs m) = false
+looks (Erases u) = false
+looks (Writes r) = false
+looks Suspends = false
+looks Resumes = false
+looks Sleeps = false
+looks Wakes = true
+looks Arms = false
+looks Resets = false
+looks SetsLive = false
+looks ClearsErrors = false
+looks SetsBank = false
+looks (SetsFar far) = false
+
+abbrev readLooks : Command → Bool
+readLooks k = not (isRead (columns k)) or looks (columns k .effect)
+
+looks-all : (far large : Bool) → every readLooks (cond far farCodes [] ++ (codes ++ cond large largeCodes [])) ≡ true
+unfolding _and_ _or_
+looks-all true true = refl
+looks-all true false = refl
+looks-all false true = refl
+looks-all false false = refl
+
+look-or-wake : (Q : Effect → Type 0) → Q Looks → Q Wakes → (e : Effect) → looks e ≡ true → Q e
+look-or-wake Q l w Looks h = l
+look-or-wake Q l w Enables h = absurd (false≢true h)
+look-or-wake Q l w Disables h = absurd (false≢true h)
+look-or-wake Q l w (Programs m) h = absurd (false≢true h)
+look-or-wake Q l w (Erases u) h = absurd (false≢true h)
+look-or-wake Q l w (Writes r) h = absurd (false≢true h)
+look-or-wake Q l w Suspends h = absurd (false≢true h)
+look-or-wake Q l w Resumes h = absurd (false≢true h)
+look-or-wake Q l w Sleeps h = absurd (false≢true h)
+look-or-wake Q l w Wakes h = w
+look-or-wake Q l w Arms h = absurd (false≢true h)
+look-or-wake Q l w Resets h = absurd (false≢true h)
+look-or-wake Q l w SetsLive h = absurd (false≢true h)
+look-or-wake Q l w ClearsErrors h = absurd (false≢true h)
+look-or-wake Q l w SetsBank h = absurd (false≢true h)
+look-or-wake Q l w (SetsFar far) h = absurd (false≢true h)
+
+-- what holds of both, holds of what every read does
+pub of-reads : (Q : Effect → Type 0) → Q Looks → Q Wakes → (n bank c : ℕ) (k : Command) → decoded n bank c ≡ Known k → isRead (columns k) ≡ true → Q (columns k .effect)
+unfolding decoded _or_
+of-reads Q l w n bank c k e h =
+    look-or-wake Q l w (columns k .effect) (rw h at (found readLooks (codesOn n bank) c k (looks-all (extadd bank) (isLarge n)) e))
+
+-- what sets error bits, a program or an erase, wants nothing of the state
+abbrev isAny : Wanted → Bool
+isAny Any = true
+isAny Running = false
+isAny Halted = false
+isAny Armed = false
+
+abbrev wantsNothing : Command → Bool
+wantsNothing k = eqb (errorsOf (columns k .effect)) 0 or isAny (columns k .wanted)
+
+nothing-all : (far large : Bool) → every wantsNothing (cond far farCodes [] ++ (codes ++ cond large largeCodes [])) ≡ true
+unfolding _and_ _or_
+nothing-all true true = refl
+nothing-all true false = refl
+nothing-all false true = refl
+nothing-all false false = refl
+
+any-state : (w : Wanted) (p : Part) (f : Phase) → isAny w ≡ true → stateOk w p f ≡ true
+any-state Any p f h = refl
+any-state Running p f h = absurd (false≢true h)
+any-state Halted p f h = absurd (false≢true h)
+any-state Armed p f h = absurd (false≢true h)
+
+pub write-state : (n bank c : ℕ) (k : Command) (p : Part) (f : Phase) → decoded n bank c ≡ Known k → eqb (errorsOf (columns k .effect)) 0 ≡ false → stateOk (columns k .wanted) p f ≡ true
+unfolding decoded _or_
+write-state n bank c k p f e h =
+    any-state (columns k .wanted) p f (rw h at (found wantsNothing (codesOn n bank) c k (nothing-all (extadd bank) (isLarge n)) e))

@@ -18,6 +18,7 @@ pub mod Protection
 pub mod Suspend
 pub mod History
 pub mod Halted
+pub mod ByPlace
 pub mod CBench
 pub mod Board
 pub mod Bench

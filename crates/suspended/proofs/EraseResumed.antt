@@ -36,7 +36,7 @@ use Rattle.paper.proofs.Table.{Always, known}
 use Rattle.paper.proofs.ManyTicks.{run-record}
 use Rattle.paper.proofs.Answers.{executes, ticks-run}
 use Rattle.paper.proofs.CallKept.{call-sound}
-use Rattle.paper.proofs.EraseBytes.{pages-few, erase-ends}
+use Rattle.paper.proofs.RunToEnd.{call-rests, pages-few}
 use Rattle.history.proofs.Calls.{calls-sound, calls-size, calls-append}
 use Rattle.suspended.specs.Interrupted.{noneReleases, oneByte, interrupted}
 use Rattle.suspended.proofs.HaltedKept.{calls-halted}
@@ -136,9 +136,9 @@ module _ (p : Record) (u : EraseUnit) (b : ℕ) (s : sound p ≡ true) (f : p .p
           let k = unitPages u (p .part .blocks) - d in
           let z = ap (unitPages u) (calls-size all p) in
           let y = ap tickLimit (calls-size all p) in
-          let e = erase-ends (recordAfterCalls all p) u b d k (calls-sound all p s) resumed-phase (omega (arith, z)) (omega (arith, few, y)) in
+          let e = call-rests (recordAfterCalls all p) (Erase u b d) (ap running resumed-phase) (calls-sound all p s) k (omega (arith, z)) (omega (arith, few, y)) (Busy (Erase u b d)) resumed-phase in
           let q = calls-append all (ticks k ∷ []) p in
-          (ap (λ (t : Record). t .phase) q ∙ e .0, ap (λ (t : Record). t .part .wel) q ∙ e .1)
+          (ap (λ (t : Record). t .phase) q ∙ e .phase-is, ap (λ (t : Record). t .part .wel) q ∙ e .latch)
 
       -- and leave FFh in its whole unit, whatever was there
       pub resumed-whole : (m : Memory) (at x : ℕ) → inUnit (Erase u b 0) (p .part .blocks) m at ≡ true

@@ -1,11 +1,11 @@
 -- Over every list of calls the pages that an erase has done hold FFh, while it runs and while it is suspended, however often and whatever runs within; so its whole unit does when it ends.
-use Prim.Native.Nat.{ℕ, zero, suc, _+_, _*_, _≤_, _<_}
-use mathlib.Core.Path.{_≡_, refl, ap, _∙_, subst, subst⁻¹}
+use Prim.Native.Nat.{ℕ, zero, suc, _+_, _-_, _*_, _≤_, _<_}
+use mathlib.Core.Path.{_≡_, refl, sym, ap, _∙_, subst, subst⁻¹}
 use mathlib.Core.Bool.{Bool, true, false, cond, false≢true}
 use mathlib.Core.List.{List, [], _∷_, _++_}
 use native.Mathlib.Omega.{arith}
-use lib.Dec.{eqb, leb, ltb}
-use borrow.Author.Tests.{leb-true, ltb-true, lt-ltb}
+use lib.Dec.{eqb, ltb}
+use borrow.Author.Tests.{leb-true, ltb-true, ltb-false, lt-ltb}
 use Rattle.types.specs.declared.Memory.{Memory}
 use Rattle.types.specs.declared.Addressing.{Addressing}
 use Rattle.types.specs.declared.EraseUnit.{EraseUnit}
@@ -20,7 +20,8 @@ use Rattle.types.specs.declared.Effect.the-variants.{Looks, Enables, Disables, 
 use Rattle.types.specs.declared.Record.{Record}
 use Rattle.types.specs.declared.Ticked.{Ticked}
 use Rattle.words.proofs.Tests.{and-l, and-r, and-in}
-use Rattle.paper.specs.Sizes.{arrayBytes, rowsBytes, sameMemory, pageBytes, tickLimit}
+use Rattle.words.specs.Logic.{_and_}
+use Rattle.paper.specs.Sizes.{arrayBytes, rowsBytes, sameMemory, fromOn, pageBytes, tickLimit}
 use Rattle.paper.specs.Program.{programOf}
 use Rattle.paper.specs.Erase.{memoryOf, unitPages, unitBytes, erasedByte, eraseOf}
 use Rattle.paper.specs.Registers.{writeOf}
@@ -40,7 +41,8 @@ use Rattle.paper.proofs.Kept.{run-sound}
 use Rattle.paper.proofs.TransactionKept.{after-transaction}
 use Rattle.paper.proofs.CallKept.{call-sound}
 use Rattle.paper.proofs.Histories.{bytes-append}
-use Rattle.paper.proofs.EraseBytes.{blank-sets, erase-fills}
+use Rattle.paper.proofs.ByPlace.{from-on}
+use Rattle.paper.proofs.RunToEnd.{call-leaves}
 use Rattle.history.proofs.Calls.{calls-sound, calls-size, bytes-joined}
 use Rattle.suspended.proofs.NestedBytes.{halted-spares}
 
@@ -80,14 +82,29 @@ module _ (m : Memory) (at : ℕ) where
   effect-blank SetsBank a p i x h = h
   effect-blank (SetsFar far) a p i x h = h
 
+  -- a place up to the end of the bytes that an erase with d ticks done sets next holds FFh then, if it did already where it lies before them
+  module _ (u : EraseUnit) (b d k : ℕ) (q : sameMemory m (memoryOf u) ≡ true) (l : b ≤ at) (g : at < b + d * pageBytes + k) where
+    abbrev sets : Bool
+    sets = sameMemory m (memoryOf u) and fromOn (b + d * pageBytes) k at
+
+    lies-before : (t : Bool) → ltb at (b + d * pageBytes) ≡ t → sets ≡ false → inDone (Erase u b d) m at ≡ true
+    lies-before true e f = and-in q (from-on b (d * pageBytes) at l (ltb-true _ _ e))
+    lies-before false e f = absurd (false≢true (sym f ∙ and-in q (from-on (b + d * pageBytes) k at (ltb-false _ _ e) g)))
+
+    set-or-held : (t : Bool) (x : ℕ) → sets ≡ t → (inDone (Erase u b d) m at ≡ true → x ≡ erasedByte) → cond t erasedByte x ≡ erasedByte
+    set-or-held true x e h = refl
+    set-or-held false x e h = h (lies-before (ltb at (b + d * pageBytes)) refl e)
+
+    set-blank : (x : ℕ) → (inDone (Erase u b d) m at ≡ true → x ≡ erasedByte) → cond sets erasedByte x ≡ erasedByte
+    set-blank x h = set-or-held sets x refl h
+
   -- a tick of an erase does one page more
   next-blank : (o : Operation) (g : List ℕ) (x : ℕ) → BlankIn m at x (At o) → BlankIn m at (byteAfter m at (nextTouch o g) x) (At (advancedBy 1 o))
   next-blank (Program w s b k d) g x h t = absurd (false≢true t)
   next-blank (Erase u b d) g x h t =
-      let q : sameMemory m (memoryOf u) ≡ true = and-l _ _ t in
-      let l : leb b at ≡ true = and-l _ _ (and-r _ _ t) in
+      let l : b ≤ at = leb-true _ _ (and-l _ _ (and-r _ _ t)) in
       let r : at < b + (d + 1) * pageBytes = ltb-true _ _ (and-r _ _ (and-r _ _ t)) in
-      blank-sets m (memoryOf u) at (b + d * pageBytes) x (ltb at (b + d * pageBytes)) refl q (λ k. h (and-in q (and-in l (lt-ltb _ _ k)))) (omega arith)
+      set-blank u b d pageBytes (and-l _ _ t) l (omega arith) x h
   next-blank (Write r v) g x h t = absurd (false≢true t)
 
   -- the pages done lie in the unit
@@ -166,6 +183,11 @@ erase-whole m at x cs p u b d n s h f l few i =
     let y = byteAfterAll m at (history cs p) x in
     let z : q .part .blocks ≡ p .part .blocks = calls-size cs p in
     let r : BlankIn m at y (At (Erase u b d)) = subst (BlankIn m at y) (ap running f) (calls-blank m at cs p x s h .0) in
+    let e = ap (unitPages u) z in
+    let k = unitPages u (q .part .blocks) - d in
+    let b0 : b ≤ at = leb-true _ _ (and-l _ _ (and-r _ _ i)) in
+    let b1 : at < b + unitBytes u (p .part .blocks) = ltb-true _ _ (and-r _ _ (and-r _ _ i)) in
     bytes-joined m at cs (ticks n ∷ []) p x
     ∙ bytes-append m at (callTouches (ticks n) q) [] y
-    ∙ erase-fills q u b d n (calls-sound cs p s) f (omega (arith, ap (unitPages u) z, l)) (omega (arith, ap tickLimit z, few)) m at y r (ap (λ (k : ℕ). inUnit (Erase u b d) k m at) z ∙ i)
+    ∙ call-leaves q (Erase u b d) (ap running f) (calls-sound cs p s) n (omega (arith, e, l)) (omega (arith, ap tickLimit z, few)) m at y
+    ∙ set-blank m at u b d (k * pageBytes) (and-l _ _ i) b0 (omega (arith, e, b1)) y r

@@ -43,7 +43,7 @@ use Rattle.paper.proofs.Phases.{phase-halts, other-halts}
 use Rattle.paper.proofs.Table.{codesOf}
 use Rattle.paper.proofs.CallKept.{after-tick-call}
 use Rattle.paper.proofs.Numbers.{command-taken}
-use Rattle.paper.proofs.Nested.{executed-so}
+use Rattle.paper.proofs.Answers.{executed-so}
 use Rattle.suspended.specs.Interrupted.{noneReleases}
 
 -- what is suspended stays so where something goes on, and when it ends

@@ -1,6 +1,6 @@
 -- The bytes of a suspended erase's unit: no program that runs within reaches one, so that they stay over every list of calls none of which lets the erase go.
 use Prim.Native.Nat.{ℕ, zero, suc, _+_, _%_, _≤_, _<_}
-use mathlib.Core.Path.{_≡_, refl, sym, ap, _∙_}
+use mathlib.Core.Path.{_≡_, refl, sym, ap, _∙_, subst}
 use mathlib.Core.Bool.{Bool, true, false, not, cond, false≢true}
 use mathlib.Core.List.{List, [], _∷_}
 use native.Mathlib.Omega.{arith}
@@ -8,7 +8,6 @@ use lib.ListN.{getD}
 use lib.Dec.{eqb}
 use borrow.Author.Tests.{eqb-true, leb-true, ltb-true, le-leb, lt-ltb, not-true}
 use Rattle.types.specs.declared.Memory.{Memory}
-use Rattle.types.specs.declared.Memory.the-variants.{Array, Rows}
 use Rattle.types.specs.declared.EraseUnit.{EraseUnit}
 use Rattle.types.specs.declared.EraseUnit.the-variants.{Sector, Block32, Block64, Chip, Row}
 use Rattle.types.specs.declared.Operation.{Operation}
@@ -29,6 +28,7 @@ use Rattle.paper.specs.Soundness.{sound}
 use Rattle.paper.specs.Ticks.{recordAfter, touchAt, touchOf}
 use Rattle.paper.specs.Calls.{ticked}
 use Rattle.paper.specs.History.{Call, transaction, ticks, recordAfterCall, tickTouches, callTouches, history, byteAfter, byteAfterAll}
+use Rattle.paper.proofs.Sizes.{same-is}
 use Rattle.paper.proofs.Phases.{no-work-at, at-same}
 use Rattle.paper.proofs.Soundness.{InOrder, in-order, InNest, in-nest, sound-in}
 use Rattle.paper.proofs.Kept.{run-sound, run-size}
@@ -46,12 +46,6 @@ page-within Block64 n b c at s e f l h x y = (omega arith, omega arith)
 page-within Chip n b c at s e f l h x y = absurd (false≢true s)
 page-within Row n b c at s e f l h x y = absurd (false≢true s)
 
-same-trans : (m w v : Memory) → sameMemory m w ≡ true → sameMemory m v ≡ true → sameMemory w v ≡ true
-same-trans Array Array v e f = f
-same-trans Array Rows v e f = absurd (false≢true e)
-same-trans Rows Array v e f = absurd (false≢true e)
-same-trans Rows Rows v e f = f
-
 -- a program in order, in a page outside of a unit, writes next outside of it
 module _ (n : ℕ) (g : Stored) (m : Memory) (at : ℕ) where
   reached-in : (u : EraseUnit) (b d : ℕ) (w : Memory) (c s k j : ℕ) → unitSuspends u ≡ true → InOrder (Erase u b d) n g → InOrder (Program w s c k j) n g
@@ -62,7 +56,7 @@ module _ (n : ℕ) (g : Stored) (m : Memory) (at : ℕ) where
       let l : b ≤ at = leb-true _ _ (and-l _ _ (and-r _ _ i)) in
       let h : at < b + unitBytes u n = ltb-true _ _ (and-r _ _ (and-r _ _ i)) in
       let r = page-within u n b c at f (eqb-true _ _ (x .begins)) (eqb-true _ _ (y .begins)) (omega (arith, q)) (omega (arith, q)) l h in
-      and-in (same-trans m w (memoryOf u) (and-l _ _ t) (and-l _ _ i)) (and-in (le-leb _ _ (r .0)) (lt-ltb _ _ (r .1)))
+      and-in (subst (λ (z : Memory). sameMemory z (memoryOf u) ≡ true) (same-is m w (and-l _ _ t)) (and-l _ _ i)) (and-in (le-leb _ _ (r .0)) (lt-ltb _ _ (r .1)))
 
   spared-next : (e o : Operation) (d : List ℕ) (x : ℕ) → InNest e o n → InOrder e n g → InOrder o n g → inUnit e n m at ≡ true → byteAfter m at (nextTouch o d) x ≡ x
   spared-next (Program w s b k c) o d x a y z i = absurd (false≢true i)

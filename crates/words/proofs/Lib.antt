@@ -3,3 +3,4 @@ pub mod Lists
 pub mod Zeros
 pub mod Allowed
 pub mod Tight
+pub mod Bits

@@ -4,7 +4,7 @@ use native.Mathlib.Omega.{arith}
 use denote.Ref.{now}
 use borrow.Author.Needs.{needs}
 use Rattle.types.specs.declared.Memory.the-variants.{Array, Rows}
-use Rattle.paper.proofs.EraseRun.{erase-other}
+use Rattle.paper.proofs.ManyTicks.{erase-other}
 use Rattle.paper.specs.Erase.{memoryOf}
 use Rattle.ticks.proofs.OneMemory.{ran-erase, ran-program, ran-program-not, ran-write}
 use Rattle.ticks.proofs.touch.Statement.{statement}
