@@ -51,7 +51,7 @@ static void tell_tick(const struct call *call)
 
 static void tell(const struct call *call)
 {
-    printf("whole: %s, seed %llu, %u blocks, call %llu:\n  ", run_name, (unsigned long long)run_seed,
+    printf("%s: %s, seed %llu, %u blocks, call %llu:\n  ", program_name, run_name, (unsigned long long)run_seed,
            (unsigned)run_blocks, (unsigned long long)run_calls);
     switch (call->kind) {
     case POWER_UP:
@@ -70,7 +70,7 @@ static void end_differing(void) __attribute__((noreturn));
 
 static void end_differing(void)
 {
-    printf("whole: %llu calls compared, 1 difference\n", (unsigned long long)calls);
+    printf("%s: %llu calls compared, 1 difference\n", program_name, (unsigned long long)calls);
     exit(1);
 }
 
@@ -81,9 +81,7 @@ void fail(const struct call *call, const char *what, uint64_t expected, uint64_t
     end_differing();
 }
 
-static void fail_result(const struct call *call, uint64_t expected, uint64_t got) __attribute__((noreturn));
-
-static void fail_result(const struct call *call, uint64_t expected, uint64_t got)
+void fail_result(const struct call *call, uint64_t expected, uint64_t got)
 {
     tell(call);
     printf("  the result: expected number %llu and %llu, got number %llu and %llu\n",
@@ -145,8 +143,7 @@ static void make_side(struct side *side, int which, uint64_t seed)
     side->output = place_in(output[which], MESSAGE_ROOM, number_below(&chance, SKEWS));
 }
 
-/* Fills one of the stored memories: with FFh, or with any bytes. */
-static void fill(uint8_t *bytes, size_t length, struct chance *chance)
+void fill(uint8_t *bytes, size_t length, struct chance *chance)
 {
     size_t i;
     uint64_t number;
@@ -160,11 +157,16 @@ static void fill(uint8_t *bytes, size_t length, struct chance *chance)
     }
 }
 
+void name_run(const char *name)
+{
+    run_name = name;
+}
+
 void begin_run(const char *name, uint64_t seed, uint32_t blocks)
 {
     struct chance chance = {seed};
 
-    run_name = name;
+    name_run(name);
     run_seed = seed;
     run_calls = 0;
     run_blocks = blocks;
@@ -282,8 +284,7 @@ static size_t reach_of(const struct operation *op)
     }
 }
 
-/* The places from `from` on, with a page on each side of them as far as there is one. */
-static void same_places(const struct call *call, size_t from, size_t length)
+void same_places(const struct call *call, size_t from, size_t length)
 {
     size_t to = from + length + REF_PAGE;
 

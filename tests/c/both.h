@@ -40,7 +40,8 @@ struct side {
     uint8_t *record, *array, *rows, *input, *output;
 };
 
-/* The reference's side keeps the record's bytes as they were before the call. */
+/* The reference's side keeps the record's bytes as they were before the call. Where all calls are made of the model
+ * alone, the two sides are two parts: see laws.c. */
 extern struct side model, reference;
 
 /* The reference's record. Its size is 0 as long as there was no power-up: the record's bytes are then junk. */
@@ -51,9 +52,16 @@ extern uint8_t message[MESSAGE_ROOM];
 /* How many calls were made of the model and compared. */
 extern uint64_t calls;
 
+/* What the program calls itself in a report. Each program has its own. */
+extern const char *const program_name;
+
 /* Begins a run of calls: array and rows made of the seed, and junk for a record. A run does the same whatever ran
- * before it. `name` says in a report what run it is. */
+ * before it. `name` says in a report what run it is; name_run gives it another one for what follows. */
 void begin_run(const char *name, uint64_t seed, uint32_t blocks);
+void name_run(const char *name);
+
+/* Fills stored bytes: with FFh, or with any. */
+void fill(uint8_t *bytes, size_t length, struct chance *chance);
 
 /* Asks for no ticks, and compares all memory. */
 void end_run(void);
@@ -80,8 +88,12 @@ void same_memory(const struct call *call);
 /* The same, but of 512 blocks only another few pages each time. */
 void same_memory_in_part(const struct call *call);
 
+/* The same of the array's places from `from` on, with a page on each side of them as far as there is one. */
+void same_places(const struct call *call, size_t from, size_t length);
+
 /* Tells the call and ends the program. */
 void fail(const struct call *call, const char *what, uint64_t expected, uint64_t got) __attribute__((noreturn));
+void fail_result(const struct call *call, uint64_t expected, uint64_t got) __attribute__((noreturn));
 
 /* ---- The runs. ---- */
 

@@ -12,6 +12,8 @@
 
 extern int printf(const char *format, ...) __attribute__((format(printf, 1, 2)));
 
+const char *const program_name = "whole";
+
 #define CALLS_OF_A_SEED 800u
 #define LAST_SEED 250u
 

@@ -10,7 +10,6 @@
 
 enum mood { DRIVING, GUARDING, ROWING, PAUSING, STUMBLING, MOODS };
 
-static struct chance chance;
 static struct limits limits;
 static uint8_t locks;
 
@@ -29,33 +28,6 @@ static bool is_large(void)
 uint32_t traffic_ticks_most(void)
 {
     return is_large() ? 131072 : 4096;
-}
-
-/* ---- Chance ---- */
-
-uint32_t below(uint32_t limit)
-{
-    return number_below(&chance, limit);
-}
-
-uint32_t between(uint32_t least, uint32_t most)
-{
-    return least + below(most - least + 1);
-}
-
-bool one_in(uint32_t n)
-{
-    return below(n) == 0;
-}
-
-uint8_t any_byte(void)
-{
-    return (uint8_t)below(256);
-}
-
-uint8_t pick_byte(const uint8_t *list, size_t count)
-{
-    return list[below((uint32_t)count)];
 }
 
 static uint32_t lesser(uint32_t a, uint32_t b)
@@ -1267,7 +1239,7 @@ void allow_locks(uint8_t bits)
 
 void begin_traffic(uint64_t seed, const struct limits *given)
 {
-    chance.state = seed;
+    begin_draws(seed);
     limits = *given;
     locks = 0;
     believed = 0;

@@ -16,7 +16,7 @@
 #include <stddef.h>
 #include <stdint.h>
 
-#include "chance.h"
+#include "draws.h"
 
 #define TRAFFIC_MOST 4096u /* bytes in a message */
 
@@ -36,6 +36,7 @@ void traffic_strange(void);
 
 /* ---- The traffic ---- */
 
+/* Begins the draws too: the traffic is made of them. */
 void begin_traffic(uint64_t seed, const struct limits *limits);
 void begin_chapter(void);
 void play_scene(void);
@@ -50,12 +51,5 @@ void allow_locks(uint8_t bits);
 
 void send_code(uint8_t code);
 void unprotect(void);
-
-/* Draws, from the numbers that the traffic is made of. */
-uint32_t below(uint32_t limit);
-uint32_t between(uint32_t least, uint32_t most);
-bool one_in(uint32_t n);
-uint8_t any_byte(void);
-uint8_t pick_byte(const uint8_t *list, size_t count);
 
 #endif
