@@ -20,12 +20,12 @@ use Rattle.laws.specs.Waiting.{allWait}
 use Rattle.laws.specs.Writes.{Kind, program, erase, Write, opening, steps, begunBy, OfKind, Fitting, Whole, Rested, Makes, placeOf, dataOf, inPageOf, inUnitOf, memoryIn, Done}
 
 -- two writes, one after the other: where each of them leads, and what it does
-pub record BothDone (b : Board) (d : Kind) (v : Write) (f : Kind) (w : Write) (c : Board) : Type 0 where
+pub record BothDone (b : Board) (first : Kind) (v : Write) (second : Kind) (w : Write) (c : Board) : Type 0 where
   pub between : Board
   pub leads : Makes b (steps v) between
-  pub does : Done b d v between
+  pub does : Done b first v between
   pub leads-on : Makes between (steps w) c
-  pub does-then : Done between f w c
+  pub does-then : Done between second w c
 
 -- the calls of writes, one after the other
 abbrev pub allSteps : List Write → List Call
@@ -35,36 +35,36 @@ allSteps (w ∷ ws) = steps w ++ allSteps ws
 -- writes each of which is taken and run to the end, and passes a test
 pub data AllWhole (p : Record) (Q : Kind → Write → Type 0) : List Write → Type 0 where
   none : AllWhole p Q []
-  more : {w : Write} {ws : List Write} (d : Kind) → Whole p d w → Q d w → AllWhole p Q ws → AllWhole p Q (w ∷ ws)
+  more : {w : Write} {ws : List Write} (kind : Kind) → Whole p kind w → Q kind w → AllWhole p Q ws → AllWhole p Q (w ∷ ws)
 
 -- the test that every write passes
 abbrev pub Any : Kind → Write → Type 0
-Any d w = Unit {0}
+Any kind w = Unit {0}
 
 -- "executed": after 06h and checks an idle, awake part executes exactly the inputs of a kind that fit it
 abbrev pub FitsExactly : Type 0
 FitsExactly =
-    (b : Board) (d : Kind) (w : Write) → Rested b → OfKind (b .state .part .blocks) (b .state .part .bank) d (w .input) → allWait (b .state .part .blocks) (b .state .part .bank) (w .checks) ≡ true
-    → (answerTo (afterCalls (opening w) b) (w .sentAt) (w .input) (length (w .input)) .number ≡ 0) ↔ Fitting (b .state) d (w .input)
+    (b : Board) (kind : Kind) (w : Write) → Rested b → OfKind (b .state .part .blocks) (b .state .part .bank) kind (w .input) → allWait (b .state .part .blocks) (b .state .part .bank) (w .checks) ≡ true
+    → (answerTo (afterCalls (opening w) b) (w .sentAt) (w .input) (length (w .input)) .number ≡ 0) ↔ Fitting (b .state) kind (w .input)
 
 -- the plainest write: 06h, the command, and one tick call of as many ticks as the operation takes
 abbrev pub plainly : Record → Kind → Bool → Bool → List ℕ → Write
-plainly p d first second i =
-    record { enabledAt = first; checks = []; sentAt = second; input = i; wait = ticks (ticksInAll (begunBy p d i) (p .part .blocks)) ∷ [] }
+plainly p kind first second i =
+    record { enabledAt = first; checks = []; sentAt = second; input = i; wait = ticks (ticksInAll (begunBy p kind i) (p .part .blocks)) ∷ [] }
 
 -- it is whole where its input fits: no operation takes more ticks than a call may ask
 abbrev pub PlainlyWhole : Type 0
 PlainlyWhole =
-    (p : Record) (d : Kind) (first second : Bool) (i : List ℕ) → sound p ≡ true → p .phase ≡ Idle → p .part .asleep ≡ false → Fitting p d i → Whole p d (plainly p d first second i)
+    (p : Record) (kind : Kind) (first second : Bool) (i : List ℕ) → sound p ≡ true → p .phase ≡ Idle → p .part .asleep ≡ false → Fitting p kind i → Whole p kind (plainly p kind first second i)
 
 -- a whole write leaves what its kind says
 abbrev pub WritesDo : Type 0
-WritesDo = (b e : Board) (d : Kind) (w : Write) → Rested b → Whole (b .state) d w → Makes b (steps w) e → Done b d w e
+WritesDo = (b e : Board) (kind : Kind) (w : Write) → Rested b → Whole (b .state) kind w → Makes b (steps w) e → Done b kind w e
 
 -- and leaves an idle, awake part, on which every write that was whole before still is: writes can follow one another
 pub record AsBefore (b e : Board) : Type 0 where
   pub rested : Rested e
-  pub whole : (d : Kind) (w : Write) → Whole (b .state) d w → Whole (e .state) d w
+  pub whole : (kind : Kind) (w : Write) → Whole (b .state) kind w → Whole (e .state) kind w
 
 abbrev pub WritesFollow : Type 0
 WritesFollow = (b e : Board) (ws : List Write) → Rested b → AllWhole (b .state) Any ws → Makes b (allSteps ws) e → AsBefore b e

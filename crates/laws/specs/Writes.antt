@@ -23,16 +23,15 @@ use Rattle.words.specs.Logic.{_and_}
 use Rattle.paper.specs.Sizes.{arrayBytes, rowsBytes, pageBytes, transactionLimit, sameMemory, fromOn}
 use Rattle.paper.specs.Address.{placeIn}
 use Rattle.paper.specs.Program.{pageBase, pagePlace, dataSent, keptCount, passedCount, noData, programOf, narrowedByte}
-use Rattle.paper.specs.Erase.{memoryOf, unitBytes, unitBase, erasedByte, eraseOf}
+use Rattle.paper.specs.Erase.{memoryOf, unitBase, erasedByte, eraseOf}
 use Rattle.paper.specs.Records.{settled}
 use Rattle.paper.specs.Operations.{ticksInAll, targetFree, inUnit}
 use Rattle.paper.specs.Soundness.{sound}
 use Rattle.paper.specs.Table.{decoded, columns, addressing, lengthOk}
 use Rattle.paper.specs.Commands.{unarmed}
 use Rattle.paper.specs.Numbers.{addressOk}
-use Rattle.paper.specs.Calls.{transacted}
 use Rattle.paper.specs.ByPlace.{byteFor}
-use Rattle.paper.specs.History.{Call, transaction}
+use Rattle.paper.specs.History.{Call, transaction, oneByte}
 use Rattle.paper.specs.Board.{Board, answerTo, afterCalls}
 use Rattle.history.specs.Run.{Run}
 use Rattle.laws.specs.Waiting.{allWait, ticksGiven}
@@ -62,7 +61,7 @@ pub record Write : Type 0 where
 
 -- 06h
 abbrev pub enable : Bool → Call
-enable wp = transaction wp (0x06 ∷ []) 1
+enable wp = oneByte wp 0x06
 
 -- 06h and the checks
 abbrev pub opening : Write → List Call
@@ -82,29 +81,29 @@ sentAs p i = addressingBy (decoded (p .part .blocks) (p .part .bank) (getD i 0 0
 
 -- the operation that an input begins on a part
 abbrev pub begunBy : Record → Kind → List ℕ → Operation
-begunBy p d i = operationOf d (sentAs p i) (p .part .blocks) i
+begunBy p kind i = operationOf kind (sentAs p i) (p .part .blocks) i
 
 -- an input of a kind, for a part of n blocks under a bank register: its first byte is the code of such a command
-pub record OfKind (n bank : ℕ) (d : Kind) (i : List ℕ) : Type 0 where
+pub record OfKind (n bank : ℕ) (kind : Kind) (i : List ℕ) : Type 0 where
   pub command : Command
   pub known : decoded n bank (getD i 0 0) ≡ Known command
-  pub does : columns command .effect ≡ effectOf d
+  pub does : columns command .effect ≡ effectOf kind
 
 -- it fits the part: it has 1 to 4,096 bytes, its length and its address are right, and its page, row or unit is unprotected or unlocked. CER needs a BP code of 0
-pub record Fitting (p : Record) (d : Kind) (i : List ℕ) : Type 0 where
-  pub code : OfKind (p .part .blocks) (p .part .bank) d i
+pub record Fitting (p : Record) (kind : Kind) (i : List ℕ) : Type 0 where
+  pub code : OfKind (p .part .blocks) (p .part .bank) kind i
   pub some : 1 ≤ length i
   pub most : length i ≤ transactionLimit
   pub right-length : lengthOk (columns (code .command) .length) (length i) ≡ true
   pub right-address : addressOk (columns (code .command) .named) (sentAs p i) i ≡ true
-  pub free-target : targetFree (begunBy p d i) (p .part .blocks) (p .part .stored) ≡ true
+  pub free-target : targetFree (begunBy p kind i) (p .part .blocks) (p .part .stored) ≡ true
 
 -- a write that is taken and run to the end: its input fits, its checks and its wait only wait, and the wait gives as many ticks as the operation takes, or more
-pub record Whole (p : Record) (d : Kind) (w : Write) : Type 0 where
-  pub fitting : Fitting p d (w .input)
+pub record Whole (p : Record) (kind : Kind) (w : Write) : Type 0 where
+  pub fitting : Fitting p kind (w .input)
   pub checks-wait : allWait (p .part .blocks) (p .part .bank) (w .checks) ≡ true
   pub wait-waits : allWait (p .part .blocks) (p .part .bank) (w .wait) ≡ true
-  pub enough : ticksInAll (begunBy p d (w .input)) (p .part .blocks) ≤ ticksGiven (p .part .blocks) (w .wait)
+  pub enough : ticksInAll (begunBy p kind (w .input)) (p .part .blocks) ≤ ticksGiven (p .part .blocks) (w .wait)
 
 -- an idle, awake part of any size, with its own memory
 pub record Rested (b : Board) : Type 0 where
@@ -166,11 +165,11 @@ memoryIn Array b = b .array
 memoryIn Rows b = b .rows
 
 -- what a whole write does: 06h and the command are executed; the part is idle then, WEL is 0, and its record is at rest; each byte of array and rows is what a write of the kind leaves
-pub record Done (b : Board) (d : Kind) (w : Write) (e : Board) : Type 0 where
+pub record Done (b : Board) (kind : Kind) (w : Write) (e : Board) : Type 0 where
   pub enabled : answerTo b (w .enabledAt) (0x06 ∷ []) 1 .number ≡ 0
   pub executed : answerTo (afterCalls (opening w) b) (w .sentAt) (w .input) (length (w .input)) .number ≡ 0
   pub idle : e .state .phase ≡ Idle
   pub latch : e .state .part .wel ≡ false
   pub rest : e .state ≡ atRest (b .state)
   pub lengths : (m : Memory) → length (memoryIn m e) ≡ length (memoryIn m b)
-  pub bytes : (m : Memory) (at : ℕ) → at < length (memoryIn m b) → getD (memoryIn m e) at 0 ≡ byteWritten (b .state) d (w .input) m at (getD (memoryIn m b) at 0)
+  pub bytes : (m : Memory) (at : ℕ) → at < length (memoryIn m b) → getD (memoryIn m e) at 0 ≡ byteWritten (b .state) kind (w .input) m at (getD (memoryIn m b) at 0)

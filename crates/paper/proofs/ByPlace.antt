@@ -21,10 +21,10 @@ use Rattle.paper.specs.Sizes.{sameMemory, fromOn, pageBytes}
 use Rattle.paper.specs.Program.{pagePlace, narrowedByte}
 use Rattle.paper.specs.Erase.{memoryOf, erasedByte}
 use Rattle.paper.specs.Phases.{running}
-use Rattle.paper.specs.Operations.{ticksInAll, ticksDone, advancedBy, Touch, narrow, blank, nextTouch}
+use Rattle.paper.specs.Operations.{ticksInAll, ticksDone, ticksLeft, advancedBy, Touch, narrow, blank, nextTouch}
 use Rattle.paper.specs.Ticks.{recordAfter, touchOf}
 use Rattle.paper.specs.History.{tickTouches, byteAfter, byteAfterAll}
-use Rattle.paper.specs.ByPlace.{byteFor, byteRan, ticksLeft, byteEnded}
+use Rattle.paper.specs.ByPlace.{byteFor, byteRan, byteEnded}
 use Rattle.paper.proofs.Soundness.{InOrder}
 use Rattle.paper.proofs.ManyTicks.{run-touch, run-past, past-touch}
 use Rattle.paper.proofs.Histories.{bytes-append}
@@ -35,6 +35,14 @@ from-on b k at l h = and-in (le-leb _ _ l) (lt-ltb _ _ h)
 
 pub on-from : (b k at : ℕ) → fromOn b k at ≡ true → (b ≤ at) × (at < b + k)
 on-from b k at h = (leb-true _ _ (and-l _ _ h), ltb-true _ _ (and-r _ _ h))
+
+-- of k places and size more behind them, one that is none of those behind is one of the k
+lies-before-as : (a k size at : ℕ) (t : Bool) → ltb at (a + k) ≡ t → a ≤ at → at < a + k + size → fromOn (a + k) size at ≡ false → fromOn a k at ≡ true
+lies-before-as a k size at true e l h f = from-on a k at l (ltb-true _ _ e)
+lies-before-as a k size at false e l h f = absurd (false≢true (sym f ∙ from-on (a + k) size at (ltb-false _ _ e) h))
+
+pub lies-before : (a k size at : ℕ) → a ≤ at → at < a + k + size → fromOn (a + k) size at ≡ false → fromOn a k at ≡ true
+lies-before a k size at = lies-before-as a k size at (ltb at (a + k)) refl
 
 -- a place is narrowed next, or not: it was not before where it is, and stays as it was where it is not
 next-narrowed : (s e f a b : Bool) (x y v : ℕ) → (e ≡ true → (f ≡ true) × (a ≡ false) × (b ≡ true) × (narrowedByte x v ≡ y)) → (e ≡ false → f ≡ true → a ≡ b)
@@ -74,22 +82,18 @@ module _ (m : Memory) (at : ℕ) where
       (λ y. let u = on-from d k t y in from-on d (suc k) t (u .0) (omega (arith, u)))
       (λ y. let u = on-from d (suc k) t y in from-on d k t (u .0) (omega (arith, u, z))))
 
-  -- a place up to the end of a page that does not lie in it lies before it
-  before-it : (c k a : ℕ) (t : Bool) → ltb at c ≡ t → c ≡ a + k → a ≤ at → at < c + pageBytes → fromOn c pageBytes at ≡ false → fromOn a k at ≡ true
-  before-it c k a true e z l h f = from-on a k at l (omega (arith, ltb-true at c e))
-  before-it c k a false e z l h f = absurd (false≢true (sym f ∙ from-on c pageBytes at (ltb-false _ _ e) h))
-
   erase-next : (u : EraseUnit) (b d k : ℕ) (g : List ℕ) (x : ℕ)
       → byteAfter m at (blank (memoryOf u) (b + (d + k) * pageBytes)) (byteRan k (Erase u b d) g m at x) ≡ byteRan (suc k) (Erase u b d) g m at x
   erase-next u b d k g x =
       let a = b + d * pageBytes in
       let c = b + (d + k) * pageBytes in
+      let z : c ≡ a + k * pageBytes = omega arith in
       next-erased (sameMemory m (memoryOf u)) (fromOn c pageBytes at) (fromOn a (k * pageBytes) at) (fromOn a (suc k * pageBytes) at) x
       (λ e. let q = on-from c pageBytes at e in from-on a (suc k * pageBytes) at (omega (arith, q)) (omega (arith, q)))
       (λ e. let q = on-from a (k * pageBytes) at e in from-on a (suc k * pageBytes) at (q .0) (omega (arith, q)))
       (λ e f.
       let q = on-from a (suc k * pageBytes) at e in
-      before-it c (k * pageBytes) a (ltb at c) refl (omega arith) (q .0) (omega (arith, q)) f)
+      lies-before a (k * pageBytes) pageBytes at (q .0) (omega (arith, q)) (sym (ap (λ (y : ℕ). fromOn y pageBytes at) z) ∙ f))
 
   -- of an operation that is in order
   ran-next : (o : Operation) (n : ℕ) (r : Stored) (k : ℕ) (g : List ℕ) (x : ℕ) → InOrder o n r → ticksDone o + k < ticksInAll o n

@@ -24,7 +24,7 @@ use Rattle.paper.specs.Erase.{memoryOf}
 use Rattle.paper.specs.Registers.{storedAfter}
 use Rattle.paper.specs.Phases.{running, workIs, anyOperation, workingOn, restOf}
 use Rattle.paper.specs.Records.{made}
-use Rattle.paper.specs.Operations.{ticksInAll, ticksDone, advancedBy, Touch, none, nextTouch, touched}
+use Rattle.paper.specs.Operations.{ticksInAll, ticksDone, ticksLeft, advancedBy, Touch, none, nextTouch, touched}
 use Rattle.paper.specs.Ticks.{finished, advanced, worked, tickedAt, tickOnce, touchAt, touchOf, works, recordAfter, memoryAfter, workingTicks, ran}
 use Rattle.paper.proofs.Phases.{other-runs, other-again, other-same}
 use Rattle.paper.proofs.Soundness.{recordOf}
@@ -143,32 +143,32 @@ module _ (p : Record) (o : Operation) (e : running (p .phase) ≡ At o) where
 
   -- n ticks, of which k find something left to do
   pub record Ran (n k : ℕ) : Type 0 where
-    pub next : recordAfter n p ≡ cond (eqb k (ticksInAll o (p .part .blocks) - ticksDone o)) (finished p o) (advanced p (advancedBy k o))
+    pub next : recordAfter n p ≡ cond (eqb k (ticksLeft o (p .part .blocks))) (finished p o) (advanced p (advancedBy k o))
     pub memory : (m : Memory) (xs : List ℕ) → memoryAfter m n p xs ≡ ran m k o (p .page) xs
     pub done : workingTicks n p ≡ k
 
   ran-short : (n : ℕ) → ticksDone o + n < ticksInAll o (p .part .blocks) → Ran n n
   ran-short n h =
-      let l : n ≡ ticksInAll o (p .part .blocks) - ticksDone o → ⊥ = λ q. omega arith in
+      let l : n ≡ ticksLeft o (p .part .blocks) → ⊥ = λ q. omega arith in
       record { next = rw (ne-eqb _ _ l) (run-record n h); memory = λ m xs. run-memory m xs n (omega arith); done = run-works n (omega arith) }
 
   ran-whole : (k j : ℕ) → ticksDone o + suc k ≡ ticksInAll o (p .part .blocks) → Ran (suc k + j) (suc k)
   ran-whole k j h =
-      let l : suc k ≡ ticksInAll o (p .part .blocks) - ticksDone o = omega arith in
+      let l : suc k ≡ ticksLeft o (p .part .blocks) = omega arith in
       record { next = rw (eq-eqb _ _ l) (run-past k j h); memory = λ m xs. run-memory-past m xs k j h; done = run-works-past k j h }
 
-  ran-by : (n k : ℕ) (t : Bool) → ltb n (ticksInAll o (p .part .blocks) - ticksDone o) ≡ t → ticksDone o < ticksInAll o (p .part .blocks) → k ≡ min n (ticksInAll o (p .part .blocks) - ticksDone o) → Ran n k
+  ran-by : (n k : ℕ) (t : Bool) → ltb n (ticksLeft o (p .part .blocks)) ≡ t → ticksDone o < ticksInAll o (p .part .blocks) → k ≡ min n (ticksLeft o (p .part .blocks)) → Ran n k
   ran-by n k true q g e =
-      let h : n < ticksInAll o (p .part .blocks) - ticksDone o = ltb-true _ _ q in
+      let h : n < ticksLeft o (p .part .blocks) = ltb-true _ _ q in
       let w : k ≡ n = omega arith in
       rw w (ran-short n (omega arith))
   ran-by n k false q g e =
-      let h : ticksInAll o (p .part .blocks) - ticksDone o ≤ n = ltb-false _ _ q in
+      let h : ticksLeft o (p .part .blocks) ≤ n = ltb-false _ _ q in
       let l : k ≡ suc (k - 1) = omega arith in
       let w : n ≡ suc (k - 1) + (n - k) = omega arith in
       subst⁻¹ (λ (x : ℕ). Ran x k) w (subst⁻¹ (λ (x : ℕ). Ran (suc (k - 1) + (n - k)) x) l (ran-whole (k - 1) (n - k) (omega arith)))
 
-  pub ran-all : (n k : ℕ) → ticksDone o < ticksInAll o (p .part .blocks) → k ≡ min n (ticksInAll o (p .part .blocks) - ticksDone o) → Ran n k
+  pub ran-all : (n k : ℕ) → ticksDone o < ticksInAll o (p .part .blocks) → k ≡ min n (ticksLeft o (p .part .blocks)) → Ran n k
   ran-all n k g e = ran-by n k _ refl g e
 
 -- a part on which nothing runs: ticks change nothing and do no work

@@ -21,9 +21,9 @@ use Rattle.paper.specs.Erase.{unitPages}
 use Rattle.paper.specs.Phases.{running, restOf}
 use Rattle.paper.specs.Soundness.{sound}
 use Rattle.paper.specs.Ticks.{finished, recordAfter}
-use Rattle.paper.specs.Operations.{ticksInAll}
+use Rattle.paper.specs.Operations.{ticksInAll, ticksLeft}
 use Rattle.paper.specs.History.{ticks, recordAfterCall, tickTouches, reachedBy, callTouches, byteAfterAll}
-use Rattle.paper.specs.ByPlace.{ticksLeft, byteEnded}
+use Rattle.paper.specs.ByPlace.{byteEnded}
 use Rattle.paper.proofs.Soundness.{InOrder, running-in-order}
 use Rattle.paper.proofs.ManyTicks.{run-past}
 use Rattle.paper.proofs.Sizes.{limit-range, chip-few}

@@ -10,7 +10,7 @@ use Rattle.words.specs.Logic.{_and_}
 use Rattle.paper.specs.Sizes.{sameMemory, fromOn, pageBytes}
 use Rattle.paper.specs.Program.{narrowedByte}
 use Rattle.paper.specs.Erase.{memoryOf, erasedByte}
-use Rattle.paper.specs.Operations.{ticksInAll, ticksDone}
+use Rattle.paper.specs.Operations.{ticksLeft}
 
 -- which byte of a program falls at the place j of its page, if byte 0 falls at the place s: each next one falls a place further, and past the last byte at the page's start
 abbrev pub byteFor : ℕ → ℕ → ℕ
@@ -26,10 +26,6 @@ byteRan k (Erase u b d) g m at x =
     cond (sameMemory m (memoryOf u) and fromOn (b + d * pageBytes) (k * pageBytes) at) erasedByte x
 byteRan k (Write r v) g m at x = x
 
--- its ticks that are left, on a part of n blocks
-abbrev pub ticksLeft : Operation → ℕ → ℕ
-ticksLeft o n = ticksInAll o n - ticksDone o
-
--- and the byte after all of them: the operation has run to its end
+-- and after all that are left, on a part of n blocks: the operation has run to its end
 abbrev pub byteEnded : Operation → ℕ → List ℕ → Memory → ℕ → ℕ → ℕ
 byteEnded o n g m at x = byteRan (ticksLeft o n) o g m at x

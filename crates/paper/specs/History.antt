@@ -1,5 +1,5 @@
 -- Demand 3's history, worked out from the power-up values, the inputs and the pin levels alone: no definition here takes the array or the rows.
-use Prim.Native.Nat.{ℕ, zero, suc, _+_}
+use Prim.Native.Nat.{ℕ, zero, suc}
 use mathlib.Core.List.{List, [], _∷_, _++_}
 use mathlib.Core.Bool.{Bool, true, not, cond}
 use lib.ListN.{length}
@@ -22,6 +22,10 @@ use Rattle.paper.specs.Calls.{poweredUp, transacted, ticked}
 pub data Call : Type 0 where
   transaction : Bool → List ℕ → ℕ → Call
   ticks : ℕ → Call
+
+-- a transaction of one byte
+abbrev pub oneByte : Bool → ℕ → Call
+oneByte wp c = transaction wp (c ∷ []) 1
 
 -- the record after a call, with the part's own memory lent
 abbrev pub recordAfterCall : Call → Record → Record

@@ -1,5 +1,5 @@
 -- An operation: its target, its ticks, and what its next tick reaches. Soundness, commands, ticks and history cite these.
-use Prim.Native.Nat.{ℕ, _+_, _*_, _/_}
+use Prim.Native.Nat.{ℕ, _+_, _-_, _*_, _/_}
 use mathlib.Core.List.{List}
 use mathlib.Core.Bool.{Bool, true, false, not, cond}
 use lib.ListN.{getD}
@@ -30,6 +30,10 @@ abbrev pub ticksDone : Operation → ℕ
 ticksDone (Program m s b k d) = d
 ticksDone (Erase u b d) = d
 ticksDone (Write r v) = 0
+
+-- and its ticks that are left
+abbrev pub ticksLeft : Operation → ℕ → ℕ
+ticksLeft o n = ticksInAll o n - ticksDone o
 
 -- the operation with t ticks more done
 abbrev pub advancedBy : ℕ → Operation → Operation

@@ -11,17 +11,17 @@ use Rattle.words.specs.Logic.{_and_}
 use Rattle.paper.specs.Sizes.{arrayBytes, rowsBytes}
 use Rattle.paper.specs.Registers.{storedBits}
 use Rattle.paper.specs.Calls.{poweredUp, transacted}
-use Rattle.paper.specs.History.{Call, transaction, recordAfterCall, recordAfterCalls, history, standsAside}
+use Rattle.paper.specs.History.{Call, oneByte, recordAfterCall, recordAfterCalls, history, standsAside}
 
 -- ABh, 66h and 99h as one-byte transactions
 abbrev pub wake : Bool → Call
-wake wp = transaction wp (0xAB ∷ []) 1
+wake wp = oneByte wp 0xAB
 
 abbrev pub arm : Bool → Call
-arm wp = transaction wp (0x66 ∷ []) 1
+arm wp = oneByte wp 0x66
 
 abbrev pub reset : Bool → Call
-reset wp = transaction wp (0x99 ∷ []) 1
+reset wp = oneByte wp 0x99
 
 -- calls of which none is an executed or ignored transaction, each at the record that it is given
 abbrev pub allAside : List Call → Record → Bool

@@ -28,7 +28,7 @@ use Rattle.paper.specs.Soundness.{sound}
 use Rattle.paper.specs.Table.{columns, addressingOn}
 use Rattle.paper.specs.Commands.{unarmed}
 use Rattle.paper.specs.Numbers.{commandNumber, ignoredNumber}
-use Rattle.paper.specs.History.{Call, ticks, recordAfterCall, recordAfterCalls, history, byteAfterAll}
+use Rattle.paper.specs.History.{Call, ticks, oneByte, recordAfterCall, recordAfterCalls, history, byteAfterAll}
 use Rattle.paper.specs.Halted.{inDone, DoneBlank}
 use Rattle.paper.proofs.Phases.{no-work-at, at-same}
 use Rattle.paper.proofs.Soundness.{recordOf, sound-parts, sound-in}
@@ -38,7 +38,7 @@ use Rattle.paper.proofs.Answers.{executes, ticks-run}
 use Rattle.paper.proofs.CallKept.{call-sound}
 use Rattle.paper.proofs.RunToEnd.{call-rests, pages-few}
 use Rattle.history.proofs.Calls.{calls-sound, calls-size, calls-append}
-use Rattle.suspended.specs.Interrupted.{noneReleases, oneByte, interrupted}
+use Rattle.suspended.specs.Interrupted.{noneReleases, interrupted}
 use Rattle.suspended.proofs.HaltedKept.{calls-halted}
 use Rattle.suspended.proofs.ErasedPages.{begun-blank, erase-whole}
 

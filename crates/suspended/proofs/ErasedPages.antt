@@ -1,11 +1,11 @@
 -- Over every list of calls the pages that an erase has done hold FFh, while it runs and while it is suspended, however often and whatever runs within; so its whole unit does when it ends.
 use Prim.Native.Nat.{ℕ, zero, suc, _+_, _-_, _*_, _≤_, _<_}
-use mathlib.Core.Path.{_≡_, refl, sym, ap, _∙_, subst, subst⁻¹}
+use mathlib.Core.Path.{_≡_, refl, ap, _∙_, subst, subst⁻¹}
 use mathlib.Core.Bool.{Bool, true, false, cond, false≢true}
 use mathlib.Core.List.{List, [], _∷_, _++_}
 use native.Mathlib.Omega.{arith}
 use lib.Dec.{eqb, ltb}
-use borrow.Author.Tests.{leb-true, ltb-true, ltb-false, lt-ltb}
+use borrow.Author.Tests.{leb-true, ltb-true, lt-ltb}
 use Rattle.types.specs.declared.Memory.{Memory}
 use Rattle.types.specs.declared.Addressing.{Addressing}
 use Rattle.types.specs.declared.EraseUnit.{EraseUnit}
@@ -19,7 +19,7 @@ use Rattle.types.specs.declared.Effect.{Effect}
 use Rattle.types.specs.declared.Effect.the-variants.{Looks, Enables, Disables, Programs, Erases, Writes, Suspends, Resumes, Sleeps, Wakes, Arms, Resets, SetsLive, ClearsErrors, SetsBank, SetsFar}
 use Rattle.types.specs.declared.Record.{Record}
 use Rattle.types.specs.declared.Ticked.{Ticked}
-use Rattle.words.proofs.Tests.{and-l, and-r, and-in}
+use Rattle.words.proofs.Tests.{and-l, and-r, and-in, and-false}
 use Rattle.words.specs.Logic.{_and_}
 use Rattle.paper.specs.Sizes.{arrayBytes, rowsBytes, sameMemory, fromOn, pageBytes, tickLimit}
 use Rattle.paper.specs.Program.{programOf}
@@ -41,7 +41,7 @@ use Rattle.paper.proofs.Kept.{run-sound}
 use Rattle.paper.proofs.TransactionKept.{after-transaction}
 use Rattle.paper.proofs.CallKept.{call-sound}
 use Rattle.paper.proofs.Histories.{bytes-append}
-use Rattle.paper.proofs.ByPlace.{from-on}
+use Rattle.paper.proofs.ByPlace.{lies-before}
 use Rattle.paper.proofs.RunToEnd.{call-leaves}
 use Rattle.history.proofs.Calls.{calls-sound, calls-size, bytes-joined}
 use Rattle.suspended.proofs.NestedBytes.{halted-spares}
@@ -84,19 +84,13 @@ module _ (m : Memory) (at : ℕ) where
 
   -- a place up to the end of the bytes that an erase with d ticks done sets next holds FFh then, if it did already where it lies before them
   module _ (u : EraseUnit) (b d k : ℕ) (q : sameMemory m (memoryOf u) ≡ true) (l : b ≤ at) (g : at < b + d * pageBytes + k) where
-    abbrev sets : Bool
-    sets = sameMemory m (memoryOf u) and fromOn (b + d * pageBytes) k at
+    set-or-held : (t : Bool) (x : ℕ) → fromOn (b + d * pageBytes) k at ≡ t → (inDone (Erase u b d) m at ≡ true → x ≡ erasedByte) → cond (sameMemory m (memoryOf u) and t) erasedByte x ≡ erasedByte
+    set-or-held true x e h = ap (λ (z : Bool). cond z erasedByte x) (and-in q refl)
+    set-or-held false x e h =
+        ap (λ (z : Bool). cond z erasedByte x) (and-false (sameMemory m (memoryOf u))) ∙ h (and-in q (lies-before b (d * pageBytes) k at l g e))
 
-    lies-before : (t : Bool) → ltb at (b + d * pageBytes) ≡ t → sets ≡ false → inDone (Erase u b d) m at ≡ true
-    lies-before true e f = and-in q (from-on b (d * pageBytes) at l (ltb-true _ _ e))
-    lies-before false e f = absurd (false≢true (sym f ∙ and-in q (from-on (b + d * pageBytes) k at (ltb-false _ _ e) g)))
-
-    set-or-held : (t : Bool) (x : ℕ) → sets ≡ t → (inDone (Erase u b d) m at ≡ true → x ≡ erasedByte) → cond t erasedByte x ≡ erasedByte
-    set-or-held true x e h = refl
-    set-or-held false x e h = h (lies-before (ltb at (b + d * pageBytes)) refl e)
-
-    set-blank : (x : ℕ) → (inDone (Erase u b d) m at ≡ true → x ≡ erasedByte) → cond sets erasedByte x ≡ erasedByte
-    set-blank x h = set-or-held sets x refl h
+    set-blank : (x : ℕ) → (inDone (Erase u b d) m at ≡ true → x ≡ erasedByte) → cond (sameMemory m (memoryOf u) and fromOn (b + d * pageBytes) k at) erasedByte x ≡ erasedByte
+    set-blank x h = set-or-held (fromOn (b + d * pageBytes) k at) x refl h
 
   -- a tick of an erase does one page more
   next-blank : (o : Operation) (g : List ℕ) (x : ℕ) → BlankIn m at x (At o) → BlankIn m at (byteAfter m at (nextTouch o g) x) (At (advancedBy 1 o))

@@ -16,7 +16,7 @@ use Rattle.types.specs.declared.Record.{Record}
 use Rattle.types.specs.declared.Ticked.{Ticked}
 use Rattle.types.specs.declared.Waited.{Waited}
 use Rattle.paper.specs.Phases.{running}
-use Rattle.paper.specs.Operations.{advancedBy}
+use Rattle.paper.specs.Operations.{ticksLeft, advancedBy}
 use Rattle.paper.specs.Soundness.{sound}
 use Rattle.paper.specs.Commands.{changed}
 use Rattle.paper.specs.Numbers.{tickNumber}
@@ -25,7 +25,7 @@ use Rattle.paper.specs.Calls.{ticked, tickedMemory}
 use Rattle.paper.proofs.Soundness.{running-in-order}
 use Rattle.paper.proofs.Numbers.{ticks-taken}
 use Rattle.paper.proofs.ManyTicks.{ran-all, rest-record, rest-memory, rest-works}
-use Rattle.ticks.specs.Waited.{ticksLeft, ticksReached, memoryReached, tickChange, waitedOf, waitedMemory, tickedBy}
+use Rattle.ticks.specs.Waited.{ticksReached, memoryReached, tickChange, waitedOf, waitedMemory, tickedBy}
 
 -- whichever it is
 changed-as : (p : Record) (o : Operation) (k : ℕ) (t : Bool)

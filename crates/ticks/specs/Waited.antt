@@ -1,5 +1,5 @@
 -- A tick call told by part, phase and page data, by what it reaches and what it changes: its ticks are done in one step.
-use Prim.Native.Nat.{ℕ, _-_, min}
+use Prim.Native.Nat.{ℕ, min}
 use mathlib.Core.Bool.{Bool, cond}
 use mathlib.Core.List.{List, []}
 use lib.Dec.{eqb}
@@ -17,14 +17,10 @@ use Rattle.types.specs.declared.Ticked.{Ticked}
 use Rattle.types.specs.declared.Waited.{Waited}
 use Rattle.words.specs.Logic.{whenZero}
 use Rattle.paper.specs.Phases.{running}
-use Rattle.paper.specs.Operations.{ticksInAll, ticksDone, advancedBy}
+use Rattle.paper.specs.Operations.{ticksLeft, advancedBy}
 use Rattle.paper.specs.Commands.{changed}
 use Rattle.paper.specs.Numbers.{tickNumber}
 use Rattle.paper.specs.Ticks.{finishedPart, ran}
-
--- the ticks that an operation has left on a part of so many blocks
-abbrev pub ticksLeft : Operation → ℕ → ℕ
-ticksLeft o blocks = ticksInAll o blocks - ticksDone o
 
 -- what k ticks of an operation change, of those that are left: the last makes an end, others leave the part at its operation
 abbrev pub changeAfter : ℕ → Operation → Part → Phase → Change

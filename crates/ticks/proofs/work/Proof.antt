@@ -1,10 +1,10 @@
 -- `ticks::work` meets its contract: as many ticks of the operation as find something to do.
 use Rattle.ticks.proofs.OneMemory.{left-within, all-le, same-waited}
-use Rattle.ticks.specs.Waited.{ticksLeft, changeAfter}
+use Rattle.ticks.specs.Waited.{changeAfter}
 use Rattle.paper.specs.Calls.{noIdentity}
 use Rattle.paper.specs.Ticks.{ran}
 use Rattle.paper.proofs.Soundness.{recordOf, running-in-order}
-use Rattle.paper.specs.Operations.{ticksInAll, ticksDone}
+use Rattle.paper.specs.Operations.{ticksInAll, ticksDone, ticksLeft}
 use Rattle.types.specs.declared.Memory.the-variants.{Array, Rows}
 use denote.Ref.{now}
 use mathlib.Core.Path.{_≡_, ap, _∙_}
