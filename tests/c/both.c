@@ -522,3 +522,18 @@ void end_run(void)
     step(&nothing);
     same_memory(&nothing);
 }
+
+bool run_seeds(int argc, char **argv, void (*by_hand)(void), void (*run)(uint64_t seed), uint64_t last)
+{
+    uint64_t seed = 1;
+
+    if (argc == 1) {
+        by_hand();
+    } else if (argc != 3 || !seed_of(argv[1], &seed) || !seed_of(argv[2], &last)) {
+        printf("usage: %s [FIRST LAST]\n", program_name);
+        return false;
+    }
+    for (; seed <= last; seed++)
+        run(seed);
+    return true;
+}

@@ -95,6 +95,10 @@ void same_places(const struct call *call, size_t from, size_t length);
 void fail(const struct call *call, const char *what, uint64_t expected, uint64_t got) __attribute__((noreturn));
 void fail_result(const struct call *call, uint64_t expected, uint64_t got) __attribute__((noreturn));
 
+/* With no argument runs what is worked out by hand, and then the seeds 1 to `last`; with two, the seeds from one to the
+ * other alone. With others it tells the usage and gives false. */
+bool run_seeds(int argc, char **argv, void (*by_hand)(void), void (*run)(uint64_t seed), uint64_t last);
+
 /* ---- The runs. ---- */
 
 void directed_calls(void);

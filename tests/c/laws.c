@@ -732,12 +732,6 @@ static void run_laws(uint64_t seed)
     same_memory(&call);
 }
 
-static void seeds(uint64_t first, uint64_t last)
-{
-    for (; first <= last; first++)
-        run_laws(first);
-}
-
 /* ---- The wrong laws: ways on a blank part of one block, with their ends worked out by hand ---- */
 
 static void one_way(const char *name)
@@ -893,17 +887,8 @@ static void wrong_laws(void)
 
 int main(int argc, char **argv)
 {
-    uint64_t first, last;
-
-    if (argc == 1) {
-        wrong_laws();
-        seeds(1, LAST_SEED);
-    } else if (argc == 3 && seed_of(argv[1], &first) && seed_of(argv[2], &last)) {
-        seeds(first, last);
-    } else {
-        printf("usage: laws [FIRST LAST]\n");
+    if (!run_seeds(argc, argv, wrong_laws, run_laws, LAST_SEED))
         return 2;
-    }
     printf("laws: %llu runs, %llu calls, 0 differences\n", (unsigned long long)runs, (unsigned long long)calls);
     return 0;
 }

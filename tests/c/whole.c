@@ -17,27 +17,22 @@ const char *const program_name = "whole";
 #define CALLS_OF_A_SEED 800u
 #define LAST_SEED 250u
 
-static void seeds(uint64_t first, uint64_t last)
+static void by_hand(void)
 {
-    for (; first <= last; first++)
-        random_calls(first, CALLS_OF_A_SEED);
+    directed_calls();
+    large_calls();
+    damaged_records();
+}
+
+static void run_seed(uint64_t seed)
+{
+    random_calls(seed, CALLS_OF_A_SEED);
 }
 
 int main(int argc, char **argv)
 {
-    uint64_t first, last;
-
-    if (argc == 1) {
-        directed_calls();
-        large_calls();
-        damaged_records();
-        seeds(1, LAST_SEED);
-    } else if (argc == 3 && seed_of(argv[1], &first) && seed_of(argv[2], &last)) {
-        seeds(first, last);
-    } else {
-        printf("usage: whole [FIRST LAST]\n");
+    if (!run_seeds(argc, argv, by_hand, run_seed, LAST_SEED))
         return 2;
-    }
     printf("whole: %llu calls compared, 0 differences\n", (unsigned long long)calls);
     return 0;
 }
