@@ -41,7 +41,7 @@ struct side {
 };
 
 /* The reference's side keeps the record's bytes as they were before the call. Where all calls are made of the model
- * alone, the two sides are two parts: see laws.c. */
+ * alone, the two sides are two parts: see writes.h. */
 extern struct side model, reference;
 
 /* The reference's record. Its size is 0 as long as there was no power-up: the record's bytes are then junk. */

@@ -13,7 +13,7 @@ use Rattle.types.specs.declared.Answer.{Answer}
 use Rattle.types.specs.declared.Record.{Record}
 use Rattle.words.specs.Logic.{_and_, _or_, unless, _orElse_}
 use Rattle.words.proofs.Tests.{fails}
-use Rattle.paper.specs.Sizes.{sizeOk, blockBytes, arrayBytes}
+use Rattle.paper.specs.Sizes.{sizeOk, blockBytes, arrayBytes, rowsBytes}
 use Rattle.paper.specs.Registers.{bitAt, bitsAt, TBS, bankLoaded}
 use Rattle.paper.specs.Soundness.{largeOk}
 use Rattle.paper.specs.Numbers.{givenOk, powerUpNumber}
@@ -150,10 +150,10 @@ case-7 id h m l =
     let b : a < arrayBytes 16 = rw (facts id .size) (inside-16 i) in
     everywhere .case-7 (enabledPart id 0 0) (facts id .enabled-ready) (facts id .wel) h m l (all-free id a) (filled (arrayBytes 16) 0x5A) (fits id 0x5A) (filled-at (arrayBytes 16) 0x5A a b)
 
-case-11 : (id : Identity) (b : ℕ) → Case11 (powered id 0 0) 0x00 0x00 (filled (arrayBytes 16) b)
-case-11 id b =
-    subst⁻¹ (λ (p : Record). Case11 p 0x00 0x00 (filled (arrayBytes 16) b)) (powered-as id 0 0)
-    (everywhere .case-11 (fresh 16 id (coded 0 0)) (fresh-ready id 0 0) (omega arith) (free-under 0 16 0x030000 refl) 0x00 0x00 (omega arith) (omega arith) (filled (arrayBytes 16) b) (filled-length (arrayBytes 16) b))
+case-11 : (id : Identity) (b c : ℕ) → Case11 (powered id 0 0) 0x00 0x00 (filled (arrayBytes 16) b) (filled rowsBytes c)
+case-11 id b c =
+    subst⁻¹ (λ (p : Record). Case11 p 0x00 0x00 (filled (arrayBytes 16) b) (filled rowsBytes c)) (powered-as id 0 0)
+    (everywhere .case-11 (fresh 16 id (coded 0 0)) (fresh-ready id 0 0) (omega arith) (free-under 0 16 0x030000 refl) 0x00 0x00 (omega arith) (omega arith) (filled (arrayBytes 16) b) (filled rowsBytes c) (filled-length (arrayBytes 16) b) (filled-length rowsBytes c))
 
 pub cases : Cases
 cases =

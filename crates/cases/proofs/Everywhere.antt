@@ -13,7 +13,7 @@ use Rattle.types.specs.declared.Memory.the-variants.{Array}
 use Rattle.types.specs.declared.Addressing.the-variants.{Three}
 use Rattle.types.specs.declared.Operation.the-variants.{Program}
 use Rattle.types.specs.declared.Phase.the-variants.{Busy}
-use Rattle.types.specs.declared.Command.the-variants.{ReadStatus, WriteEnable, ChipErase, ArmReset, Reset, RowProgram}
+use Rattle.types.specs.declared.Command.the-variants.{ReadStatus, WriteEnable, ChipErase, Reset, RowProgram}
 use Rattle.types.specs.declared.Decoded.the-variants.{Known}
 use Rattle.types.specs.declared.Record.{Record}
 use Rattle.types.specs.declared.Answer.{Answer}
@@ -33,9 +33,10 @@ use Rattle.paper.proofs.Addresses.{in-page}
 use Rattle.paper.proofs.Soundness.{recordOf, sound-parts, marked-sound}
 use Rattle.laws.proofs.Commanded.{standing, did}
 use Rattle.cases.proofs.Paper.{send, Ready, Free, Case4Everywhere, Case5Everywhere, Case6Everywhere, Case7Everywhere, Case8Everywhere, Case9Everywhere, Case10Everywhere, Case11Everywhere, Everywhere}
-use Rattle.paper.proofs.Answers.{executes, ignores, arm-number, read-status-number, reset-number}
+use Rattle.paper.proofs.Answers.{executes, ignores, read-status-number, reset-number}
+use Rattle.reset.proofs.Steps.{armed-now}
 use Rattle.paper.proofs.Protected.{none-protected, fifteen-counted}
-use Rattle.cases.proofs.EraseCut.{erase-begins, erase-runs, erase-runs-on, erase-suspends, cut-arms, cut-resets}
+use Rattle.cases.proofs.EraseCut.{erase-begins, erase-runs, erase-suspends, halted-arms, halted-resets, array-cut, rows-kept}
 use Rattle.cases.proofs.Parts.{known-here, enabled-so}
 use Rattle.cases.proofs.ProgramSent.{program-run, program-ticks, program-array, program-tick}
 
@@ -139,7 +140,7 @@ armed-sound p armed s = marked-sound (p .part) (p .phase) (p .page) armed s
 case-9 : Case9Everywhere
 unfolding unless
 case-9 p s e =
-    let a : send p (0x66 ∷ []) ≡ did (armedAs p true) 1 = executes p s true ArmReset (0x66 ∷ []) (omega arith) (omega arith) (known 0x66 ArmReset refl refl (p .part .blocks) (p .part .bank)) (arm-number (p .part) (p .phase) e true) in
+    let a : send p (0x66 ∷ []) ≡ did (armedAs p true) 1 = armed-now p s true e in
     let b : send (armedAs p true) (0x05 ∷ []) ≡ did (armedAs p false) 1 = executes (armedAs p true) (armed-sound p true s) true ReadStatus (0x05 ∷ []) (omega arith) (omega arith) (known 0x05 ReadStatus refl refl (p .part .blocks) (p .part .bank)) (read-status-number (marked (p .part) true) (p .phase) e true) in
     let c : send (armedAs p false) (0x99 ∷ []) .number ≡ 25 = ap number (ignores (armedAs p false) (armed-sound p false s) true Reset (0x99 ∷ []) (omega arith) (omega arith) (known 0x99 Reset refl refl (p .part .blocks) (p .part .bank)) 24 (reset-number (marked (p .part) false) (p .phase) e true false refl)) in
     rw (a, b, c) (refl, refl, refl)
@@ -161,10 +162,10 @@ case-10 p r w k d (n, most) = (
 )
 
 case-11 : Case11Everywhere
-case-11 p r has free m l hm hl xs e =
+case-11 p r has free m l hm hl xs rs e f =
     let k : 100 < 256 = omega arith in
-    rw (enabled-so p r, erase-begins p r has free m l hm hl, erase-runs p r has free 100 k, erase-suspends p r has free 100 k, cut-arms p r has free 100 k, cut-resets p r has free 100 k)
-    (refl, refl, refl, refl, refl, refl, refl, refl, refl, erase-runs-on p r has free 100 k xs e)
+    rw (enabled-so p r, erase-begins p r has free m l hm hl, erase-runs p r has free 100 k, erase-suspends p r has free 100 k, halted-arms p r has free 100 k, halted-resets p r has free 100 k)
+    (refl, refl, refl, refl, refl, refl, refl, refl, refl, array-cut p r has free 100 k m l hm hl xs rs e f, rows-kept p r has free 100 k m l hm hl xs rs e f)
 
 pub everywhere : Everywhere
 everywhere =

@@ -19,6 +19,8 @@ use Rattle.paper.specs.Protection.{codeOf, protectedAt, locked}
 use Rattle.paper.specs.Records.{fresh}
 use Rattle.paper.specs.Soundness.{sound}
 use Rattle.paper.specs.Registers.{withBytes}
+use Rattle.paper.specs.History.{transaction, ticks, oneByte}
+use Rattle.paper.specs.Board.{boardOf, afterCalls}
 use Rattle.paper.specs.Calls.{noStored, poweredUp, transacted, ticked, tickedMemory}
 
 -- a transaction with the part's own memory and WP# high
@@ -134,17 +136,19 @@ Case10 p d =
     (send p (0x62 ∷ 0x00 ∷ 0x10 ∷ 0x00 ∷ d) .number ≡ 28) × (send p (0x62 ∷ 0x00 ∷ 0x01 ∷ 0x00 ∷ d) .number ≡ 27)
 
 -- BER64 at block 3, 100 ticks, suspend, reset: first 100 pages FFh, other 156 as before
-abbrev pub Case11 : Record → ℕ → ℕ → List ℕ → Type 0
-Case11 p m l xs =
+abbrev pub Case11 : Record → ℕ → ℕ → List ℕ → List ℕ → Type 0
+Case11 p m l xs rs =
+    let i : List ℕ = 0xD8 ∷ 0x03 ∷ m ∷ l ∷ [] in
     let w = send p (0x06 ∷ []) in
-    let e = send (w .next) (0xD8 ∷ 0x03 ∷ m ∷ l ∷ []) in
+    let e = send (w .next) i in
     let t = tick (e .next) 100 in
     let s = send (t .next) (0x75 ∷ []) in
     let a = send (s .next) (0x66 ∷ []) in
     let r = send (a .next) (0x99 ∷ []) in
+    let d = afterCalls (oneByte true 0x06 ∷ transaction true i 4 ∷ ticks 100 ∷ oneByte true 0x75 ∷ oneByte true 0x66 ∷ oneByte true 0x99 ∷ []) (boardOf p xs rs) in
     (w .number ≡ 0) × (e .number ≡ 0) × (t .number ≡ 0) × (t .done ≡ 100) × (s .number ≡ 0) × (a .number ≡ 0) × (r .number ≡ 0)
     × (r .next .phase ≡ Idle) × (r .next ≡ fresh (p .part .blocks) (p .identity) (p .part .stored))
-    × (arrayTicked (e .next) 100 xs ≡ take 0x030000 xs ++ (replicate (100 * pageBytes) 0xFF ++ drop (0x030000 + 100 * pageBytes) xs))
+    × (d .array ≡ take 0x030000 xs ++ (replicate (100 * pageBytes) 0xFF ++ drop (0x030000 + 100 * pageBytes) xs)) × (d .rows ≡ rs)
 
 -- the list of the cases, on parts of 16 blocks with any identity; case 3 on 4 blocks
 pub record Cases : Type 0 where
@@ -159,7 +163,7 @@ pub record Cases : Type 0 where
   pub case-8 : (id : Identity) (b : ℕ) → Case8 (powered id 0 0) b
   pub case-9 : (id : Identity) → Case9 (powered id 0 0)
   pub case-10 : (id : Identity) (b : ℕ) → Case10 (enabledPart id 0 2) (b ∷ [])
-  pub case-11 : (id : Identity) (b : ℕ) → Case11 (powered id 0 0) 0x00 0x00 (filled (arrayBytes 16) b)
+  pub case-11 : (id : Identity) (b c : ℕ) → Case11 (powered id 0 0) 0x00 0x00 (filled (arrayBytes 16) b) (filled rowsBytes c)
 
 -- cases 4 to 11 on every part that they speak of, with every input and every array
 abbrev pub Case4Everywhere : Type 0
@@ -199,7 +203,7 @@ Case10Everywhere =
 abbrev pub Case11Everywhere : Type 0
 Case11Everywhere =
     (p : Record) → Ready p → 3 < p .part .blocks → Free (codeOf (p .part .stored .status)) (p .part .blocks) 0x030000
-    → (m l : ℕ) → m < 256 → l < 256 → (xs : List ℕ) → length xs ≡ arrayBytes (p .part .blocks) → Case11 p m l xs
+    → (m l : ℕ) → m < 256 → l < 256 → (xs rs : List ℕ) → length xs ≡ arrayBytes (p .part .blocks) → length rs ≡ rowsBytes → Case11 p m l xs rs
 
 pub record Everywhere : Type 0 where
   pub case-4 : Case4Everywhere

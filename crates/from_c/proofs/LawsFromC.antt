@@ -38,7 +38,7 @@ in-c (transaction wp i o ∷ cs) p =
 in-c (ticks n ∷ cs) p = ap (λ (ds : List Call). ticks n ∷ ds) (in-c cs (recordAfterCall (ticks n) p))
 
 -- what calls from C make
-made-from-c : (l m : Lent) (p : Record) (cs : List CCall) → Holding l p → (chain : Driven l cs m) → MadeFromC p chain
+pub made-from-c : (l m : Lent) (p : Record) (cs : List CCall) → Holding l p → (chain : Driven l cs m) → MadeFromC p chain
 made-from-c l m p cs h chain =
     let s = driven-run chain p h in
     record { next = s .next; holding = s .holding; made = s .run; answers = s .heard }
@@ -50,7 +50,7 @@ same-lent m n q r h g e =
     ∙ ap (λ (b : Board). lent (n .bytes) (b .array) (b .rows)) e
 
 module _ (l : Lent) (p : Record) (r : RestedIn l p) where
-  rested-board : Rested (boardIn l p)
+  pub rested-board : Rested (boardIn l p)
   rested-board =
       record { is-sound = r .holding .is-sound; idle = r .idle; awake = r .awake; own-array = r .holding .array; own-rows = r .holding .rows }
 

@@ -9,3 +9,4 @@ pub mod FromC
 pub mod Reset
 pub mod Contracts
 pub mod LawsFromC
+pub mod RestartFromC

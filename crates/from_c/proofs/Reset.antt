@@ -35,7 +35,7 @@ calls-of-append (c ∷ cs) b p =
     ∙ ap (λ (r : Record). (callOf c p ++ callsOf cs q) ++ callsOf b r) (sym (calls-append (callOf c p) (callsOf cs q) p))
 
 -- a one-byte transaction with a level that is one, and calls from C after it
-sent-of : (wp code x : ℕ) (cs : List CCall) (p : Record) → wp ≤ 1 → let c = transaction (eqb wp 1) (code ∷ []) 1 in callsOf (transact wp (code ∷ []) (x ∷ []) ∷ cs) p ≡ c ∷ callsOf cs (recordAfterCall c p)
+pub sent-of : (wp code x : ℕ) (cs : List CCall) (p : Record) → wp ≤ 1 → let c = transaction (eqb wp 1) (code ∷ []) 1 in callsOf (transact wp (code ∷ []) (x ∷ []) ∷ cs) p ≡ c ∷ callsOf cs (recordAfterCall c p)
 sent-of wp code x cs p h = rw (le-leb wp 1 h) refl
 
 -- the calls that close stand for those that close

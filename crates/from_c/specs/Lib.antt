@@ -2,3 +2,4 @@ pub mod Driven
 pub mod Holding
 pub mod FromC
 pub mod LawsFromC
+pub mod RestartFromC

@@ -29,13 +29,13 @@ use Rattle.paper.specs.Registers.{storedAfter}
 use Rattle.paper.specs.Records.{made, settled}
 use Rattle.paper.specs.Operations.{ticksInAll, Touch}
 use Rattle.paper.specs.Soundness.{sound}
-use Rattle.paper.specs.Table.{decoded, columns, addressingOn}
+use Rattle.paper.specs.Table.{columns, addressingOn}
 use Rattle.paper.specs.Commands.{changed, begins, begun, unarmed, changeBy, errorsOf}
 use Rattle.paper.specs.Numbers.{addressOk, writeOk, commandNumber, ignoredNumber}
 use Rattle.paper.specs.Reads.{firstDriven}
 use Rattle.paper.specs.Calls.{transacted}
 use Rattle.paper.specs.ByPlace.{byteEnded}
-use Rattle.paper.specs.History.{Call, recordAfterCalls, history, byteAfterAll}
+use Rattle.paper.specs.History.{Call, answerToByte, recordAfterCalls, history, byteAfterAll}
 use Rattle.paper.proofs.Table.{known, write-state}
 use Rattle.paper.proofs.MadeSound.{registers-again, target-stored}
 use Rattle.paper.proofs.Soundness.{recordOf}
@@ -61,7 +61,7 @@ kind-begins : (d : Kind) (g : Addressing) (n : ℕ) (i : List ℕ) → begins (e
 kind-begins (program m) g n i = refl
 kind-begins (erase u) g n i = refl
 
-kind-errors : (d : Kind) → eqb (errorsOf (effectOf d)) 0 ≡ false
+pub kind-errors : (d : Kind) → eqb (errorsOf (effectOf d)) 0 ≡ false
 kind-errors (program m) = refl
 kind-errors (erase u) = refl
 
@@ -168,7 +168,7 @@ module _ (p : Record) (s : sound p ≡ true) (idle : p .phase ≡ Idle) (awake :
   unfolding commandNumber _or_ unless _orElse_
   enable-number wp = rw (awake, idle)
 
-  pub enables : (wp : Bool) → transacted p (arrayBytes (p .part .blocks)) rowsBytes wp (0x06 ∷ []) 1 ≡ did (enabled p) 1
+  pub enables : (wp : Bool) → answerToByte wp 0x06 p ≡ did (enabled p) 1
   enables wp =
       executes p s wp WriteEnable (0x06 ∷ []) (omega arith) (omega arith) (known 0x06 WriteEnable refl refl (p .part .blocks) (p .part .bank)) (enable-number wp)
       ∙ ap (λ (f : Phase). did (standing p f true (p .page)) 1) idle

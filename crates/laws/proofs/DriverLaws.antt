@@ -12,9 +12,8 @@ use Rattle.types.specs.declared.EraseUnit.{EraseUnit}
 use Rattle.types.specs.declared.Phase.the-variants.{Idle}
 use Rattle.types.specs.declared.Record.{Record}
 use Rattle.words.specs.Logic.{_and_}
-use Rattle.words.proofs.Tests.{and-assoc}
 use Rattle.paper.specs.Sizes.{pageBytes, sameMemory, fromOn}
-use Rattle.paper.specs.Program.{pageBase, keptCount, passedCount, noData, narrowedByte}
+use Rattle.paper.specs.Program.{keptCount, passedCount, noData, narrowedByte}
 use Rattle.paper.specs.Erase.{memoryOf, erasedByte}
 use Rattle.paper.specs.History.{Call}
 use Rattle.paper.specs.Board.{Board, boardOf, afterCalls}
@@ -26,18 +25,19 @@ use Rattle.laws.proofs.Exactly.{fits-exactly}
 use Rattle.laws.proofs.Together.{programs-swap, program-twice, erase-forgets-place, merge-leaves}
 use Rattle.laws.proofs.Written.{plainly-whole, write-done, rested-again, whole-again}
 
--- boards are the same whose records are, and whose bytes are, place by place
-module _ (b c e : Board) (s : c .state ≡ e .state) (lc : (m : Memory) → length (memoryIn m c) ≡ length (memoryIn m b)) (le : (m : Memory) → length (memoryIn m e) ≡ length (memoryIn m b))
+-- the memory of two boards is the same where it has one length and its bytes are, place by place; and the boards are if their records are too
+module _ (b c e : Board) (lc : (m : Memory) → length (memoryIn m c) ≡ length (memoryIn m b)) (le : (m : Memory) → length (memoryIn m e) ≡ length (memoryIn m b))
     (h : (m : Memory) (at : ℕ) → at < length (memoryIn m b) → getD (memoryIn m c) at 0 ≡ getD (memoryIn m e) at 0) where
-  same-bytes : (m : Memory) → memoryIn m c ≡ memoryIn m e
+  pub same-bytes : (m : Memory) → memoryIn m c ≡ memoryIn m e
   same-bytes m =
       ext-getD 0 (memoryIn m c) (memoryIn m e) (lc m ∙ sym (le m)) (λ at l. h m at (subst (λ (n : ℕ). at < n) (lc m) l))
 
-  pub same-board : c ≡ e
-  same-board =
-      ap (λ (q : Record). boardOf q (c .array) (c .rows)) s
-      ∙ ap (λ (xs : List ℕ). boardOf (e .state) xs (c .rows)) (same-bytes Array)
-      ∙ ap (λ (rs : List ℕ). boardOf (e .state) (e .array) rs) (same-bytes Rows)
+pub same-board : (b c e : Board) → c .state ≡ e .state → ((m : Memory) → length (memoryIn m c) ≡ length (memoryIn m b)) → ((m : Memory) → length (memoryIn m e) ≡ length (memoryIn m b))
+    → ((m : Memory) (at : ℕ) → at < length (memoryIn m b) → getD (memoryIn m c) at 0 ≡ getD (memoryIn m e) at 0) → c ≡ e
+same-board b c e s lc le h =
+    ap (λ (q : Record). boardOf q (c .array) (c .rows)) s
+    ∙ ap (λ (xs : List ℕ). boardOf (e .state) xs (c .rows)) (same-bytes b c e lc le h Array)
+    ∙ ap (λ (rs : List ℕ). boardOf (e .state) (e .array) rs) (same-bytes b c e lc le h Rows)
 
 -- a run of some calls and then others, with the board between
 module _ (cs ds : List Call) (b e : Board) (run : Makes b (cs ++ ds) e) where

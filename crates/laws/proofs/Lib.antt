@@ -3,6 +3,8 @@ pub mod Waiting
 pub mod Commanded
 pub mod Exactly
 pub mod Leaves
+pub mod Boards
+pub mod Begun
 pub mod Written
 pub mod Together
 pub mod DriverLaws

@@ -1,31 +1,28 @@
 -- Waiting is ticks: calls that wait leave an awake, unarmed part as the ticks that they give do, and reach what these reach.
 use Prim.Native.Nat.{ℕ}
 use mathlib.Core.Path.{_≡_, refl, sym, ap, _∙_, subst}
-use mathlib.Core.Bool.{Bool, true, false, cond, false≢true}
+use mathlib.Core.Bool.{Bool, true, false, false≢true}
 use mathlib.Core.List.{List, [], _∷_, _++_}
 use lib.ListN.{getD}
-use lib.Dec.{leb}
-use borrow.Author.Tests.{leb-true}
 use Rattle.types.specs.declared.Decoded.{Decoded}
 use Rattle.types.specs.declared.Decoded.the-variants.{Known, Unknown}
 use Rattle.types.specs.declared.Part.{Part}
 use Rattle.types.specs.declared.Record.{Record}
-use Rattle.types.specs.declared.Ticked.{Ticked}
 use Rattle.words.proofs.Tests.{and-l, and-r}
-use Rattle.paper.specs.Sizes.{arrayBytes, rowsBytes, tickLimit}
+use Rattle.paper.specs.Sizes.{arrayBytes, rowsBytes}
 use Rattle.paper.specs.Records.{marked}
 use Rattle.paper.specs.Operations.{Touch}
 use Rattle.paper.specs.Soundness.{sound}
 use Rattle.paper.specs.Table.{decoded}
 use Rattle.paper.specs.Ticks.{recordAfter}
-use Rattle.paper.specs.History.{Call, transaction, ticks, recordAfterCall, recordAfterCalls, tickTouches, reachedBy, callTouches, history}
+use Rattle.paper.specs.History.{Call, transaction, ticks, recordAfterCall, ticksBy, recordAfterCalls, tickTouches, callTouches, history}
 use Rattle.paper.proofs.Soundness.{recordOf}
 use Rattle.paper.proofs.Kept.{run-sound, run-keeps}
 use Rattle.paper.proofs.ManyTicks.{ticks-more}
 use Rattle.paper.proofs.ReadsKept.{after-read}
-use Rattle.paper.proofs.Answers.{ticks-run, ticks-refused}
+use Rattle.paper.proofs.TickCalls.{Passes, ticks-pass}
 use Rattle.paper.proofs.Histories.{touches-more}
-use Rattle.laws.specs.Waiting.{isReadBy, waits, allWait, ticksBy, ticksGiven}
+use Rattle.laws.specs.Waiting.{isReadBy, waits, allWait, ticksGiven}
 
 -- a sound, awake and unarmed part of n blocks under a bank register
 pub record Quiet (n bank : ℕ) (p : Record) : Type 0 where
@@ -47,21 +44,13 @@ module _ (n bank : ℕ) (p : Record) (r : Quiet n bank p) where
       after-read (λ (q : Record). q ≡ p) p (r .awake) wp i refl (ap (λ (t : Bool). recordOf (p .identity) (marked (p .part) t) (p .phase) (p .page)) (sym (r .unarmed))) k e h (arrayBytes (p .part .blocks)) rowsBytes o
   read-by wp i o Unknown e h = absurd (false≢true h)
 
-  -- ticks, too many or not
-  ticked-by : (k : ℕ) (t : Bool) → leb k (tickLimit (p .part .blocks)) ≡ t → Does (ticks k) p (recordAfter (cond t k 0) p) (tickTouches (cond t k 0) p)
-  ticked-by k true e =
-      let z = ticks-run p (r .is-sound) k (leb-true _ _ e) in
-      record { next = ap (λ (t : Ticked). t .next) z; reached = ap (λ (t : Ticked). reachedBy (t .number) k p) z }
-  ticked-by k false e =
-      let z = ticks-refused p (r .is-sound) k e in
-      record { next = ap (λ (t : Ticked). t .next) z; reached = ap (λ (t : Ticked). reachedBy (t .number) k p) z }
-
   waits-one : (c : Call) → waits n bank c ≡ true → Does c p (recordAfter (ticksBy n c) p) (tickTouches (ticksBy n c) p)
   waits-one (transaction wp i o) h =
       let e : decoded (p .part .blocks) (p .part .bank) (getD i 0 0) ≡ decoded n bank (getD i 0 0) = rw (r .size, r .bank-is) refl in
       record { next = read-by wp i o (decoded n bank (getD i 0 0)) e h; reached = refl }
   waits-one (ticks k) h =
-      subst (λ (b : ℕ). Does (ticks k) p (recordAfter (ticksBy b (ticks k)) p) (tickTouches (ticksBy b (ticks k)) p)) (r .size) (ticked-by k (leb k (tickLimit (p .part .blocks))) refl)
+      let d = subst (λ (b : ℕ). Passes p k (ticksBy b (ticks k))) (r .size) (ticks-pass p (r .is-sound) k) in
+      record { next = d .next; reached = d .reached }
 
   -- ticks leave it so
   quiet-after : (k : ℕ) → Quiet n bank (recordAfter k p)

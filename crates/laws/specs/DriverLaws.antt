@@ -17,7 +17,7 @@ use Rattle.paper.specs.Operations.{ticksInAll}
 use Rattle.paper.specs.History.{Call, ticks}
 use Rattle.paper.specs.Board.{Board, answerTo, afterCalls}
 use Rattle.laws.specs.Waiting.{allWait}
-use Rattle.laws.specs.Writes.{Kind, program, erase, Write, opening, steps, begunBy, OfKind, Fitting, Whole, Rested, Makes, placeOf, dataOf, inPageOf, inUnitOf, memoryIn, Done}
+use Rattle.laws.specs.Writes.{Kind, program, erase, Write, opening, steps, writeOf, begunBy, OfKind, Fitting, Whole, Rested, Makes, placeOf, dataOf, inPageOf, inUnitOf, memoryIn, Done}
 
 -- two writes, one after the other: where each of them leads, and what it does
 pub record BothDone (b : Board) (first : Kind) (v : Write) (second : Kind) (w : Write) (c : Board) : Type 0 where
@@ -49,8 +49,7 @@ FitsExactly =
 
 -- the plainest write: 06h, the command, and one tick call of as many ticks as the operation takes
 abbrev pub plainly : Record → Kind → Bool → Bool → List ℕ → Write
-plainly p kind first second i =
-    record { enabledAt = first; checks = []; sentAt = second; input = i; wait = ticks (ticksInAll (begunBy p kind i) (p .part .blocks)) ∷ [] }
+plainly p kind first second i = writeOf first second i (ticks (ticksInAll (begunBy p kind i) (p .part .blocks)) ∷ [])
 
 -- it is whole where its input fits: no operation takes more ticks than a call may ask
 abbrev pub PlainlyWhole : Type 0

@@ -1,15 +1,13 @@
 -- Waiting: calls that read and let ticks pass, in any order, and how many ticks they give.
 use Prim.Native.Nat.{ℕ, _+_}
-use mathlib.Core.Bool.{Bool, true, false, cond}
+use mathlib.Core.Bool.{Bool, true, false}
 use mathlib.Core.List.{List, [], _∷_}
 use lib.ListN.{getD}
-use lib.Dec.{leb}
 use Rattle.types.specs.declared.Decoded.{Decoded}
 use Rattle.types.specs.declared.Decoded.the-variants.{Known, Unknown}
 use Rattle.words.specs.Logic.{_and_}
-use Rattle.paper.specs.Sizes.{tickLimit}
 use Rattle.paper.specs.Table.{decoded, columns, isRead}
-use Rattle.paper.specs.History.{Call, transaction, ticks}
+use Rattle.paper.specs.History.{Call, transaction, ticks, ticksBy}
 
 -- the command that a first byte is, is a read
 abbrev pub isReadBy : Decoded → Bool
@@ -25,11 +23,7 @@ abbrev pub allWait : ℕ → ℕ → List Call → Bool
 allWait n bank [] = true
 allWait n bank (c ∷ cs) = waits n bank c and allWait n bank cs
 
--- the ticks that a call gives to a part of n blocks: as many as it asks, if a call may ask so many
-abbrev pub ticksBy : ℕ → Call → ℕ
-ticksBy n (transaction wp i o) = 0
-ticksBy n (ticks k) = cond (leb k (tickLimit n)) k 0
-
+-- the ticks that they give to a part of n blocks
 abbrev pub ticksGiven : ℕ → List Call → ℕ
 ticksGiven n [] = 0
 ticksGiven n (c ∷ cs) = ticksBy n c + ticksGiven n cs

@@ -31,7 +31,7 @@ use Rattle.paper.specs.Table.{decoded, columns, addressing, lengthOk}
 use Rattle.paper.specs.Commands.{unarmed}
 use Rattle.paper.specs.Numbers.{addressOk}
 use Rattle.paper.specs.ByPlace.{byteFor}
-use Rattle.paper.specs.History.{Call, transaction, oneByte}
+use Rattle.paper.specs.History.{Call, transaction, oneByte, recordAfterCalls}
 use Rattle.paper.specs.Board.{Board, answerTo, afterCalls}
 use Rattle.history.specs.Run.{Run}
 use Rattle.laws.specs.Waiting.{allWait, ticksGiven}
@@ -67,9 +67,21 @@ enable wp = oneByte wp 0x06
 abbrev pub opening : Write → List Call
 opening w = enable (w .enabledAt) ∷ w .checks
 
+-- the command
+abbrev pub command : Write → Call
+command w = transaction (w .sentAt) (w .input) (length (w .input))
+
 -- the calls of a write
 abbrev pub steps : Write → List Call
-steps w = opening w ++ (transaction (w .sentAt) (w .input) (length (w .input)) ∷ w .wait)
+steps w = opening w ++ (command w ∷ w .wait)
+
+-- the record at its start, from which on the wait is
+abbrev pub atStart : Record → Write → Record
+atStart p w = recordAfterCalls (opening w ++ (command w ∷ [])) p
+
+-- a write with nothing between 06h and the command
+abbrev pub writeOf : Bool → Bool → List ℕ → List Call → Write
+writeOf first second i cs = record { enabledAt = first; checks = []; sentAt = second; input = i; wait = cs }
 
 -- how the address of an input is sent to a part, under its bank register
 abbrev pub addressingBy : Decoded → ℕ → Addressing
@@ -98,10 +110,14 @@ pub record Fitting (p : Record) (kind : Kind) (i : List ℕ) : Type 0 where
   pub right-address : addressOk (columns (code .command) .named) (sentAs p i) i ≡ true
   pub free-target : targetFree (begunBy p kind i) (p .part .blocks) (p .part .stored) ≡ true
 
--- a write that is taken and run to the end: its input fits, its checks and its wait only wait, and the wait gives as many ticks as the operation takes, or more
-pub record Whole (p : Record) (kind : Kind) (w : Write) : Type 0 where
+-- a write that is taken: its input fits, and its checks only wait. What comes from its start on may be any calls
+pub record Begun (p : Record) (kind : Kind) (w : Write) : Type 0 where
   pub fitting : Fitting p kind (w .input)
   pub checks-wait : allWait (p .part .blocks) (p .part .bank) (w .checks) ≡ true
+
+-- and run to the end: its wait only waits, and gives as many ticks as the operation takes, or more
+pub record Whole (p : Record) (kind : Kind) (w : Write) : Type 0 where
+  pub begun : Begun p kind w
   pub wait-waits : allWait (p .part .blocks) (p .part .bank) (w .wait) ≡ true
   pub enough : ticksInAll (begunBy p kind (w .input)) (p .part .blocks) ≤ ticksGiven (p .part .blocks) (w .wait)
 

@@ -41,7 +41,7 @@ lies-before-as : (a k size at : ℕ) (t : Bool) → ltb at (a + k) ≡ t → a �
 lies-before-as a k size at true e l h f = from-on a k at l (ltb-true _ _ e)
 lies-before-as a k size at false e l h f = absurd (false≢true (sym f ∙ from-on (a + k) size at (ltb-false _ _ e) h))
 
-pub lies-before : (a k size at : ℕ) → a ≤ at → at < a + k + size → fromOn (a + k) size at ≡ false → fromOn a k at ≡ true
+lies-before : (a k size at : ℕ) → a ≤ at → at < a + k + size → fromOn (a + k) size at ≡ false → fromOn a k at ≡ true
 lies-before a k size at = lies-before-as a k size at (ltb at (a + k)) refl
 
 -- a place is narrowed next, or not: it was not before where it is, and stays as it was where it is not
@@ -61,6 +61,14 @@ next-erased true true b c x f g h = rw (f refl) refl
 next-erased true false true c x f g h = rw (g refl) refl
 next-erased true false false true x f g h = absurd (false≢true (h refl refl))
 next-erased true false false false x f g h = refl
+
+-- j places set to FFh, and then the k behind them: j + k are
+pub erased-on : (s : Bool) (a j k at x : ℕ) → cond (s and fromOn (a + j) k at) erasedByte (cond (s and fromOn a j at) erasedByte x) ≡ cond (s and fromOn a (j + k) at) erasedByte x
+erased-on s a j k at x =
+    next-erased s (fromOn (a + j) k at) (fromOn a j at) (fromOn a (j + k) at) x
+    (λ e. let q = on-from (a + j) k at e in from-on a (j + k) at (omega (arith, q)) (omega (arith, q)))
+    (λ e. let q = on-from a j at e in from-on a (j + k) at (q .0) (omega (arith, q)))
+    (λ e f. let q = on-from a (j + k) at e in lies-before a j k at (q .0) (omega (arith, q)) f)
 
 -- the next tick at a place of a memory, after k ticks
 module _ (m : Memory) (at : ℕ) where
@@ -86,14 +94,12 @@ module _ (m : Memory) (at : ℕ) where
       → byteAfter m at (blank (memoryOf u) (b + (d + k) * pageBytes)) (byteRan k (Erase u b d) g m at x) ≡ byteRan (suc k) (Erase u b d) g m at x
   erase-next u b d k g x =
       let a = b + d * pageBytes in
-      let c = b + (d + k) * pageBytes in
-      let z : c ≡ a + k * pageBytes = omega arith in
-      next-erased (sameMemory m (memoryOf u)) (fromOn c pageBytes at) (fromOn a (k * pageBytes) at) (fromOn a (suc k * pageBytes) at) x
-      (λ e. let q = on-from c pageBytes at e in from-on a (suc k * pageBytes) at (omega (arith, q)) (omega (arith, q)))
-      (λ e. let q = on-from a (k * pageBytes) at e in from-on a (suc k * pageBytes) at (q .0) (omega (arith, q)))
-      (λ e f.
-      let q = on-from a (suc k * pageBytes) at e in
-      lies-before a (k * pageBytes) pageBytes at (q .0) (omega (arith, q)) (sym (ap (λ (y : ℕ). fromOn y pageBytes at) z) ∙ f))
+      let s = sameMemory m (memoryOf u) in
+      let c : b + (d + k) * pageBytes ≡ a + k * pageBytes = omega arith in
+      let z : k * pageBytes + pageBytes ≡ suc k * pageBytes = omega arith in
+      ap (λ (y : ℕ). cond (s and fromOn y pageBytes at) erasedByte (cond (s and fromOn a (k * pageBytes) at) erasedByte x)) c
+      ∙ erased-on s a (k * pageBytes) pageBytes at x
+      ∙ ap (λ (y : ℕ). cond (s and fromOn a y at) erasedByte x) z
 
   -- of an operation that is in order
   ran-next : (o : Operation) (n : ℕ) (r : Stored) (k : ℕ) (g : List ℕ) (x : ℕ) → InOrder o n r → ticksDone o + k < ticksInAll o n

@@ -19,6 +19,7 @@ pub mod TransactionKept
 pub mod ReadsKept
 pub mod Answers
 pub mod CallKept
+pub mod TickCalls
 pub mod LocksKept
 pub mod ErrorsKept
 pub mod Histories

@@ -22,7 +22,7 @@ use Rattle.paper.specs.Phases.{running, restOf}
 use Rattle.paper.specs.Soundness.{sound}
 use Rattle.paper.specs.Ticks.{finished, recordAfter}
 use Rattle.paper.specs.Operations.{ticksInAll, ticksLeft}
-use Rattle.paper.specs.History.{ticks, recordAfterCall, tickTouches, reachedBy, callTouches, byteAfterAll}
+use Rattle.paper.specs.History.{ticks, recordAfterCall, tickTouches, byteAfterAll}
 use Rattle.paper.specs.ByPlace.{byteEnded}
 use Rattle.paper.proofs.Soundness.{InOrder, running-in-order}
 use Rattle.paper.proofs.ManyTicks.{run-past}
@@ -54,13 +54,8 @@ module _ (p : Record) (o : Operation) (e : running (p .phase) ≡ At o) (s : sou
   run-leaves m at x = ended-bytes p o e in-order-now m at x n l
 
   -- in one call
-  module _ (few : n ≤ tickLimit (p .part .blocks)) where
-    pub call-rests : (f : Phase) → p .phase ≡ f → Rests (restOf f) (recordAfterCall (ticks n) p)
-    call-rests f h = subst⁻¹ (Rests (restOf f)) (ap (λ (t : Ticked). t .next) (ticks-run p s n few)) (run-rests f h)
-
-    pub call-leaves : (m : Memory) (at x : ℕ) → byteAfterAll m at (callTouches (ticks n) p) x ≡ byteEnded o (p .part .blocks) (p .page) m at x
-    call-leaves m at x =
-        ap (λ (t : Ticked). byteAfterAll m at (reachedBy (t .number) n p) x) (ticks-run p s n few) ∙ run-leaves m at x
+  pub call-rests : n ≤ tickLimit (p .part .blocks) → (f : Phase) → p .phase ≡ f → Rests (restOf f) (recordAfterCall (ticks n) p)
+  call-rests few f h = subst⁻¹ (Rests (restOf f)) (ap (λ (t : Ticked). t .next) (ticks-run p s n few)) (run-rests f h)
 
 -- which may ask as many ticks as the operation takes
 pub pages-few : (u : EraseUnit) (n : ℕ) → sizeOk n ≡ true → unitPages u n ≤ tickLimit n

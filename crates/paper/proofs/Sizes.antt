@@ -45,6 +45,11 @@ pub chip-few : (n : ℕ) → sizeOk n ≡ true → n * 256 ≤ tickLimit n
 chip-few =
     by-size (λ (n : ℕ). n * 256 ≤ tickLimit n) (omega arith) (omega arith) (omega arith) (omega arith) (omega arith)
 
+-- a memory is the same as itself
+pub same-self : (m : Memory) → sameMemory m m ≡ true
+same-self Array = refl
+same-self Rows = refl
+
 -- two memories that are the same are one
 pub same-is : (m w : Memory) → sameMemory m w ≡ true → m ≡ w
 same-is Array Array e = refl

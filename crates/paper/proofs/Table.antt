@@ -4,6 +4,8 @@ use mathlib.Core.Path.{_≡_, refl, sym, ap, _∙_}
 use mathlib.Core.List.{List, [], _∷_, _++_}
 use mathlib.Core.Bool.{Bool, true, false, not, cond, false≢true}
 use lib.Dec.{eqb}
+use borrow.Author.Tests.{not-true}
+use Rattle.types.specs.declared.Addressing.{Addressing}
 use Rattle.types.specs.declared.Columns.{Columns}
 use Rattle.types.specs.declared.Command.{Command}
 use Rattle.types.specs.declared.Command.the-variants.{Read}
@@ -16,11 +18,14 @@ use Rattle.types.specs.declared.Wanted.the-variants.{Any, Running, Halted, Arme
 use Rattle.types.specs.declared.Phase.{Phase}
 use Rattle.types.specs.declared.Part.{Part}
 use Rattle.words.specs.Logic.{_and_, _or_}
+use Rattle.words.specs.Lists.{every}
 use Rattle.words.proofs.Tests.{and-l, and-r}
+use Rattle.words.proofs.Lists.{every-both}
 use Rattle.paper.specs.Sizes.{isLarge}
 use Rattle.paper.specs.Registers.{extadd}
 use Rattle.paper.specs.Table.{Entry, codes, largeCodes, farCodes, codesOn, lookUp, decoded, columns, takenAsleep, takenBusy, takenSuspended, isRead}
-use Rattle.paper.specs.Commands.{errorsOf}
+use Rattle.paper.specs.Phases.{workIs, anyOperation}
+use Rattle.paper.specs.Commands.{begins, errorsOf}
 use Rattle.paper.specs.Numbers.{stateOk}
 
 -- the codes of the entries whose columns pass a test
@@ -80,10 +85,9 @@ far-taken-erase-suspended = refl
 pub far-needs-wel : codesOf (λ (k : Columns). k .wel) farCodes ≡ 0x02 ∷ 0xD7 ∷ 0x20 ∷ 0x52 ∷ 0xD8 ∷ []
 far-needs-wel = refl
 
--- a command that is looked up passes a test that every entry does
-abbrev every : (Command → Bool) → List Entry → Bool
-every test [] = true
-every test (e ∷ es) = test (e .command) and every test es
+-- a command that is looked up passes a test that those of all entries do
+abbrev passes : (Command → Bool) → List Entry → Bool
+passes test es = every (λ (e : Entry). test (e .command)) es
 
 abbrev isKnown : Decoded → Bool
 isKnown (Known k) = true
@@ -98,10 +102,20 @@ found-as : (test : Command → Bool) (x k : Command) (rest : Decoded) (t : Bool)
 found-as test x k rest true h r e = ap test (sym (ap commandIn e)) ∙ h
 found-as test x k rest false h r e = r e
 
-found : (test : Command → Bool) (es : List Entry) (c : ℕ) (k : Command) → every test es ≡ true → lookUp es c ≡ Known k → test k ≡ true
+found : (test : Command → Bool) (es : List Entry) (c : ℕ) (k : Command) → passes test es ≡ true → lookUp es c ≡ Known k → test k ≡ true
 found test [] c k h e = absurd (false≢true (ap isKnown e))
 found test (x ∷ xs) c k h e =
     found-as test (x .command) k (lookUp xs c) (eqb c (x .code)) (and-l _ _ h) (found test xs c k (and-r _ _ h)) e
+
+passes-asked : (test : Command → Bool) (t : Bool) (es : List Entry) → passes test es ≡ true → passes test (cond t es []) ≡ true
+passes-asked test true es h = h
+passes-asked test false es h = refl
+
+-- so does every command that a part knows, if every entry of the three lists of codes does
+of-decoded : (test : Command → Bool) → passes test farCodes ≡ true → passes test codes ≡ true → passes test largeCodes ≡ true → (n bank c : ℕ) (k : Command) → decoded n bank c ≡ Known k → test k ≡ true
+unfolding decoded
+of-decoded test f h l n bank c k e =
+    found test (codesOn n bank) c k (every-both (λ (x : Entry). test (x .command)) (cond (extadd bank) farCodes []) (codes ++ cond (isLarge n) largeCodes []) (passes-asked test (extadd bank) farCodes f) (every-both (λ (x : Entry). test (x .command)) codes (cond (isLarge n) largeCodes []) h (passes-asked test (isLarge n) largeCodes l))) e
 
 -- What a code is, from what each of the three lists of codes has at it: what a list has, where the test lets it be asked, or else what comes after it
 abbrev on : Bool → Decoded → Decoded → Decoded
@@ -174,10 +188,9 @@ setsBank (SetsFar far) = true
 abbrev sparesBank : Command → Bool
 sparesBank k = not (setsBank (columns k .effect))
 
-spares-all : (far : Bool) → every sparesBank (cond far farCodes [] ++ (codes ++ [])) ≡ true
+spares-all : (far : Bool) → passes sparesBank (cond far farCodes [] ++ (codes ++ [])) ≡ true
 unfolding _and_
-spares-all true = refl
-spares-all false = refl
+spares-all far = every-both (λ (x : Entry). sparesBank (x .command)) (cond far farCodes []) (codes ++ []) (passes-asked sparesBank far farCodes refl) refl
 
 bank-large-as : (n bank c : ℕ) (k : Command) (t : Bool) → isLarge n ≡ t
     → lookUp (cond (extadd bank) farCodes [] ++ (codes ++ cond t largeCodes [])) c ≡ Known k → setsBank (columns k .effect) ≡ true → isLarge n ≡ true
@@ -211,13 +224,6 @@ looks (SetsFar far) = false
 abbrev readLooks : Command → Bool
 readLooks k = not (isRead (columns k)) or looks (columns k .effect)
 
-looks-all : (far large : Bool) → every readLooks (cond far farCodes [] ++ (codes ++ cond large largeCodes [])) ≡ true
-unfolding _and_ _or_
-looks-all true true = refl
-looks-all true false = refl
-looks-all false true = refl
-looks-all false false = refl
-
 look-or-wake : (Q : Effect → Type 0) → Q Looks → Q Wakes → (e : Effect) → looks e ≡ true → Q e
 look-or-wake Q l w Looks h = l
 look-or-wake Q l w Enables h = absurd (false≢true h)
@@ -238,9 +244,9 @@ look-or-wake Q l w (SetsFar far) h = absurd (false≢true h)
 
 -- what holds of both, holds of what every read does
 pub of-reads : (Q : Effect → Type 0) → Q Looks → Q Wakes → (n bank c : ℕ) (k : Command) → decoded n bank c ≡ Known k → isRead (columns k) ≡ true → Q (columns k .effect)
-unfolding decoded _or_
+unfolding _and_ _or_
 of-reads Q l w n bank c k e h =
-    look-or-wake Q l w (columns k .effect) (rw h at (found readLooks (codesOn n bank) c k (looks-all (extadd bank) (isLarge n)) e))
+    look-or-wake Q l w (columns k .effect) (rw h at (of-decoded readLooks refl refl refl n bank c k e))
 
 -- what sets error bits, a program or an erase, wants nothing of the state
 abbrev isAny : Wanted → Bool
@@ -252,13 +258,6 @@ isAny Armed = false
 abbrev wantsNothing : Command → Bool
 wantsNothing k = eqb (errorsOf (columns k .effect)) 0 or isAny (columns k .wanted)
 
-nothing-all : (far large : Bool) → every wantsNothing (cond far farCodes [] ++ (codes ++ cond large largeCodes [])) ≡ true
-unfolding _and_ _or_
-nothing-all true true = refl
-nothing-all true false = refl
-nothing-all false true = refl
-nothing-all false false = refl
-
 any-state : (w : Wanted) (p : Part) (f : Phase) → isAny w ≡ true → stateOk w p f ≡ true
 any-state Any p f h = refl
 any-state Running p f h = absurd (false≢true h)
@@ -266,6 +265,23 @@ any-state Halted p f h = absurd (false≢true h)
 any-state Armed p f h = absurd (false≢true h)
 
 pub write-state : (n bank c : ℕ) (k : Command) (p : Part) (f : Phase) → decoded n bank c ≡ Known k → eqb (errorsOf (columns k .effect)) 0 ≡ false → stateOk (columns k .wanted) p f ≡ true
-unfolding decoded _or_
+unfolding _and_ _or_
 write-state n bank c k p f e h =
-    any-state (columns k .wanted) p f (rw h at (found wantsNothing (codesOn n bank) c k (nothing-all (extadd bank) (isLarge n)) e))
+    any-state (columns k .wanted) p f (rw h at (of-decoded wantsNothing refl refl refl n bank c k e))
+
+-- and needs WEL
+abbrev needsLatch : Command → Bool
+needsLatch k = eqb (errorsOf (columns k .effect)) 0 or columns k .wel
+
+pub write-latch : (n bank c : ℕ) (k : Command) → decoded n bank c ≡ Known k → eqb (errorsOf (columns k .effect)) 0 ≡ false → columns k .wel ≡ true
+unfolding _and_ _or_
+write-latch n bank c k e h = rw h at (of-decoded needsLatch refl refl refl n bank c k e)
+
+-- what begins something is not taken while the part is busy
+abbrev waitsToBegin : Addressing → ℕ → List ℕ → Command → Bool
+waitsToBegin g n i k = not (workIs anyOperation (begins (columns k .effect) g n i)) or not (takenBusy (columns k .taken))
+
+pub begins-at-rest : (n bank c : ℕ) (k : Command) (g : Addressing) (i : List ℕ) → decoded n bank c ≡ Known k → workIs anyOperation (begins (columns k .effect) g n i) ≡ true → takenBusy (columns k .taken) ≡ false
+unfolding _and_ _or_
+begins-at-rest n bank c k g i e h =
+    not-true _ (rw h at (of-decoded (waitsToBegin g n i) refl refl refl n bank c k e))

@@ -1,15 +1,11 @@
--- A suspended operation: which calls let it go, and what the pages hold that an erase has done.
+-- A suspended operation: which calls let it go, and which pages an erase has done.
 use Prim.Native.Nat.{ℕ, _*_}
-use mathlib.Core.Path.{_≡_}
 use mathlib.Core.Bool.{Bool, true, false}
 use lib.ListN.{getD}
 use lib.Dec.{eqb}
 use Rattle.types.specs.declared.Memory.{Memory}
 use Rattle.types.specs.declared.Operation.{Operation}
 use Rattle.types.specs.declared.Operation.the-variants.{Program, Erase, Write}
-use Rattle.types.specs.declared.Phase.{Phase}
-use Rattle.types.specs.declared.Work.{Work}
-use Rattle.types.specs.declared.Work.the-variants.{NoWork, At}
 use Rattle.types.specs.declared.Decoded.{Decoded}
 use Rattle.types.specs.declared.Decoded.the-variants.{Known, Unknown}
 use Rattle.types.specs.declared.Effect.{Effect}
@@ -17,8 +13,7 @@ use Rattle.types.specs.declared.Effect.the-variants.{Looks, Enables, Disables, 
 use Rattle.types.specs.declared.Record.{Record}
 use Rattle.words.specs.Logic.{_and_}
 use Rattle.paper.specs.Sizes.{arrayBytes, rowsBytes, pageBytes, sameMemory, fromOn}
-use Rattle.paper.specs.Erase.{memoryOf, erasedByte}
-use Rattle.paper.specs.Phases.{running, halted}
+use Rattle.paper.specs.Erase.{memoryOf}
 use Rattle.paper.specs.Table.{decoded, columns}
 use Rattle.paper.specs.Calls.{transacted}
 use Rattle.paper.specs.History.{Call, transaction, ticks}
@@ -58,12 +53,3 @@ abbrev pub inDone : Operation → Memory → ℕ → Bool
 inDone (Program m s b k d) w a = false
 inDone (Erase u b d) w a = sameMemory w (memoryOf u) and fromOn b (d * pageBytes) a
 inDone (Write r v) w a = false
-
--- the byte x at a place of a memory is FFh, if the place lies in the pages that an erase has done
-abbrev pub BlankIn : Memory → ℕ → ℕ → Work → Type 0
-BlankIn m at x NoWork = Unit {0}
-BlankIn m at x (At o) = inDone o m at ≡ true → x ≡ erasedByte
-
--- so of what runs, and of what is suspended
-abbrev pub DoneBlank : Memory → ℕ → ℕ → Phase → Type 0
-DoneBlank m at x f = BlankIn m at x (running f) × BlankIn m at x (halted f)

@@ -3,13 +3,14 @@ use Prim.Native.Nat.{ℕ, zero, suc}
 use mathlib.Core.List.{List, [], _∷_, _++_}
 use mathlib.Core.Bool.{Bool, true, not, cond}
 use lib.ListN.{length}
-use lib.Dec.{eqb}
+use lib.Dec.{eqb, leb}
 use Rattle.types.specs.declared.Memory.{Memory}
 use Rattle.types.specs.declared.Identity.{Identity}
 use Rattle.types.specs.declared.Stored.{Stored}
+use Rattle.types.specs.declared.Answer.{Answer}
 use Rattle.types.specs.declared.Record.{Record}
 use Rattle.words.specs.Logic.{_and_, whenZero}
-use Rattle.paper.specs.Sizes.{arrayBytes, rowsBytes, pageBytes, sameMemory, fromOn}
+use Rattle.paper.specs.Sizes.{arrayBytes, rowsBytes, pageBytes, sameMemory, fromOn, tickLimit}
 use Rattle.paper.specs.Program.{narrowedByte}
 use Rattle.paper.specs.Erase.{erasedByte}
 use Rattle.paper.specs.Operations.{free, Touch, none, blank, narrow}
@@ -32,10 +33,19 @@ abbrev pub recordAfterCall : Call → Record → Record
 recordAfterCall (transaction wp i o) p = transacted p (arrayBytes (p .part .blocks)) rowsBytes wp i o .next
 recordAfterCall (ticks n) p = ticked p (arrayBytes (p .part .blocks)) rowsBytes n .next
 
+-- what a record answers to a transaction of one byte
+abbrev pub answerToByte : Bool → ℕ → Record → Answer
+answerToByte wp c p = transacted p (arrayBytes (p .part .blocks)) rowsBytes wp (c ∷ []) 1
+
 -- the record after a list of calls
 abbrev pub recordAfterCalls : List Call → Record → Record
 recordAfterCalls [] p = p
 recordAfterCalls (c ∷ cs) p = recordAfterCalls cs (recordAfterCall c p)
+
+-- the ticks that a call gives to a part of n blocks: as many as it asks, if a call may ask so many
+abbrev pub ticksBy : ℕ → Call → ℕ
+ticksBy n (transaction wp i o) = 0
+ticksBy n (ticks k) = cond (leb k (tickLimit n)) k 0
 
 -- what n ticks reach, in order
 abbrev pub tickTouches : ℕ → Record → List Touch

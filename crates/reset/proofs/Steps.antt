@@ -19,20 +19,20 @@ use Rattle.types.specs.declared.Record.{Record}
 use Rattle.words.specs.Logic.{_and_, _or_, unless, _orElse_}
 use Rattle.paper.specs.Sizes.{sizeOk}
 use Rattle.paper.specs.Registers.{heldByte, TBS, storedBits, bankLoaded}
-use Rattle.paper.specs.Phases.{isBusy}
+use Rattle.paper.specs.Phases.{isBusy, isIdle}
 use Rattle.paper.specs.Records.{marked, fresh}
 use Rattle.paper.specs.Soundness.{sleepOk, sound, largeOk}
 use Rattle.paper.specs.Numbers.{commandNumber, powerUpNumber}
 use Rattle.paper.specs.Table.{columns, addressingOn}
 use Rattle.paper.specs.Calls.{poweredUp}
-use Rattle.paper.specs.History.{recordAfterCall}
+use Rattle.paper.specs.History.{recordAfterCall, answerToByte}
 use Rattle.paper.proofs.Table.{known}
 use Rattle.paper.proofs.Phases.{busy-not-idle}
 use Rattle.paper.proofs.Bits.{bits-as, given-as}
 use Rattle.paper.proofs.MadeSound.{stored-large}
 use Rattle.paper.proofs.Soundness.{recordOf, sound-parts}
 use Rattle.paper.proofs.Answers.{executes, ignores, arm-number, reset-number}
-use Rattle.reset.specs.Closing.{wake, arm, answerToReset}
+use Rattle.reset.specs.Closing.{wake, answerToReset}
 
 -- ABh is executed, but on a busy part ignored with 22
 wake-number : (p : Part) (f : Phase) (wp busy : Bool) → isBusy f ≡ busy → commandNumber (columns Wake) (addressingOn (columns Wake) p) NoWork p f (0xAB ∷ []) wp ≡ unless (not busy) 22
@@ -40,17 +40,17 @@ unfolding commandNumber _or_ unless _orElse_
 wake-number p f wp true e = rw e
 wake-number p f wp false e = rw e
 
--- a busy part is awake
-busy-awake : (f : Phase) (asleep : Bool) → isBusy f ≡ true → sleepOk f asleep ≡ true → asleep ≡ false
+-- a part that is not idle is awake
+pub not-idle-awake : (f : Phase) (asleep : Bool) → isIdle f ≡ false → sleepOk f asleep ≡ true → asleep ≡ false
 unfolding _or_
-busy-awake f asleep b h = not-true asleep (rw (busy-not-idle f b) at h)
+not-idle-awake f asleep b h = not-true asleep (rw b at h)
 
 module _ (p : Record) (s : sound p ≡ true) (wp : Bool) where
   woken-as : (busy : Bool) → isBusy (p .phase) ≡ busy → recordAfterCall (wake wp) p .part .asleep ≡ false
   unfolding unless
   woken-as true e =
       ap (λ (t : Answer). t .next .part .asleep) (ignores p s wp Wake (0xAB ∷ []) (omega arith) (omega arith) (known 0xAB Wake refl refl (p .part .blocks) (p .part .bank)) 21 (wake-number (p .part) (p .phase) wp true e))
-      ∙ busy-awake (p .phase) (p .part .asleep) e (sound-parts p s .sleep)
+      ∙ not-idle-awake (p .phase) (p .part .asleep) (busy-not-idle (p .phase) e) (sound-parts p s .sleep)
   woken-as false e =
       ap (λ (t : Answer). t .next .part .asleep) (executes p s wp Wake (0xAB ∷ []) (omega arith) (omega arith) (known 0xAB Wake refl refl (p .part .blocks) (p .part .bank)) (wake-number (p .part) (p .phase) wp false e))
 
@@ -60,8 +60,8 @@ module _ (p : Record) (s : sound p ≡ true) (wp : Bool) where
 
   -- 66h arms an awake part
   module _ (awake : p .part .asleep ≡ false) where
-    pub armed-now : recordAfterCall (arm wp) p ≡ recordOf (p .identity) (marked (p .part) true) (p .phase) (p .page)
-    armed-now = ap (λ (t : Answer). t .next) (executes p s wp ArmReset (0x66 ∷ []) (omega arith) (omega arith) (known 0x66 ArmReset refl refl (p .part .blocks) (p .part .bank)) (arm-number (p .part) (p .phase) awake wp))
+    pub armed-now : answerToByte wp 0x66 p ≡ record { next = recordOf (p .identity) (marked (p .part) true) (p .phase) (p .page); number = 0; first = 1 }
+    armed-now = executes p s wp ArmReset (0x66 ∷ []) (omega arith) (omega arith) (known 0x66 ArmReset refl refl (p .part .blocks) (p .part .bank)) (arm-number (p .part) (p .phase) awake wp)
 
     -- 99h resets an awake and armed part
     pub reset-now : p .part .armed ≡ true → answerToReset wp p ≡ record { next = fresh (p .part .blocks) (p .identity) (p .part .stored); number = 0; first = 1 }

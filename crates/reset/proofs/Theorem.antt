@@ -64,7 +64,7 @@ module _ (w1 w2 w3 : Bool) (b c : List Call) (p : Record) where
     arm-awake = all-aside-alike b (recordAfterCall (wake w1) p) hb .asleep ∙ woken p s w1
 
     armed-as : recordAfterCalls (untilArmed w1 w2 b) p ≡ recordOf (atArm .identity) (marked (atArm .part) true) (atArm .phase) (atArm .page)
-    armed-as = armed-here ∙ armed-now atArm arm-sound w2 arm-awake
+    armed-as = armed-here ∙ ap (λ (t : Answer). t .next) (armed-now atArm arm-sound w2 arm-awake)
 
     ready : Armed atReset
     ready =

@@ -8,10 +8,9 @@ use Rattle.types.specs.declared.PoweredUp.{PoweredUp}
 use Rattle.types.specs.declared.Answer.{Answer}
 use Rattle.types.specs.declared.Record.{Record}
 use Rattle.words.specs.Logic.{_and_}
-use Rattle.paper.specs.Sizes.{arrayBytes, rowsBytes}
 use Rattle.paper.specs.Registers.{storedBits}
-use Rattle.paper.specs.Calls.{poweredUp, transacted}
-use Rattle.paper.specs.History.{Call, oneByte, recordAfterCall, recordAfterCalls, history, standsAside}
+use Rattle.paper.specs.Calls.{poweredUp}
+use Rattle.paper.specs.History.{Call, oneByte, recordAfterCall, answerToByte, recordAfterCalls, history, standsAside}
 
 -- ABh, 66h and 99h as one-byte transactions
 abbrev pub wake : Bool → Call
@@ -46,7 +45,7 @@ poweredAs n id q = poweredUp n id (storedBits (q .part .stored))
 
 -- what a record answers to 99h
 abbrev pub answerToReset : Bool → Record → Answer
-answerToReset wp q = transacted q (arrayBytes (q .part .blocks)) rowsBytes wp (0x99 ∷ []) 1
+answerToReset wp q = answerToByte wp 0x99 q
 
 -- after the calls that close, a part that had the record p is one of n blocks and that identity, freshly powered with its stored register bits just before 99h:
 -- 99h is executed, the power-up is not refused, the records are equal, and no call but those of b and c reaches a stored byte

@@ -1,7 +1,7 @@
 -- An erase that is suspended, whatever is sent and runs within, and resumed: it goes on where it was, and run to its end leaves FFh in its whole unit.
 use Prim.Native.Nat.{ℕ, _+_, _-_, _<_, _≤_}
 use mathlib.Core.Path.{_≡_, refl, sym, ap, _∙_, subst⁻¹}
-use mathlib.Core.Bool.{Bool, true, false, false≢true}
+use mathlib.Core.Bool.{Bool, true, false, not, cond, false≢true}
 use mathlib.Core.List.{List, [], _∷_, _++_}
 use native.Mathlib.Omega.{arith}
 use borrow.Author.Tests.{not-true}
@@ -17,30 +17,30 @@ use Rattle.types.specs.declared.Decoded.the-variants.{Known}
 use Rattle.types.specs.declared.Part.{Part}
 use Rattle.types.specs.declared.Record.{Record}
 use Rattle.types.specs.declared.Answer.{Answer}
-use Rattle.types.specs.declared.Ticked.{Ticked}
 use Rattle.words.specs.Logic.{_and_, _or_, unless, _orElse_}
+use Rattle.words.proofs.Tests.{and-in}
 use Rattle.paper.specs.Sizes.{tickLimit}
 use Rattle.paper.specs.Erase.{unitPages, erasedByte}
-use Rattle.paper.specs.Phases.{running, halted, isBusy, workingOn, suspendedIn, resumedIn}
+use Rattle.paper.specs.Phases.{running, halted, isBusy, isIdle, suspendedIn, resumedIn}
 use Rattle.paper.specs.Records.{settled}
 use Rattle.paper.specs.Operations.{unitSuspends, canSuspend, inUnit}
 use Rattle.paper.specs.Soundness.{sound}
 use Rattle.paper.specs.Table.{columns, addressingOn}
 use Rattle.paper.specs.Commands.{unarmed}
 use Rattle.paper.specs.Numbers.{commandNumber, ignoredNumber}
-use Rattle.paper.specs.History.{Call, ticks, oneByte, recordAfterCall, recordAfterCalls, history, byteAfterAll}
-use Rattle.paper.specs.Halted.{inDone, DoneBlank}
+use Rattle.paper.specs.History.{Call, ticks, oneByte, recordAfterCall, answerToByte, recordAfterCalls, history, byteAfterAll}
+use Rattle.paper.specs.Halted.{inDone}
 use Rattle.paper.proofs.Phases.{no-work-at, at-same}
 use Rattle.paper.proofs.Soundness.{recordOf, sound-parts, sound-in}
 use Rattle.paper.proofs.Table.{Always, known}
-use Rattle.paper.proofs.ManyTicks.{run-record}
-use Rattle.paper.proofs.Answers.{executes, ticks-run}
+use Rattle.paper.proofs.Answers.{executes}
 use Rattle.paper.proofs.CallKept.{call-sound}
 use Rattle.paper.proofs.RunToEnd.{call-rests, pages-few}
 use Rattle.history.proofs.Calls.{calls-sound, calls-size, calls-append}
 use Rattle.suspended.specs.Interrupted.{noneReleases, interrupted}
+use Rattle.suspended.specs.UnderWay.{Erasing, neverIdle}
 use Rattle.suspended.proofs.HaltedKept.{calls-halted}
-use Rattle.suspended.proofs.ErasedPages.{begun-blank, erase-whole}
+use Rattle.suspended.proofs.UnderWay.{never-halted, never-both, nothing-done, leftIn, ticks-go-on, erase-whole}
 
 -- 75h and B0h are suspends, 7Ah and 30h resumes
 pub suspend-codes : Always 0x75 Suspend × Always 0xB0 Suspend
@@ -61,31 +61,28 @@ resume-number p o c wp a = rw a
 module _ (p : Record) (o : Operation) (s : sound p ≡ true) (wp : Bool) (c : ℕ) where
   -- a suspend of what runs alone and can be suspended is executed
   pub suspends-now : p .phase ≡ Busy o → canSuspend o ≡ true → Always c Suspend
-      → recordAfterCall (oneByte wp c) p ≡ recordOf (p .identity) (unarmed (settled (p .part) (Suspended o) false)) (Suspended o) (p .page)
+      → answerToByte wp c p ≡ record { next = recordOf (p .identity) (unarmed (settled (p .part) (Suspended o) false)) (Suspended o) (p .page); number = 0; first = 1 }
   unfolding _or_
   suspends-now f h e =
       let a : p .part .asleep ≡ false = not-true _ (sound-in p (Busy o) f s .sleep) in
       let n : ignoredNumber (Known Suspend) (p .part) (p .phase) (c ∷ []) wp ≡ 0 = ap (λ (g : Phase). commandNumber (columns Suspend) (addressingOn (columns Suspend) (p .part)) NoWork (p .part) g (c ∷ []) wp) f ∙ suspend-number (p .part) o c wp a h in
-      ap (λ (t : Answer). t .next) (executes p s wp Suspend (c ∷ []) (omega arith) (omega arith) (e (p .part .blocks) (p .part .bank)) n)
-      ∙ ap (λ (g : Phase). recordOf (p .identity) (unarmed (settled (p .part) (suspendedIn g) false)) (suspendedIn g) (p .page)) f
+      executes p s wp Suspend (c ∷ []) (omega arith) (omega arith) (e (p .part .blocks) (p .part .bank)) n
+      ∙ ap (λ (g : Phase). record { next = recordOf (p .identity) (unarmed (settled (p .part) (suspendedIn g) false)) (suspendedIn g) (p .page); number = 0; first = 1 }) f
 
   -- and so is a resume of what is suspended
   pub resumes-now : p .phase ≡ Suspended o → Always c Resume
-      → recordAfterCall (oneByte wp c) p ≡ recordOf (p .identity) (unarmed (settled (p .part) (Busy o) true)) (Busy o) (p .page)
+      → answerToByte wp c p ≡ record { next = recordOf (p .identity) (unarmed (settled (p .part) (Busy o) true)) (Busy o) (p .page); number = 0; first = 1 }
   unfolding _or_
   resumes-now f e =
       let a : p .part .asleep ≡ false = not-true _ (sound-in p (Suspended o) f s .sleep) in
       let n : ignoredNumber (Known Resume) (p .part) (p .phase) (c ∷ []) wp ≡ 0 = ap (λ (g : Phase). commandNumber (columns Resume) (addressingOn (columns Resume) (p .part)) NoWork (p .part) g (c ∷ []) wp) f ∙ resume-number (p .part) o c wp a in
-      ap (λ (t : Answer). t .next) (executes p s wp Resume (c ∷ []) (omega arith) (omega arith) (e (p .part .blocks) (p .part .bank)) n)
-      ∙ ap (λ (g : Phase). recordOf (p .identity) (unarmed (settled (p .part) (resumedIn g) true)) (resumedIn g) (p .page)) f
+      executes p s wp Resume (c ∷ []) (omega arith) (omega arith) (e (p .part .blocks) (p .part .bank)) n
+      ∙ ap (λ (g : Phase). record { next = recordOf (p .identity) (unarmed (settled (p .part) (resumedIn g) true)) (resumedIn g) (p .page); number = 0; first = 1 }) f
 
--- a part that is suspended from an erase with d ticks done, the pages done holding FFh: after a resume and the ticks that are left its whole unit does
-pub resume-whole : (p : Record) (u : EraseUnit) (b d : ℕ) (wp : Bool) (c : ℕ) (m : Memory) (at x : ℕ) → sound p ≡ true → p .phase ≡ Suspended (Erase u b d) → Always c Resume
-    → inUnit (Erase u b d) (p .part .blocks) m at ≡ true → (inDone (Erase u b d) m at ≡ true → x ≡ erasedByte)
-    → byteAfterAll m at (history (oneByte wp c ∷ ticks (unitPages u (p .part .blocks) - d) ∷ []) p) x ≡ erasedByte
-resume-whole p u b d wp c m at x s f e i h =
-    let r = ap (λ (q : Record). q .phase) (resumes-now p (Erase u b d) s wp c f e) in
-    erase-whole m at x (oneByte wp c ∷ []) p u b d (unitPages u (p .part .blocks) - d) s (subst⁻¹ (DoneBlank m at x) f (tt, h)) r (omega arith) (omega (arith, pages-few u (p .part .blocks) (sound-parts p s .size))) i
+-- a byte that is FFh where a test holds
+held-so : (t : Bool) (x : ℕ) → (t ≡ true → x ≡ erasedByte) → cond t erasedByte x ≡ x
+held-so true x h = sym (h refl)
+held-so false x h = refl
 
 -- an operation is suspended and nothing runs
 at-rest : (f : Phase) (e : Operation) → halted f ≡ At e → isBusy f ≡ false → f ≡ Suspended e
@@ -104,29 +101,37 @@ module _ (p : Record) (u : EraseUnit) (b : ℕ) (s : sound p ≡ true) (f : p .p
     ran-phase : recordAfterCall (ticks d) p .phase ≡ Busy (Erase u b d)
     ran-phase =
         let z : 0 + d ≡ d = omega arith in
-        ap (λ (t : Ticked). t .next .phase) (ticks-run p s d (omega (arith, few)))
-        ∙ ap (λ (q : Record). q .phase) (run-record p (Erase u b 0) (ap running f) d (omega arith))
-        ∙ ap (λ (h : Phase). workingOn h (Erase u b (0 + d))) f
-        ∙ ap (λ (k : ℕ). Busy (Erase u b k)) z
+        ticks-go-on u b (p .part .blocks) p s refl d 0 f (omega arith) ∙ ap (λ (k : ℕ). Busy (Erase u b k)) z
 
     -- leave it suspended
-    pub cut-phase : recordAfterCalls (ticks d ∷ oneByte w c ∷ []) p .phase ≡ Suspended (Erase u b d)
-    cut-phase =
-        ap (λ (q : Record). q .phase) (suspends-now (recordAfterCall (ticks d) p) (Erase u b d) (call-sound (ticks d) p s) w c ran-phase g dc)
+    pub suspended-phase : recordAfterCalls (ticks d ∷ oneByte w c ∷ []) p .phase ≡ Suspended (Erase u b d)
+    suspended-phase =
+        ap (λ (t : Answer). t .next .phase) (suspends-now (recordAfterCall (ticks d) p) (Erase u b d) (call-sound (ticks d) p s) w c ran-phase g dc)
 
     -- then calls none of which lets it go, after which nothing runs, and a resume
     module _ (cs : List Call) (none : noneReleases cs (recordAfterCalls (ticks d ∷ oneByte w c ∷ []) p) ≡ true)
         (still : isBusy (recordAfterCalls cs (recordAfterCalls (ticks d ∷ oneByte w c ∷ []) p) .phase) ≡ false)
         (v : Bool) (r : ℕ) (dr : Always r Resume) where
+      abbrev before : Record
+      before = recordAfterCalls (ticks d ∷ oneByte w c ∷ []) p
+
+      abbrev held : Record
+      held = recordAfterCalls cs before
+
+      resumed-here : recordAfterCall (oneByte v r) held .phase ≡ Busy (Erase u b d)
+      resumed-here =
+          let h : held .phase ≡ Suspended (Erase u b d) = at-rest (held .phase) (Erase u b d) (calls-halted cs before (Erase u b d) (ap halted suspended-phase) none) still in
+          ap (λ (t : Answer). t .next .phase) (resumes-now held (Erase u b d) (calls-sound cs before (calls-sound (ticks d ∷ oneByte w c ∷ []) p s)) v r h dr)
+
       -- it goes on where it was
       pub resumed-phase : recordAfterCalls (interrupted d (oneByte w c) cs (oneByte v r)) p .phase ≡ Busy (Erase u b d)
-      resumed-phase =
-          let before = recordAfterCalls (ticks d ∷ oneByte w c ∷ []) p in
-          let q = recordAfterCalls cs before in
-          let h : q .phase ≡ Suspended (Erase u b d) = at-rest (q .phase) (Erase u b d) (calls-halted cs before (Erase u b d) (ap halted cut-phase) none) still in
-          ap (λ (t : Record). t .phase)
-          (calls-append cs (oneByte v r ∷ []) before
-          ∙ resumes-now q (Erase u b d) (calls-sound cs before (calls-sound (ticks d ∷ oneByte w c ∷ []) p s)) v r h dr)
+      resumed-phase = ap (λ (t : Record). t .phase) (calls-append cs (oneByte v r ∷ []) before) ∙ resumed-here
+
+      -- and is under way all the time
+      never : neverIdle (interrupted d (oneByte w c) cs (oneByte v r)) p ≡ true
+      never =
+          let busy-or-held : Phase → Bool = λ g. not (isIdle g) in
+          and-in (ap busy-or-held ran-phase) (and-in (ap busy-or-held suspended-phase) (never-both cs (oneByte v r ∷ []) before (never-halted cs before (Erase u b d) (ap halted suspended-phase) none) (and-in (ap busy-or-held resumed-here) refl)))
 
       -- the ticks that are left end it
       pub resumed-ends : let q = recordAfterCalls (interrupted d (oneByte w c) cs (oneByte v r) ++ (ticks (unitPages u (p .part .blocks) - d) ∷ [])) p in
@@ -144,4 +149,9 @@ module _ (p : Record) (u : EraseUnit) (b : ℕ) (s : sound p ≡ true) (f : p .p
       pub resumed-whole : (m : Memory) (at x : ℕ) → inUnit (Erase u b 0) (p .part .blocks) m at ≡ true
           → byteAfterAll m at (history (interrupted d (oneByte w c) cs (oneByte v r) ++ (ticks (unitPages u (p .part .blocks) - d) ∷ [])) p) x ≡ erasedByte
       resumed-whole m at x i =
-          erase-whole m at x (interrupted d (oneByte w c) cs (oneByte v r)) p u b d (unitPages u (p .part .blocks) - d) s (begun-blank m at x p u b f) resumed-phase (omega arith) (omega (arith, few)) i
+          let all = interrupted d (oneByte w c) cs (oneByte v r) in
+          let k = unitPages u (p .part .blocks) - d in
+          let idle : recordAfterCall (ticks k) (recordAfterCalls all p) .phase ≡ Idle = sym (ap (λ (t : Record). t .phase) (calls-append all (ticks k ∷ []) p)) ∙ resumed-ends .0 in
+          let none-done : leftIn u b (p .phase) m at x ≡ x = ap (λ (h : Phase). leftIn u b h m at x) f ∙ held-so (inDone (Erase u b 0) m at) x (λ t. absurd (nothing-done m at u b t)) in
+          ap (byteAfterAll m at (history (all ++ (ticks k ∷ [])) p)) (sym none-done)
+          ∙ erase-whole u b (p .part .blocks) all k p s refl (subst⁻¹ (Erasing u b) f refl) never (ap isIdle idle) m at x i

@@ -1,13 +1,15 @@
 -- What is suspended stays as it was, with the same target and as many ticks done, over every call but a resume or a reset that is executed.
 use Prim.Native.Nat.{ℕ, zero, suc, _+_}
-use mathlib.Core.Path.{_≡_, refl, sym, ap, _∙_}
+use mathlib.Core.Path.{_≡_, refl, sym, ap, _∙_, subst⁻¹}
 use mathlib.Core.Bool.{Bool, true, false, not, cond, false≢true}
 use mathlib.Core.List.{List, [], _∷_, _++_}
+use mathlib.Core.Logic.{_⊎_, inl, inr}
 use lib.ListN.{length, getD}
 use lib.Dec.{eqb, ltb}
 use borrow.Author.Tests.{eqb-true, not-true}
 use Rattle.types.specs.declared.Operation.{Operation}
 use Rattle.types.specs.declared.Phase.{Phase}
+use Rattle.types.specs.declared.Phase.the-variants.{Idle}
 use Rattle.types.specs.declared.Work.{Work}
 use Rattle.types.specs.declared.Work.the-variants.{NoWork, At}
 use Rattle.types.specs.declared.Command.{Command}
@@ -27,7 +29,7 @@ use Rattle.types.specs.declared.Change.the-variants.{Marked}
 use Rattle.words.specs.Logic.{_and_}
 use Rattle.words.proofs.Tests.{and-l, and-r}
 use Rattle.paper.specs.Sizes.{arrayBytes, rowsBytes}
-use Rattle.paper.specs.Phases.{running, halted, workIs, anyOperation}
+use Rattle.paper.specs.Phases.{running, halted, workIs, anyOperation, resumedIn}
 use Rattle.paper.specs.Operations.{ticksInAll, ticksDone, advancedBy}
 use Rattle.paper.specs.Suspend.{suspendable}
 use Rattle.paper.specs.Soundness.{sound}
@@ -159,9 +161,12 @@ calls-halted [] p e h g = h
 calls-halted (c ∷ cs) p e h g =
     calls-halted cs (recordAfterCall c p) e (call-halted c p e h (not-true _ (and-l _ _ g))) (and-r _ _ g)
 
--- a command that is executed and lets it go leaves nothing suspended
+-- a command that is executed and lets it go: what was suspended goes on, or the part is idle
+abbrev pub LetGo : Phase → Phase → Type 0
+LetGo f g = (g ≡ resumedIn f) ⊎ (g ≡ Idle)
+
 module _ (p : Record) (i : List ℕ) where
-  effect-releases : (c : Effect) (a : Addressing) (w : Work) → letsGo c ≡ true → halted (changed (changeBy c a w (p .part) (p .phase) i) i p .phase) ≡ NoWork
+  effect-releases : (c : Effect) (a : Addressing) (w : Work) → letsGo c ≡ true → LetGo (p .phase) (changed (changeBy c a w (p .part) (p .phase) i) i p .phase)
   effect-releases Looks a w h = absurd (false≢true h)
   effect-releases Enables a w h = absurd (false≢true h)
   effect-releases Disables a w h = absurd (false≢true h)
@@ -169,23 +174,31 @@ module _ (p : Record) (i : List ℕ) where
   effect-releases (Erases u) a w h = absurd (false≢true h)
   effect-releases (Writes r) a w h = absurd (false≢true h)
   effect-releases Suspends a w h = absurd (false≢true h)
-  effect-releases Resumes a w h = phase-halts (halted (p .phase)) NoWork
+  effect-releases Resumes a w h = inl refl
   effect-releases Sleeps a w h = absurd (false≢true h)
   effect-releases Wakes a w h = absurd (false≢true h)
   effect-releases Arms a w h = absurd (false≢true h)
-  effect-releases Resets a w h = refl
+  effect-releases Resets a w h = inr refl
   effect-releases SetsLive a w h = absurd (false≢true h)
   effect-releases ClearsErrors a w h = absurd (false≢true h)
   effect-releases SetsBank a w h = absurd (false≢true h)
   effect-releases (SetsFar far) a w h = absurd (false≢true h)
 
   decoded-releases : (wp : Bool) (o : ℕ) (d : Decoded) → decoded (p .part .blocks) (p .part .bank) (getD i 0 0) ≡ d → letsGoBy d ≡ true → transacted p (arrayBytes (p .part .blocks)) rowsBytes wp i o .number ≡ 0
-      → halted (recordAfterCall (transaction wp i o) p .phase) ≡ NoWork
+      → LetGo (p .phase) (recordAfterCall (transaction wp i o) p .phase)
   decoded-releases wp o (Known k) e h z =
-      ap (λ (w : Answer). halted (w .next .phase)) (executed-so p (arrayBytes (p .part .blocks)) rowsBytes wp i o k e z) ∙ effect-releases (columns k .effect) (addressingOn (columns k) (p .part)) (begun (columns k) (p .part) i) h
+      subst⁻¹ (λ (t : Answer). LetGo (p .phase) (t .next .phase)) (executed-so p (arrayBytes (p .part .blocks)) rowsBytes wp i o k e z) (effect-releases (columns k .effect) (addressingOn (columns k) (p .part)) (begun (columns k) (p .part) i) h)
   decoded-releases wp o Unknown e h z = absurd (false≢true h)
 
 -- and so does every call that lets it go
+pub call-lets-go : (c : Call) (p : Record) → releases c p ≡ true → LetGo (p .phase) (recordAfterCall c p .phase)
+call-lets-go (transaction wp i o) p h = decoded-releases p i wp o (decoded (p .part .blocks) (p .part .bank) (getD i 0 0)) refl (and-r _ _ h) (eqb-true _ _ (and-l _ _ h))
+call-lets-go (ticks n) p h = absurd (false≢true h)
+
+-- nothing is suspended then
+none-halted : (f g : Phase) → LetGo f g → halted g ≡ NoWork
+none-halted f g (inl e) = ap halted e ∙ phase-halts (halted f) NoWork
+none-halted f g (inr e) = ap halted e
+
 pub call-releases : (c : Call) (p : Record) → releases c p ≡ true → halted (recordAfterCall c p .phase) ≡ NoWork
-call-releases (transaction wp i o) p h = decoded-releases p i wp o (decoded (p .part .blocks) (p .part .bank) (getD i 0 0)) refl (and-r _ _ h) (eqb-true _ _ (and-l _ _ h))
-call-releases (ticks n) p h = absurd (false≢true h)
+call-releases c p h = none-halted (p .phase) (recordAfterCall c p .phase) (call-lets-go c p h)

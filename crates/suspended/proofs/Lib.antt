@@ -1,4 +1,4 @@
 pub mod HaltedKept
 pub mod NestedBytes
-pub mod ErasedPages
+pub mod UnderWay
 pub mod EraseResumed

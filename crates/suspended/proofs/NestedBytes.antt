@@ -84,7 +84,7 @@ module _ (m : Memory) (at : ℕ) (e : Operation) where
   spared-in p (Suspended o) x q h s i = ap (λ (g : Phase). byteAfter m at (touchAt (running g) (p .page)) x) q
   spared-in p (Nested o y) x q h s i = nested-spares p o x (q ∙ ap (λ (z : Operation). Nested o z) (at-same h)) s i
 
-  pub halted-spares : (p : Record) (x : ℕ) → halted (p .phase) ≡ At e → sound p ≡ true → inUnit e (p .part .blocks) m at ≡ true → byteAfter m at (touchOf p) x ≡ x
+  halted-spares : (p : Record) (x : ℕ) → halted (p .phase) ≡ At e → sound p ≡ true → inUnit e (p .part .blocks) m at ≡ true → byteAfter m at (touchOf p) x ≡ x
   halted-spares p x = spared-in p (p .phase) x refl
 
   -- n ticks leave it

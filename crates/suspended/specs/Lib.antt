@@ -1,1 +1,2 @@
 pub mod Interrupted
+pub mod UnderWay

@@ -1,7 +1,7 @@
 -- Laws of lists by what stands at each place: parts, `upTo`, and sources that are read round and round.
 use Prim.Native.Nat.{ℕ, zero, suc, _+_, _-_, _%_, _<_, _≤_, min}
 use mathlib.Core.Path.{_≡_, refl, sym, ap, _∙_}
-use mathlib.Core.Bool.{cond}
+use mathlib.Core.Bool.{Bool, true, cond}
 use mathlib.Core.List.{List, [], _∷_, _++_, append-assoc, append-nil}
 use native.Mathlib.Omega.{arith}
 use native.Mathlib.Nat.{add-zero, add-suc, mod-eq-of-lt, mod-self, mod-add-mod}
@@ -10,7 +10,8 @@ use borrow.Author.Tests.{eq-eqb, ne-eqb, le-leb, lt-leb}
 use lib.Dec.{leb}
 use lib.ListN.{length, take, drop, getD, replicate, length-append, length-drop, take-append-drop, replicate-append-replicate}
 use lib.Seq.{sets, set-out, take-suc, take-at, drop-at, drop-drop, getD-drop, length-take-le, take-all, drop-length}
-use Rattle.words.specs.Lists.{upTo, round, driven}
+use Rattle.words.specs.Lists.{upTo, round, driven, every}
+use Rattle.words.proofs.Tests.{and-l, and-r, and-in}
 
 -- to take more than there is takes all
 pub take-min : (k : ℕ) (l : List ℕ) → take (min k (length l)) l ≡ take k l
@@ -145,3 +146,12 @@ module _ (s : List ℕ) (at : ℕ) (o : List ℕ) (from b : ℕ) where
       let n : length o ≡ min from (length o) + (length o - from) = omega arith in
       rw (ne-eqb _ _ some, before, ← placed-before (min from (length o)) (omega arith), ← placed-after (length o - from) (min from (length o)) (λ h. omega arith))
       (sym (ap (λ (k : ℕ). upTo k placed) n ∙ upTo-add (min from (length o)) (length o - from) placed))
+
+-- items that pass a test, put together and taken apart
+pub every-both : {A : Type 0} (test : A → Bool) (xs ys : List A) → every test xs ≡ true → every test ys ≡ true → every test (xs ++ ys) ≡ true
+every-both test [] ys h g = g
+every-both test (x ∷ xs) ys h g = and-in (and-l _ _ h) (every-both test xs ys (and-r _ _ h) g)
+
+pub every-last : {A : Type 0} (test : A → Bool) (xs ys : List A) → every test (xs ++ ys) ≡ true → every test ys ≡ true
+every-last test [] ys h = h
+every-last test (x ∷ xs) ys h = every-last test xs ys (and-r _ _ h)

@@ -24,7 +24,7 @@ abbrev pub allZero : List ℕ → Bool
 allZero [] = true
 allZero (x ∷ xs) = eqb x 0 and allZero xs
 
--- every byte passes a test
-abbrev pub every : (ℕ → Bool) → List ℕ → Bool
+-- every item of a list passes a test
+abbrev pub every : {A : Type 0} → (A → Bool) → List A → Bool
 every f [] = true
 every f (x ∷ xs) = f x and every f xs

@@ -1,0 +1,9 @@
+pub mod Outside
+pub mod Lives
+pub mod Alone
+pub mod Started
+pub mod AtTheCut
+pub mod NeedsEnable
+pub mod DoneOver
+pub mod EveryCut
+pub mod Restart
