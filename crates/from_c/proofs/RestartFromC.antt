@@ -46,7 +46,7 @@ use Rattle.from_c.proofs.Reset.{sent-of}
 use Rattle.from_c.proofs.LawsFromC.{made-from-c, rested-board}
 
 -- a power-up of the same part, into a buffer
-module _ (l : Lent) (p : Record) (h : Holding l p) (q : Asked) (bs : List ℕ) (n-is : q .blocks ≡ p .part .blocks) (id-is : identityOf q ≡ p .identity) (z : powerUpAnswer (length bs) q ≡ 0) where
+module _ (p : Record) (q : Asked) (bs : List ℕ) (n-is : q .blocks ≡ p .part .blocks) (id-is : identityOf q ≡ p .identity) (z : powerUpAnswer (length bs) q ≡ 0) where
   up-is : upAgain (registersOf q) p ≡ upOf q
   up-is =
       ap (λ (n : ℕ). poweredUp n (p .identity) (registersOf q)) (sym n-is) ∙ ap (λ (id : Identity). poweredUp (q .blocks) id (registersOf q)) (sym id-is)
@@ -54,17 +54,19 @@ module _ (l : Lent) (p : Record) (h : Holding l p) (q : Asked) (bs : List ℕ) (
   up-number : upAgain (registersOf q) p .number ≡ 0
   up-number = ap (λ (t : PoweredUp). t .number) up-is ∙ up-unrefused q bs z
 
-  up-held : Holding (lent (powerUpBytes q bs) (l .array) (l .rows)) (upOf q .next)
-  up-held = up-holds q bs z (l .array) (l .rows) (h .array ∙ ap arrayBytes (sym n-is)) (h .rows)
-
-  up-board : poweredAgain (registersOf q) (boardIn l p) ≡ boardIn (lent (powerUpBytes q bs) (l .array) (l .rows)) (upOf q .next)
-  up-board = ap (λ (t : PoweredUp). boardOf (t .next) (l .array) (l .rows)) up-is
-
   up-blocks : upOf q .next .part .blocks ≡ p .part .blocks
   up-blocks = sym (ap (λ (t : PoweredUp). t .next .part .blocks) up-is) ∙ up-size (registersOf q) p up-number
 
   up-identity : upOf q .next .identity ≡ p .identity
   up-identity = ap (λ (r : Record). r .identity) (powered-fresh (q .blocks) (identityOf q) (registersOf q) (up-unrefused q bs z)) ∙ id-is
+
+  -- on what l lends
+  module _ (l : Lent) (h : Holding l p) where
+    up-held : Holding (lent (powerUpBytes q bs) (l .array) (l .rows)) (upOf q .next)
+    up-held = up-holds q bs z (l .array) (l .rows) (h .array ∙ ap arrayBytes (sym n-is)) (h .rows)
+
+    up-board : poweredAgain (registersOf q) (boardIn l p) ≡ boardIn (lent (powerUpBytes q bs) (l .array) (l .rows)) (upOf q .next)
+    up-board = ap (λ (t : PoweredUp). boardOf (t .next) (l .array) (l .rows)) up-is
 
 -- the same part as before is the same part as then
 same-part : {n m : ℕ} {id jd : Identity} (es : List CEvent) → m ≡ n → jd ≡ id → SamePart n id es → SamePart m jd es
@@ -84,8 +86,8 @@ lives-led l m p (drives cs ∷ es) h same (driven {m = k} chain rest) =
     let on = lives-led k m (made .next) es (made .holding) (same-part es (t .size) (ap (λ (r : Record). r .identity) (t .next) ∙ calls-identity (callsOf cs p) p) same) rest in
     record { next = on .next; holding = on .holding; lives = subst (λ (r : Record). Lives (boardIn l p) (calls (callsOf cs p) ∷ eventsOf es r) (boardIn m (on .next))) (t .next) (sent (made .made) (on .lives)) }
 lives-led l m p (powers q bs ∷ es) h (n-is, id-is, same) (powered z rest) =
-    let on = lives-led (lent (powerUpBytes q bs) (l .array) (l .rows)) m (upOf q .next) es (up-held l p h q bs n-is id-is z) (same-part es (up-blocks l p h q bs n-is id-is z) (up-identity l p h q bs n-is id-is z) same) rest in
-    record { next = on .next; holding = on .holding; lives = up (up-number l p h q bs n-is id-is z) (subst⁻¹ (λ (b : Board). Lives b (eventsOf es (upOf q .next)) (boardIn m (on .next))) (up-board l p h q bs n-is id-is z) (on .lives)) }
+    let on = lives-led (lent (powerUpBytes q bs) (l .array) (l .rows)) m (upOf q .next) es (up-held p q bs n-is id-is z l h) (same-part es (up-blocks p q bs n-is id-is z) (up-identity p q bs n-is id-is z) same) rest in
+    record { next = on .next; holding = on .holding; lives = up (up-number p q bs n-is id-is z) (subst⁻¹ (λ (b : Board). Lives b (eventsOf es (upOf q .next)) (boardIn m (on .next))) (up-board p q bs n-is id-is z l h) (on .lives)) }
 
 lives-from-c : (l m : Lent) (p : Record) (es : List CEvent) → Holding l p → SamePart (p .part .blocks) (p .identity) es → LivesInC l es m → LivedFromC p l es m
 lives-from-c l m p es h same lives =
@@ -123,7 +125,7 @@ cut-held m at k h n-is id-is (c.by-reset wp x l chain hears) =
 cut-held m at k h n-is id-is (c.by-power q bs blocks-are id-are z) =
     let e = blocks-are ∙ sym n-is in
     let f = id-are ∙ sym id-is in
-    record { after = upOf q .next; held = up-held m at h q bs e f z; board = poweredAgain (registersOf q) (boardIn m at); is = sym (up-board m at h q bs e f z); cut = by-power (registersOf q) (up-number m at h q bs e f z); registers = refl }
+    record { after = upOf q .next; held = up-held at q bs e f z m h; board = poweredAgain (registersOf q) (boardIn m at); is = sym (up-board at q bs e f z m h); cut = by-power (registersOf q) (up-number at q bs e f z); registers = refl }
 
 cut-from-c : (l m k : Lent) (p : Record) (u : EraseUnit) (w : Write) (cs : List CCall) → RestedIn l p → Begun p (erase u) w → callsOf cs p ≡ steps w → Driven l cs m
     → neverIdle (w .wait) (atStart p w) ≡ true → (c : CutInC (p .part .blocks) (p .identity) m k) → CutAtInC l p u w m k c

@@ -1,4 +1,5 @@
 pub mod Aside
 pub mod Steps
+pub mod Armed
 pub mod Theorem
 pub mod Demand3

@@ -1,6 +1,6 @@
 -- Demand 3's last sentences: a part that was woken, armed and reset equals one freshly powered, from every sound record and after every history.
 use Prim.Native.Nat.{ℕ}
-use mathlib.Core.Path.{_≡_, refl, sym, ap, _∙_}
+use mathlib.Core.Path.{_≡_, refl, sym, ap, _∙_, subst, subst⁻¹}
 use mathlib.Core.Bool.{Bool, true, false}
 use mathlib.Core.List.{List, [], _∷_, _++_, append-nil}
 use Rattle.types.specs.declared.Identity.{Identity}
@@ -9,22 +9,16 @@ use Rattle.types.specs.declared.PoweredUp.{PoweredUp}
 use Rattle.types.specs.declared.Answer.{Answer}
 use Rattle.types.specs.declared.Record.{Record}
 use Rattle.paper.specs.Operations.{Touch}
-use Rattle.paper.specs.Records.{marked, fresh}
+use Rattle.paper.specs.Records.{fresh}
 use Rattle.paper.specs.Soundness.{sound}
 use Rattle.paper.specs.Calls.{poweredUp}
 use Rattle.paper.specs.History.{Call, recordAfterCall, recordAfterCalls, history}
-use Rattle.paper.proofs.Soundness.{recordOf, sound-parts}
-use Rattle.paper.proofs.Kept.{unbanked, power-up-sound, powered-fresh}
+use Rattle.paper.proofs.Kept.{power-up-sound, powered-fresh}
 use Rattle.history.proofs.Calls.{calls-sound, calls-size, calls-append, history-append}
 use Rattle.reset.specs.Closing.{wake, arm, reset, allAside, untilArmed, untilReset, closing, poweredAs, answerToReset, FreshAfter}
 use Rattle.reset.proofs.Aside.{calls-identity, all-aside-alike}
-use Rattle.reset.proofs.Steps.{woken, armed-now, reset-now, powered-as}
-
--- a part that is awake and armed, and that 99h may be sent to
-record Armed (q : Record) : Type 0 where
-  is-sound : sound q ≡ true
-  awake : q .part .asleep ≡ false
-  is-armed : q .part .armed ≡ true
+use Rattle.reset.proofs.Steps.{woken, reset-now}
+use Rattle.reset.proofs.Armed.{Armed, armed-after, sound-powered}
 
 module _ (w1 w2 w3 : Bool) (b c : List Call) (p : Record) where
   abbrev atArm : Record
@@ -39,9 +33,6 @@ module _ (w1 w2 w3 : Bool) (b c : List Call) (p : Record) where
 
   armed-here : recordAfterCalls (untilArmed w1 w2 b) p ≡ recordAfterCall (arm w2) atArm
   armed-here = calls-append b (arm w2 ∷ []) (recordAfterCall (wake w1) p)
-
-  reset-here : atReset ≡ recordAfterCalls c (recordAfterCalls (untilArmed w1 w2 b) p)
-  reset-here = calls-append b (arm w2 ∷ c) (recordAfterCall (wake w1) p) ∙ ap (recordAfterCalls c) (sym armed-here)
 
   closed-here : recordAfterCalls (closing w1 w2 w3 b c) p ≡ answerToReset w3 atReset .next
   closed-here =
@@ -63,17 +54,9 @@ module _ (w1 w2 w3 : Bool) (b c : List Call) (p : Record) where
     arm-awake : atArm .part .asleep ≡ false
     arm-awake = all-aside-alike b (recordAfterCall (wake w1) p) hb .asleep ∙ woken p s w1
 
-    armed-as : recordAfterCalls (untilArmed w1 w2 b) p ≡ recordOf (atArm .identity) (marked (atArm .part) true) (atArm .phase) (atArm .page)
-    armed-as = armed-here ∙ ap (λ (t : Answer). t .next) (armed-now atArm arm-sound w2 arm-awake)
-
     ready : Armed atReset
     ready =
-        let l = all-aside-alike c (recordAfterCalls (untilArmed w1 w2 b) p) hc in
-        record {
-          is-sound = calls-sound (untilReset w1 w2 b c) p s;
-          awake = ap (λ (q : Record). q .part .asleep) reset-here ∙ l .asleep ∙ ap (λ (q : Record). q .part .asleep) armed-as ∙ arm-awake;
-          is-armed = ap (λ (q : Record). q .part .armed) reset-here ∙ l .armed ∙ ap (λ (q : Record). q .part .armed) armed-as;
-        }
+        subst⁻¹ Armed (calls-append b (arm w2 ∷ c) (recordAfterCall (wake w1) p)) (armed-after atArm w2 c arm-sound arm-awake (subst (λ (q : Record). allAside c q ≡ true) armed-here hc))
 
     answer : answerToReset w3 atReset ≡ record { next = freshened; number = 0; first = 1 }
     answer = reset-now atReset (ready .is-sound) w3 (ready .awake) (ready .is-armed)
@@ -84,7 +67,7 @@ module _ (w1 w2 w3 : Bool) (b c : List Call) (p : Record) where
         let i : atReset .identity ≡ id = calls-identity (untilReset w1 w2 b c) p ∙ ei in
         ap (λ (k : ℕ). poweredAs k id atReset) (sym m)
         ∙ ap (λ (j : Identity). poweredAs (atReset .part .blocks) j atReset) (sym i)
-        ∙ powered-as (atReset .part .blocks) (atReset .identity) (atReset .part .stored) (sound-parts atReset (ready .is-sound) .size) (unbanked (atReset .part .blocks) (atReset .part .stored .function) (atReset .part .bank) (sound-parts atReset (ready .is-sound) .large))
+        ∙ sound-powered atReset (ready .is-sound)
 
     fresh-as : (n : ℕ) (id : Identity) → p .part .blocks ≡ n → p .identity ≡ id → FreshAfter n id w1 w2 w3 b c p
     fresh-as n id en ei =

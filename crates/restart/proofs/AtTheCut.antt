@@ -2,7 +2,7 @@
 use Prim.Native.Nat.{ℕ, _<_}
 use mathlib.Core.Path.{_≡_, refl, sym, ap, _∙_, subst, subst⁻¹}
 use mathlib.Core.Bool.{Bool, true, false, cond}
-use mathlib.Core.List.{List, [], _∷_, _++_}
+use mathlib.Core.List.{List, [], _∷_}
 use lib.ListN.{length, getD}
 use Rattle.types.specs.declared.Memory.{Memory}
 use Rattle.types.specs.declared.Memory.the-variants.{Array, Rows}
@@ -25,19 +25,21 @@ use Rattle.paper.specs.History.{Call, recordAfterCalls, history, byteAfterAll}
 use Rattle.paper.specs.Board.{Board, answerTo, afterCall}
 use Rattle.paper.proofs.Table.{known}
 use Rattle.paper.proofs.Soundness.{sound-parts}
-use Rattle.paper.proofs.Kept.{unbanked, powered-fresh}
+use Rattle.paper.proofs.Kept.{powered-fresh}
 use Rattle.paper.proofs.Answers.{executed-so}
 use Rattle.history.proofs.Told.{Told}
 use Rattle.history.proofs.Calls.{calls-sound, calls-append}
-use Rattle.reset.specs.Closing.{arm, reset}
-use Rattle.reset.proofs.Aside.{calls-identity, all-aside-alike}
-use Rattle.reset.proofs.Steps.{not-idle-awake, armed-now, reset-now, powered-as}
+use Rattle.reset.specs.Closing.{arm, reset, allAside}
+use Rattle.reset.proofs.Aside.{calls-identity}
+use Rattle.reset.proofs.Steps.{not-idle-awake, reset-now}
+use Rattle.reset.proofs.Armed.{Armed, armed-after, sound-powered}
 use Rattle.suspended.specs.UnderWay.{doneIn, neverIdle}
-use Rattle.suspended.proofs.UnderWay.{Proceeds, under-in-order, under-not-idle, calls-proceed, never-first, done-in-unit}
-use Rattle.laws.specs.Writes.{erase, Write, steps, atStart, Begun, Rested, Makes, inUnitOf, memoryIn}
+use Rattle.suspended.proofs.UnderWay.{under-in-order, under-not-idle, never-first}
+use Rattle.suspended.proofs.Proceeds.{Proceeds, calls-proceed, done-in-unit}
+use Rattle.laws.specs.Writes.{erase, Write, steps, atStart, Begun, Rested, Makes, memoryIn}
 use Rattle.laws.proofs.Boards.{Own, rested-own, made-told, made-own, told-length, told-bytes}
 use Rattle.laws.proofs.Begun.{start-sound, start-size, steps-record, steps-bytes}
-use Rattle.restart.specs.Cuts.{upAgain, Cut, by-reset, by-power, registersAfter, alone, aim, inFirst}
+use Rattle.restart.specs.Cuts.{upAgain, Cut, by-reset, by-power, registersAfter, alone, aim}
 use Rattle.restart.specs.Restart.{inAimed, inFinished, CutAt, AtTheCut, ResetCuts}
 use Rattle.restart.proofs.Outside.{outside-stays}
 use Rattle.restart.proofs.Lives.{up-own, memory-again}
@@ -65,13 +67,10 @@ module _ (c : Board) (wp : Bool) (z : answerTo c wp (0x99 ∷ []) 1 .number ≡ 
   reset-memory Array = refl
   reset-memory Rows = refl
 
-  reset-powered : Own c → upAgain (storedBits held) (c .state) ≡ record { next = fresh n (c .state .identity) held; number = 0 }
-  reset-powered o =
-      powered-as n (c .state .identity) held (sound-parts (c .state) (o .is-sound) .size) (unbanked n (held .function) (c .state .part .bank) (sound-parts (c .state) (o .is-sound) .large))
-
   reset-renews : Own c → Renewed c (afterCall (reset wp) c) (storedBits held)
   reset-renews o =
-      record { unrefused = ap (λ (t : PoweredUp). t .number) (reset-powered o); next = reset-next ∙ sym (ap (λ (t : PoweredUp). t .next) (reset-powered o)); memory = reset-memory }
+      let up = sound-powered (c .state) (o .is-sound) in
+      record { unrefused = ap (λ (t : PoweredUp). t .number) up; next = reset-next ∙ sym (ap (λ (t : PoweredUp). t .next) up); memory = reset-memory }
 
 cut-renews : {c d : Board} → Own c → (cut : Cut c d) → Renewed c d (registersAfter cut)
 cut-renews {c} o (by-reset wp z) = reset-renews c wp z o
@@ -123,8 +122,7 @@ module _ (b : Board) (r : Rested b) (u : EraseUnit) (w : Write) (h : Begun (b .s
   fewer =
       subst (λ (n : ℕ). done < unitPages u n) (told .size) (under-in-order (c .state) (Erase u base done) (proceeds .erasing) (told .next-sound) .going)
 
-  in-the-unit : (m : Memory) (at : ℕ) → at < length (memoryIn m b) → inUnitOf u (p .part .blocks) (aim p u w) m at ≡ true
-      → getD (memoryIn m c) at 0 ≡ cond (inFirst done u (p .part .blocks) (aim p u w) m at) erasedByte (getD (memoryIn m b) at 0)
+  in-the-unit : (m : Memory) (at : ℕ) → at < length (memoryIn m b) → inAimed b u w m at ≡ true → getD (memoryIn m c) at 0 ≡ cond (inFinished b u w c m at) erasedByte (getD (memoryIn m b) at 0)
   in-the-unit m at l i =
       let x = getD (memoryIn m b) at 0 in
       told-bytes told m at l
@@ -188,22 +186,18 @@ module _ {b c d : Board} {u : EraseUnit} {w : Write} {cut : Cut c d} (e : CutAt 
       → getD (memoryIn m d) at 0 ≡ cond (inFinished b u w c m at) erasedByte (getD (memoryIn m b) at 0)
   cut-bytes m at l = first-or-not m at l (inFinished b u w c m at) (inAimed b u w m at) refl refl
 
+-- 66h arms the part, since it is not idle, and so awake
 pub reset-cuts : ResetCuts
 reset-cuts b c u w before between w1 w2 r h wait never aside run =
-    let p = b .state in
-    let base = unitBase u (p .part .blocks) (aim p u w) in
-    let start = atStart p w in
+    let base = unitBase u (b .state .part .blocks) (aim (b .state) u w) in
+    let start = atStart (b .state) w in
     let q = recordAfterCalls before start in
     let q-sound = calls-sound before start (start-sound b r (erase u) w h) in
-    let erasing = calls-proceed u base (p .part .blocks) before start (start-sound b r (erase u) w h) (start-size b r (erase u) w h) (start-erasing b r u w h) (never-first before (arm w1 ∷ between) start (subst (λ (cs : List Call). neverIdle cs start ≡ true) wait never)) .erasing in
+    let never-before = never-first before (arm w1 ∷ between) start (subst (λ (cs : List Call). neverIdle cs start ≡ true) wait never) in
+    let erasing = calls-proceed u base (b .state .part .blocks) before start (start-sound b r (erase u) w h) (start-size b r (erase u) w h) (start-erasing b r u w h) never-before .erasing in
     let awake = not-idle-awake (q .phase) (q .part .asleep) (under-not-idle (q .phase) (Erase u base (doneIn (q .phase))) erasing) (sound-parts q q-sound .sleep) in
-    let armed-is = ap (λ (t : Answer). t .next) (armed-now q q-sound w1 awake) in
-    let armed = recordAfterCalls (before ++ (arm w1 ∷ [])) start in
-    let armed-here = calls-append before (arm w1 ∷ []) start in
-    let like = all-aside-alike between armed aside in
-    let last = recordAfterCalls between armed in
-    let told = made-told (rested-own b r) run in
-    let at-last : c .state ≡ last = told .next ∙ steps-record b r (erase u) w h ∙ ap (λ (cs : List Call). recordAfterCalls cs start) wait ∙ calls-append before (arm w1 ∷ between) start ∙ ap (recordAfterCalls between) (sym armed-here) in
-    let answer = reset-now (c .state) (told .next-sound) w2 (ap (λ (s : Record). s .part .asleep) at-last ∙ like .asleep ∙ ap (λ (s : Record). s .part .asleep) (armed-here ∙ armed-is) ∙ awake) (ap (λ (s : Record). s .part .armed) at-last ∙ like .armed ∙ ap (λ (s : Record). s .part .armed) (armed-here ∙ armed-is)) in
+    let armed = armed-after q w1 between q-sound awake (subst (λ (s : Record). allAside between s ≡ true) (calls-append before (arm w1 ∷ []) start) aside) in
+    let last : c .state ≡ recordAfterCalls (arm w1 ∷ between) q = made-told (rested-own b r) run .next ∙ steps-record b r (erase u) w h ∙ ap (λ (cs : List Call). recordAfterCalls cs start) wait ∙ calls-append before (arm w1 ∷ between) start in
+    let ready = subst⁻¹ Armed last armed in
     let own = made-own (rested-own b r) run in
-    rw (own .own-array, own .own-rows) (ap (λ (a : Answer). a .number) answer)
+    rw (own .own-array, own .own-rows) (ap (λ (a : Answer). a .number) (reset-now (c .state) (ready .is-sound) w2 (ready .awake) (ready .is-armed)))

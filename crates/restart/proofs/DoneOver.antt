@@ -18,17 +18,21 @@ use Rattle.paper.specs.History.{Call, recordAfterCalls, history, byteAfterAll}
 use Rattle.paper.specs.Board.{Board}
 use Rattle.history.proofs.Told.{Told}
 use Rattle.history.proofs.Calls.{history-append, bytes-joined}
-use Rattle.suspended.proofs.UnderWay.{Ended, calls-end}
+use Rattle.suspended.proofs.Proceeds.{Ended, calls-end}
 use Rattle.laws.specs.Writes.{erase, Write, steps, atStart, Rested, Makes, inUnitOf, memoryIn, Done}
 use Rattle.laws.proofs.Boards.{rested-own, made-told, told-length, told-bytes}
 use Rattle.laws.proofs.Begun.{start-sound, start-size, steps-bytes}
 use Rattle.laws.proofs.Written.{write-done}
 use Rattle.laws.proofs.DriverLaws.{same-bytes}
-use Rattle.restart.specs.Cuts.{Event, Lives, historyThrough, blanks, nothingOutside, aim}
+use Rattle.restart.specs.Cuts.{Event, Lives, historyThrough, blanks, nothingOutside, aim, SameUnit}
 use Rattle.restart.specs.Restart.{Undisturbed, Again, DoneOver, UpdateRestarts}
 use Rattle.restart.proofs.Outside.{outside-stays, blank-stays}
 use Rattle.restart.proofs.Lives.{LivesTold, lives-told}
 use Rattle.restart.proofs.Started.{start-erasing, at-first, steps-every}
+
+-- the unit that an erase is aimed at, if it is the one that holds a
+in-same-unit : (p : Record) (u : EraseUnit) (a : ℕ) (w : Write) → SameUnit p u a w → (m : Memory) (at : ℕ) → inUnitOf u (p .part .blocks) (aim p u w) m at ≡ inUnitOf u (p .part .blocks) a m at
+in-same-unit p u a w e m at = ap (λ (b : ℕ). inUnit (Erase u b 0) (p .part .blocks) m at) e
 
 -- the last erase, on the board c
 module _ (c : Board) (r : Rested c) (u : EraseUnit) (a : ℕ) (w : Write) (g : Again (c .state) u a w) (e : Board) (run : Makes c (steps w) e) where
@@ -55,9 +59,6 @@ module _ (c : Board) (r : Rested c) (u : EraseUnit) (a : ℕ) (w : Write) (g : A
       (sym (ap (every blanks) (ap (λ (cs : List Call). history cs start) (ended .parts) ∙ history-append (ended .until) (ended .after) start))
       ∙ steps-every (c .state) w blanks (and-r _ _ (g .nothing-else)))
 
-  in-unit-again : (m : Memory) (at : ℕ) → inUnitOf u (p .part .blocks) (aim p u w) m at ≡ inUnitOf u (p .part .blocks) a m at
-  in-unit-again m at = ap (λ (k : ℕ). inUnit (Erase u k 0) (p .part .blocks) m at) (g .same-unit)
-
   -- so its unit holds FFh, and nothing else changed
   filled : (m : Memory) (at : ℕ) → at < length (memoryIn m c) → inUnitOf u (p .part .blocks) a m at ≡ true → getD (memoryIn m e) at 0 ≡ erasedByte
   filled m at l i =
@@ -67,7 +68,7 @@ module _ (c : Board) (r : Rested c) (u : EraseUnit) (a : ℕ) (w : Write) (g : A
       ∙ ap (λ (cs : List Call). byteAfterAll m at (history cs start) x) (ended .parts)
       ∙ bytes-joined m at (ended .until) (ended .after) start x
       ∙ ap (byteAfterAll m at (history (ended .after) (recordAfterCalls (ended .until) start)))
-      (ap (byteAfterAll m at (history (ended .until) start)) (sym (at-first c r u w (g .begun) m at x)) ∙ ended .filled m at x (in-unit-again m at ∙ i))
+      (ap (byteAfterAll m at (history (ended .until) start)) (sym (at-first c r u w (g .begun) m at x)) ∙ ended .filled m at x (in-same-unit p u a w (g .same-unit) m at ∙ i))
       ∙ blank-stays m at (history (ended .after) (recordAfterCalls (ended .until) start)) after-blanks
 
   unchanged : (m : Memory) (at : ℕ) → at < length (memoryIn m c) → inUnitOf u (p .part .blocks) a m at ≡ false → getD (memoryIn m e) at 0 ≡ getD (memoryIn m c) at 0
@@ -90,9 +91,6 @@ module _ (b c e f : Board) (es : List Event) (u : EraseUnit) (a : ℕ) (w : Writ
   in-unit-here : (m : Memory) (at : ℕ) → inUnitOf u (c .state .part .blocks) a m at ≡ inUnitOf u n a m at
   in-unit-here m at = ap (λ (k : ℕ). inUnitOf u k a m at) (lived .size)
 
-  in-unit-first : (m : Memory) (at : ℕ) → inUnitOf u n (aim (b .state) u v) m at ≡ inUnitOf u n a m at
-  in-unit-first m at = ap (λ (k : ℕ). inUnit (Erase u k 0) n m at) (h .same-unit)
-
   same-at : (m : Memory) (at : ℕ) (t : Bool) → inUnitOf u n a m at ≡ t → at < length (memoryIn m b) → getD (memoryIn m e) at 0 ≡ cond t erasedByte (getD (memoryIn m b) at 0)
   same-at m at true i l = filled c rc u a w g e run m at (subst⁻¹ (λ (k : ℕ). at < k) (lived .lengths m) l) (in-unit-here m at ∙ i)
   same-at m at false i l =
@@ -105,7 +103,7 @@ module _ (b c e f : Board) (es : List Event) (u : EraseUnit) (a : ℕ) (w : Writ
       same-bytes b e f (λ m. told-length (told c rc u a w g e run) m ∙ lived .lengths m) (first-done .lengths)
       (λ m at l.
       let x = getD (memoryIn m b) at 0 in
-      same-at m at (inUnitOf u n a m at) refl l ∙ sym (first-done .bytes m at l ∙ ap (λ (t : Bool). cond t erasedByte x) (in-unit-first m at)))
+      same-at m at (inUnitOf u n a m at) refl l ∙ sym (first-done .bytes m at l ∙ ap (λ (t : Bool). cond t erasedByte x) (in-same-unit (b .state) u a v (h .same-unit) m at)))
 
 pub update-restarts : UpdateRestarts
 update-restarts b c e f es u a v w r lives out rc g run h undisturbed =

@@ -1,175 +1,41 @@
 -- Tries that are cut at any tick, any number of them: each leaves a part on which the same bytes begin the same erase, and writes nothing else.
-use Prim.Native.Nat.{ℕ, _+_, _≤_, _<_}
-use mathlib.Core.Path.{_≡_, refl, sym, ap, _∙_, subst, subst⁻¹}
-use mathlib.Core.Bool.{Bool, true, false, not}
+use Prim.Native.Nat.{ℕ, _<_}
+use mathlib.Core.Path.{_≡_, refl, sym, ap, _∙_, subst⁻¹}
+use mathlib.Core.Bool.{Bool, true}
 use mathlib.Core.List.{List, [], _∷_, _++_}
 use native.Mathlib.Omega.{arith}
-use lib.ListN.{getD}
 use Rattle.types.specs.declared.EraseUnit.{EraseUnit}
-use Rattle.types.specs.declared.Addressing.{Addressing}
 use Rattle.types.specs.declared.Operation.{Operation}
 use Rattle.types.specs.declared.Operation.the-variants.{Erase}
-use Rattle.types.specs.declared.Phase.{Phase}
-use Rattle.types.specs.declared.Phase.the-variants.{Idle, Busy}
-use Rattle.types.specs.declared.Identity.{Identity}
+use Rattle.types.specs.declared.Phase.the-variants.{Busy}
 use Rattle.types.specs.declared.Stored.{Stored}
 use Rattle.types.specs.declared.Record.{Record}
-use Rattle.types.specs.declared.Answer.{Answer}
 use Rattle.words.specs.Logic.{_or_}
-use Rattle.words.proofs.Tests.{and-in}
-use Rattle.paper.specs.Sizes.{tickLimit}
-use Rattle.paper.specs.Erase.{memoryOf, unitPages, unitBase, eraseOf}
+use Rattle.paper.specs.Erase.{unitPages, unitBase, eraseOf}
 use Rattle.paper.specs.Registers.{bankLoaded}
-use Rattle.paper.specs.Address.{placeIn}
-use Rattle.paper.specs.Records.{registersIn, fresh}
+use Rattle.paper.specs.Records.{fresh}
 use Rattle.paper.specs.Phases.{running, isIdle}
 use Rattle.paper.specs.Operations.{unitFree, targetFree}
-use Rattle.paper.specs.Soundness.{sound}
-use Rattle.paper.specs.Table.{decoded, columns}
-use Rattle.paper.specs.Numbers.{addressOk}
-use Rattle.paper.specs.History.{Call, ticks, recordAfterCall, recordAfterCalls, callTouches, history}
+use Rattle.paper.specs.History.{Call, ticks, recordAfterCalls, callTouches, history}
 use Rattle.paper.specs.Board.{Board, boardOf, answerTo, afterCall}
-use Rattle.paper.proofs.MadeSound.{target-stored}
-use Rattle.paper.proofs.Soundness.{sound-parts}
 use Rattle.paper.proofs.Kept.{powered-fresh}
-use Rattle.paper.proofs.CallKept.{call-sound}
-use Rattle.paper.proofs.RunToEnd.{call-rests, pages-few}
+use Rattle.paper.proofs.RunToEnd.{call-rests}
 use Rattle.history.proofs.Told.{Told}
 use Rattle.history.proofs.Joined.{Parted, run-folded, run-parted}
 use Rattle.reset.specs.Closing.{arm, reset}
-use Rattle.reset.proofs.Steps.{not-idle-awake, armed-now}
 use Rattle.suspended.specs.UnderWay.{doneIn, neverIdle, runsToEnd}
-use Rattle.suspended.proofs.UnderWay.{under-in-order, ticks-go-on}
-use Rattle.laws.specs.Writes.{erase, Write, steps, atStart, writeOf, addressingBy, sentAs, begunBy, Fitting, Begun, Rested, Makes}
+use Rattle.suspended.proofs.UnderWay.{under-in-order}
+use Rattle.laws.specs.Writes.{erase, Write, steps, atStart, writeOf, begunBy, Begun, Makes}
 use Rattle.laws.specs.DriverLaws.{plainly}
 use Rattle.laws.proofs.Boards.{rested-own, made-told}
-use Rattle.laws.proofs.Begun.{start-sound, start-size}
 use Rattle.laws.proofs.Written.{plainly-whole}
-use Rattle.restart.specs.Cuts.{upAgain, poweredAgain, by-reset, by-power, Event, calls, Lives, over, sent, up, historyThrough, NoOther, nothingElse, aim}
-use Rattle.restart.specs.Restart.{CutAt, Again, Try, resetAfter, powerAfter, allTried, AllCuttable, none, more, EveryTick, EveryCut}
+use Rattle.restart.specs.Cuts.{upAgain, poweredAgain, by-reset, by-power, Event, calls, Lives, over, sent, up, historyThrough, nothingElse, aim}
+use Rattle.restart.specs.Restart.{CutAt, Again, Try, resetAfter, powerAfter, allTried, AllCuttable, none, more, EveryCut}
 use Rattle.restart.proofs.Alone.{alone-none, alone-both, nothing-else}
-use Rattle.restart.proofs.Started.{start-phase}
 use Rattle.restart.proofs.AtTheCut.{reset-next, at-the-cut, reset-cuts}
 use Rattle.restart.proofs.DoneOver.{done-over}
-
--- an erase that is begun with nothing between 06h and it
-module _ (b : Board) (r : Rested b) (u : EraseUnit) (wp : Bool) (i : List ℕ) (fits : Fitting (b .state) (erase u) i) where
-  abbrev n : ℕ
-  n = b .state .part .blocks
-
-  abbrev write : List Call → Write
-  write cs = writeOf wp wp i cs
-
-  begun : (cs : List Call) → Begun (b .state) (erase u) (write cs)
-  begun cs = record { fitting = fits; checks-wait = refl }
-
-  abbrev place : ℕ
-  place = aim (b .state) u (write [])
-
-  abbrev start : Record
-  start = atStart (b .state) (write [])
-
-  abbrev erasing : ℕ → Operation
-  erasing k = Erase u (unitBase u n place) k
-
-  at-start : start .phase ≡ Busy (erasing 0)
-  at-start = start-phase b r u (write []) (begun [])
-
-  sound-start : sound start ≡ true
-  sound-start = start-sound b r (erase u) (write []) (begun [])
-
-  size-start : unitPages u (start .part .blocks) ≡ unitPages u n
-  size-start = ap (unitPages u) (start-size b r (erase u) (write []) (begun []))
-
-  -- so many ticks may be asked
-  few : unitPages u n ≤ tickLimit (start .part .blocks)
-  few =
-      subst (λ (k : ℕ). k ≤ tickLimit (start .part .blocks)) size-start (pages-few u (start .part .blocks) (sound-parts start sound-start .size))
-
-  -- ticks write nothing else
-  ticks-alone : (k : ℕ) → nothingElse u n place (callTouches (ticks k) start ++ []) ≡ true
-  ticks-alone k =
-      subst (λ (m : ℕ). nothingElse u m place (callTouches (ticks k) start ++ []) ≡ true) (start-size b r (erase u) (write []) (begun []))
-      (nothing-else start u place (ticks k ∷ []) sound-start
-      (subst⁻¹ (λ (m : ℕ). NoOther u (unitBase u m place) (running (start .phase))) (start-size b r (erase u) (write []) (begun [])) (subst⁻¹ (λ (f : Phase). NoOther u (unitBase u n place) (running f)) at-start refl), tt))
-
-  -- before the last tick
-  module _ (k : ℕ) (l : k < unitPages u n) where
-    abbrev ran : Record
-    ran = recordAfterCall (ticks k) start
-
-    ran-sound : sound ran ≡ true
-    ran-sound = call-sound (ticks k) start sound-start
-
-    ran-phase : ran .phase ≡ Busy (erasing k)
-    ran-phase =
-        let z : 0 + k ≡ k = omega arith in
-        ticks-go-on u (unitBase u n place) (start .part .blocks) start sound-start refl k 0 at-start (omega (arith, size-start)) ∙ ap (λ (j : ℕ). Busy (erasing j)) z
-
-    ran-awake : ran .part .asleep ≡ false
-    ran-awake = not-idle-awake (ran .phase) (ran .part .asleep) (ap isIdle ran-phase) (sound-parts ran ran-sound .sleep)
-
-    -- it is never idle
-    never : neverIdle (ticks k ∷ []) start ≡ true
-    never = and-in (ap (λ (f : Phase). not (isIdle f)) ran-phase) refl
-
-    never-armed : neverIdle (ticks k ∷ arm wp ∷ []) start ≡ true
-    never-armed =
-        and-in (ap (λ (f : Phase). not (isIdle f)) ran-phase) (and-in (ap (λ (t : Answer). not (isIdle (t .next .phase))) (armed-now ran ran-sound wp ran-awake) ∙ ap (λ (f : Phase). not (isIdle f)) ran-phase) refl)
-
-pub every-tick : EveryTick
-every-tick b u wp i k r fits l =
-    (never b r u wp i fits k l, ap doneIn (ran-phase b r u wp i fits k l))
-
--- the part p was powered up again, or is p: the same size and the same bank register, and the bytes i begin the same erase
-record StillFits (p : Record) (u : EraseUnit) (i : List ℕ) (b : Board) : Type 0 where
-  rested : Rested b
-  size : b .state .part .blocks ≡ p .part .blocks
-  bank : b .state .part .bank ≡ p .part .bank
-  fits : Fitting (b .state) (erase u) i
-
--- where the bytes i go depends on the size and on the bank register
-abbrev sentBy : ℕ → ℕ → List ℕ → Addressing
-sentBy n bank i = addressingBy (decoded n bank (getD i 0 0)) bank
-
-module _ (p : Record) (u : EraseUnit) (i : List ℕ) (b : Board) (e : StillFits p u i b) where
-  sent-same : sentAs (b .state) i ≡ sentAs p i
-  sent-same =
-      ap (λ (n : ℕ). sentBy n (b .state .part .bank) i) (e .size) ∙ ap (λ (k : ℕ). sentBy (p .part .blocks) k i) (e .bank)
-
-  begun-same : begunBy (b .state) (erase u) i ≡ begunBy p (erase u) i
-  begun-same =
-      ap (λ (n : ℕ). eraseOf u (sentAs (b .state) i) n i) (e .size) ∙ ap (λ (g : Addressing). eraseOf u g (p .part .blocks) i) sent-same
-
-  place-same : (cs : List Call) (wp : Bool) → aim (b .state) u (writeOf wp wp i cs) ≡ aim p u (writeOf wp wp i [])
-  place-same cs wp =
-      ap (λ (n : ℕ). placeIn (memoryOf u) (sentAs (b .state) i) n i) (e .size) ∙ ap (λ (g : Addressing). placeIn (memoryOf u) g (p .part .blocks) i) sent-same
-
--- what fits a part under a bank register of 00h fits it freshly powered, if its unit is free
-fits-fresh : (p : Record) (u : EraseUnit) (i : List ℕ) (id : Identity) (g : Stored) → p .part .bank ≡ bankLoaded → Fitting p (erase u) i → targetFree (begunBy p (erase u) i) (p .part .blocks) g ≡ true
-    → Fitting (fresh (p .part .blocks) id g) (erase u) i
-fits-fresh p u i id g e f free =
-    let n = p .part .blocks in
-    let same : sentAs (fresh n id g) i ≡ sentAs p i = ap (λ (k : ℕ). sentBy n k i) (sym e) in
-    record {
-      code = record { command = f .code .command; known = ap (λ (k : ℕ). decoded n k (getD i 0 0)) (sym e) ∙ f .code .known; does = f .code .does };
-      some = f .some;
-      most = f .most;
-      right-length = f .right-length;
-      right-address = ap (λ (a : Addressing). addressOk (columns (f .code .command) .named) a i) same ∙ f .right-address;
-      free-target = ap (λ (a : Addressing). targetFree (eraseOf u a n i) n (registersIn Idle false g)) same ∙ target-stored Idle false g (begunBy p (erase u) i) n ∙ free;
-    }
-
--- the part after a cut
-next-fits : (p : Record) (u : EraseUnit) (i : List ℕ) (b d : Board) (id : Identity) (g : Stored) → p .part .bank ≡ bankLoaded → StillFits p u i b → d .state ≡ fresh (b .state .part .blocks) id g → Rested d
-    → targetFree (begunBy (b .state) (erase u) i) (b .state .part .blocks) g ≡ true → StillFits p u i d
-next-fits p u i b d id g zero-bank e is r free =
-    record {
-      rested = r;
-      size = ap (λ (q : Record). q .part .blocks) is ∙ e .size;
-      bank = ap (λ (q : Record). q .part .bank) is ∙ sym zero-bank;
-      fits = subst⁻¹ (λ (q : Record). Fitting q (erase u) i) is (fits-fresh (b .state) u i id g (e .bank ∙ zero-bank) (e .fits) free);
-    }
+use Rattle.restart.proofs.SomeTicks.{begun, erasing, at-start, sound-start, size-start, few, ticks-alone, never, never-armed}
+use Rattle.restart.proofs.StillFits.{StillFits, begun-same, place-same, next-fits}
 
 -- the first part p, to which every try is sent
 module _ (p : Record) (u : EraseUnit) (wp : Bool) (i : List ℕ) where
@@ -178,14 +44,14 @@ module _ (p : Record) (u : EraseUnit) (wp : Bool) (i : List ℕ) where
 
   -- ticks of the erase on the board b
   module _ (b : Board) (s : StillFits p u i b) (k : ℕ) where
-    ticks-here : nothingElse u (p .part .blocks) (aim p u first) (callTouches (ticks k) (atStart (b .state) first) ++ []) ≡ true
-    ticks-here =
+    ticks-still-alone : nothingElse u (p .part .blocks) (aim p u first) (callTouches (ticks k) (atStart (b .state) first) ++ []) ≡ true
+    ticks-still-alone =
         let ts = callTouches (ticks k) (atStart (b .state) first) ++ [] in
         sym (ap (λ (n : ℕ). nothingElse u n (aim (b .state) u first) ts) (s .size) ∙ ap (λ (a : ℕ). nothingElse u (p .part .blocks) a ts) (place-same p u i b s [] wp))
         ∙ ticks-alone b (s .rested) u wp i (s .fits) k
 
-    here : k < unitPages u (p .part .blocks) → k < unitPages u (b .state .part .blocks)
-    here l = subst⁻¹ (λ (n : ℕ). k < unitPages u n) (s .size) l
+    still-fewer : k < unitPages u (p .part .blocks) → k < unitPages u (b .state .part .blocks)
+    still-fewer l = subst⁻¹ (λ (n : ℕ). k < unitPages u n) (s .size) l
 
 -- its bank register is 00h
 module _ (p : Record) (u : EraseUnit) (wp : Bool) (i : List ℕ) (zero-bank : p .part .bank ≡ bankLoaded) where
@@ -194,72 +60,72 @@ module _ (p : Record) (u : EraseUnit) (wp : Bool) (i : List ℕ) (zero-bank : p 
 
   -- it was cut by a reset
   module _ (b : Board) (s : StillFits p u i b) (k : ℕ) (l : k < unitPages u (p .part .blocks)) (d : Board) (run : Makes b (steps (writeOf wp wp i (ticks k ∷ arm wp ∷ [])) ++ (reset wp ∷ [])) d) where
-    abbrev v : Write
-    v = writeOf wp wp i (ticks k ∷ arm wp ∷ [])
+    abbrev reset-write : Write
+    reset-write = writeOf wp wp i (ticks k ∷ arm wp ∷ [])
 
-    parts : Parted (b .state) (b .array) (b .rows) (steps v) (reset wp ∷ []) (d .state) (d .array) (d .rows)
-    parts = run-parted (steps v) (reset wp ∷ []) run
+    parts : Parted (b .state) (b .array) (b .rows) (steps reset-write) (reset wp ∷ []) (d .state) (d .array) (d .rows)
+    parts = run-parted (steps reset-write) (reset wp ∷ []) run
 
     abbrev c : Board
     c = boardOf (parts .between) (parts .array) (parts .rows)
 
-    abbrev v-begun : Begun (b .state) (erase u) v
-    v-begun = begun b (s .rested) u wp i (s .fits) (ticks k ∷ arm wp ∷ [])
+    abbrev reset-begun : Begun (b .state) (erase u) reset-write
+    reset-begun = begun b (s .rested) u wp i (s .fits) (ticks k ∷ arm wp ∷ [])
 
-    v-never : neverIdle (v .wait) (atStart (b .state) v) ≡ true
-    v-never = never-armed b (s .rested) u wp i (s .fits) k (here p u wp i b s k l)
+    reset-never : neverIdle (reset-write .wait) (atStart (b .state) reset-write) ≡ true
+    reset-never = never-armed b (s .rested) u wp i (s .fits) k (still-fewer p u wp i b s k l)
 
-    v-cut : answerTo c wp (0x99 ∷ []) 1 .number ≡ 0
-    v-cut = reset-cuts b c u v (ticks k ∷ []) [] wp wp (s .rested) v-begun refl v-never refl (parts .before)
+    reset-answers : answerTo c wp (0x99 ∷ []) 1 .number ≡ 0
+    reset-answers = reset-cuts b c u reset-write (ticks k ∷ []) [] wp wp (s .rested) reset-begun refl reset-never refl (parts .before)
 
     d-is : d ≡ afterCall (reset wp) c
     d-is = run-folded (parts .after)
 
-    c-cut : CutAt b u v c (afterCall (reset wp) c) (by-reset wp v-cut)
-    c-cut = at-the-cut b c (afterCall (reset wp) c) u v (s .rested) v-begun (parts .before) v-never (by-reset wp v-cut)
+    reset-cut : CutAt b u reset-write c (afterCall (reset wp) c) (by-reset wp reset-answers)
+    reset-cut = at-the-cut b c (afterCall (reset wp) c) u reset-write (s .rested) reset-begun (parts .before) reset-never (by-reset wp reset-answers)
 
-    v-told : Told (steps v) (b .state) (b .array) (b .rows) (c .state) (c .array) (c .rows)
-    v-told = made-told (rested-own b (s .rested)) (parts .before)
+    reset-told : Told (steps reset-write) (b .state) (b .array) (b .rows) (c .state) (c .array) (c .rows)
+    reset-told = made-told (rested-own b (s .rested)) (parts .before)
 
     -- the unit is free under the registers that the part had
-    v-free : targetFree (begunBy (b .state) (erase u) i) (b .state .part .blocks) (c .state .part .stored) ≡ true
+    reset-free : targetFree (begunBy (b .state) (erase u) i) (b .state .part .blocks) (c .state .part .stored) ≡ true
     unfolding eraseOf
-    v-free =
-        let base = unitBase u (b .state .part .blocks) (aim (b .state) u v) in
-        ap (λ (n : ℕ). unitFree u base n (c .state .part .stored)) (sym (v-told .size))
-        ∙ under-in-order (c .state) (Erase u base (doneIn (c .state .phase))) (c-cut .erasing) (v-told .next-sound) .open-target
+    reset-free =
+        let base = unitBase u (b .state .part .blocks) (aim (b .state) u reset-write) in
+        ap (λ (n : ℕ). unitFree u base n (c .state .part .stored)) (sym (reset-told .size))
+        ∙ under-in-order (c .state) (Erase u base (doneIn (c .state .phase))) (reset-cut .erasing) (reset-told .next-sound) .open-target
 
-    v-fresh : afterCall (reset wp) c .state ≡ fresh (b .state .part .blocks) (c .state .identity) (c .state .part .stored)
-    v-fresh =
-        reset-next c wp v-cut ∙ ap (λ (n : ℕ). fresh n (c .state .identity) (c .state .part .stored)) (v-told .size)
+    reset-fresh : afterCall (reset wp) c .state ≡ fresh (b .state .part .blocks) (c .state .identity) (c .state .part .stored)
+    reset-fresh =
+        reset-next c wp reset-answers ∙ ap (λ (n : ℕ). fresh n (c .state .identity) (c .state .part .stored)) (reset-told .size)
 
     reset-fits : StillFits p u i d
     reset-fits =
-        subst⁻¹ (StillFits p u i) d-is (next-fits p u i b (afterCall (reset wp) c) (c .state .identity) (c .state .part .stored) zero-bank s v-fresh (c-cut .rested) v-free)
+        subst⁻¹ (StillFits p u i) d-is (next-fits p u i b (afterCall (reset wp) c) (c .state .identity) (c .state .part .stored) zero-bank s reset-fresh (reset-cut .rested) reset-free)
 
-    reset-alone : nothingElse u (p .part .blocks) aimed (history (steps v ++ (reset wp ∷ [])) (b .state)) ≡ true
-    reset-alone = ticks-here p u wp i b s k
+    reset-alone : nothingElse u (p .part .blocks) aimed (history (steps reset-write ++ (reset wp ∷ [])) (b .state)) ≡ true
+    reset-alone = ticks-still-alone p u wp i b s k
 
   -- or by a loss of power
   module _ (b : Board) (s : StillFits p u i b) (k : ℕ) (g : Stored) (l : k < unitPages u (p .part .blocks)) (free : targetFree (begunBy p (erase u) i) (p .part .blocks) g ≡ true)
       (c : Board) (run : Makes b (steps (writeOf wp wp i (ticks k ∷ []))) c) (z : upAgain g (c .state) .number ≡ 0) where
-    abbrev x : Write
-    x = writeOf wp wp i (ticks k ∷ [])
+    abbrev power-write : Write
+    power-write = writeOf wp wp i (ticks k ∷ [])
 
-    x-cut : CutAt b u x c (poweredAgain g c) (by-power g z)
-    x-cut =
-        at-the-cut b c (poweredAgain g c) u x (s .rested) (begun b (s .rested) u wp i (s .fits) (ticks k ∷ [])) run (never b (s .rested) u wp i (s .fits) k (here p u wp i b s k l)) (by-power g z)
+    power-cut : CutAt b u power-write c (poweredAgain g c) (by-power g z)
+    power-cut =
+        at-the-cut b c (poweredAgain g c) u power-write (s .rested) (begun b (s .rested) u wp i (s .fits) (ticks k ∷ [])) run (never b (s .rested) u wp i (s .fits) k (still-fewer p u wp i b s k l)) (by-power g z)
 
-    x-fresh : poweredAgain g c .state ≡ fresh (b .state .part .blocks) (b .state .identity) g
-    x-fresh = x-cut .fresh ∙ powered-fresh (b .state .part .blocks) (b .state .identity) g (x-cut .unrefused)
+    power-fresh : poweredAgain g c .state ≡ fresh (b .state .part .blocks) (b .state .identity) g
+    power-fresh = power-cut .fresh ∙ powered-fresh (b .state .part .blocks) (b .state .identity) g (power-cut .unrefused)
 
     power-fits : StillFits p u i (poweredAgain g c)
     power-fits =
-        next-fits p u i b (poweredAgain g c) (b .state .identity) g zero-bank s x-fresh (x-cut .rested)
+        next-fits p u i b (poweredAgain g c) (b .state .identity) g zero-bank s power-fresh (power-cut .rested)
         (ap (λ (o : Operation). targetFree o (b .state .part .blocks) g) (begun-same p u i b s) ∙ ap (λ (n : ℕ). targetFree (begunBy p (erase u) i) n g) (s .size) ∙ free)
 
-    power-alone : nothingElse u (p .part .blocks) aimed (history (steps x) (b .state)) ≡ true
-    power-alone = ticks-here p u wp i b s k
+    power-alone : nothingElse u (p .part .blocks) aimed (history (steps power-write) (b .state)) ≡ true
+    power-alone = ticks-still-alone p u wp i b s k
 
   -- all tries, and what comes after them
   record TriedAll (b : Board) (ts : List Try) (es : List Event) (e : Board) : Type 0 where
@@ -321,7 +187,7 @@ module _ (p : Record) (u : EraseUnit) (wp : Bool) (i : List ℕ) (c : Board) (s 
         begun = begun c (s .rested) u wp i (s .fits) (ticks all ∷ []);
         same-unit = ap (unitBase u (c .state .part .blocks)) (place-same p u i c s (ticks all ∷ []) wp);
         ends = last-ends;
-        nothing-else = ap (λ (n : ℕ). nothingElse u n (aim p u last) (history (steps last) (c .state))) (s .size) ∙ ticks-here p u wp i c s all;
+        nothing-else = ap (λ (n : ℕ). nothingElse u n (aim p u last) (history (steps last) (c .state))) (s .size) ∙ ticks-still-alone p u wp i c s all;
       }
 
 -- one event of calls is a run of them

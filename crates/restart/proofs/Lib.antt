@@ -5,5 +5,7 @@ pub mod Started
 pub mod AtTheCut
 pub mod NeedsEnable
 pub mod DoneOver
+pub mod SomeTicks
+pub mod StillFits
 pub mod EveryCut
 pub mod Restart

@@ -27,7 +27,6 @@ up-own b g o z =
 -- what events leave
 pub record LivesTold (es : List Event) (b e : Board) : Type 0 where
   pub next : e .state ≡ recordAfterEvents es (b .state)
-  pub own : Own e
   pub size : e .state .part .blocks ≡ b .state .part .blocks
   pub lengths : (m : Memory) → length (memoryIn m e) ≡ length (memoryIn m b)
   pub bytes : (m : Memory) (at : ℕ) → at < length (memoryIn m b) → getD (memoryIn m e) at 0 ≡ byteAfterAll m at (historyThrough es (b .state)) (getD (memoryIn m b) at 0)
@@ -37,13 +36,12 @@ memory-again Array g b = refl
 memory-again Rows g b = refl
 
 pub lives-told : {b e : Board} {es : List Event} → Own b → Lives b es e → LivesTold es b e
-lives-told o over = record { next = refl; own = o; size = refl; lengths = λ m. refl; bytes = λ m at l. refl }
+lives-told o over = record { next = refl; size = refl; lengths = λ m. refl; bytes = λ m at l. refl }
 lives-told {b} {e} o (sent {c = c} {cs = cs} {es = es} run rest) =
     let t = made-told o run in
     let on = lives-told (made-own o run) rest in
     record {
       next = on .next ∙ ap (recordAfterEvents es) (t .next);
-      own = on .own;
       size = on .size ∙ t .size;
       lengths = λ m. on .lengths m ∙ told-length t m;
       bytes = λ m at l.
@@ -57,7 +55,6 @@ lives-told {b} {e} o (up {g = g} {es = es} z rest) =
     let same : (m : Memory) → length (memoryIn m (poweredAgain g b)) ≡ length (memoryIn m b) = λ m. ap (λ (xs : List ℕ). length xs) (memory-again m g b) in
     record {
       next = on .next;
-      own = on .own;
       size = on .size ∙ up-size g (b .state) z;
       lengths = λ m. on .lengths m ∙ same m;
       bytes = λ m at l.

@@ -4,7 +4,8 @@ use Rattle.restart.proofs.AtTheCut.{at-the-cut, reset-cuts}
 use Rattle.restart.proofs.Alone.{nothing-else, nothing-else-through}
 use Rattle.restart.proofs.DoneOver.{done-over, update-restarts}
 use Rattle.restart.proofs.NeedsEnable.{needs-enable}
-use Rattle.restart.proofs.EveryCut.{every-tick, every-cut}
+use Rattle.restart.proofs.SomeTicks.{every-tick}
+use Rattle.restart.proofs.EveryCut.{every-cut}
 
 pub restart : Restart
 restart =

@@ -18,7 +18,7 @@ use Rattle.paper.specs.History.{recordAfterCalls, history}
 use Rattle.paper.specs.Board.{Board}
 use Rattle.history.proofs.Calls.{calls-append, history-append}
 use Rattle.suspended.specs.UnderWay.{Erasing}
-use Rattle.suspended.proofs.UnderWay.{nothing-done, leftIn}
+use Rattle.suspended.proofs.Proceeds.{nothing-done, leftIn}
 use Rattle.laws.specs.Writes.{erase, Write, opening, command, steps, atStart, Begun, Rested}
 use Rattle.laws.proofs.Begun.{start-is}
 use Rattle.restart.specs.Cuts.{aim}

@@ -40,7 +40,8 @@ use Rattle.history.proofs.Calls.{calls-sound, calls-size, calls-append}
 use Rattle.suspended.specs.Interrupted.{noneReleases, interrupted}
 use Rattle.suspended.specs.UnderWay.{Erasing, neverIdle}
 use Rattle.suspended.proofs.HaltedKept.{calls-halted}
-use Rattle.suspended.proofs.UnderWay.{never-halted, never-both, nothing-done, leftIn, ticks-go-on, erase-whole}
+use Rattle.suspended.proofs.UnderWay.{never-halted, never-both}
+use Rattle.suspended.proofs.Proceeds.{nothing-done, leftIn, ticks-go-on, erase-whole}
 
 -- 75h and B0h are suspends, 7Ah and 30h resumes
 pub suspend-codes : Always 0x75 Suspend × Always 0xB0 Suspend
@@ -130,8 +131,8 @@ module _ (p : Record) (u : EraseUnit) (b : ℕ) (s : sound p ≡ true) (f : p .p
       -- and is under way all the time
       never : neverIdle (interrupted d (oneByte w c) cs (oneByte v r)) p ≡ true
       never =
-          let busy-or-held : Phase → Bool = λ g. not (isIdle g) in
-          and-in (ap busy-or-held ran-phase) (and-in (ap busy-or-held suspended-phase) (never-both cs (oneByte v r ∷ []) before (never-halted cs before (Erase u b d) (ap halted suspended-phase) none) (and-in (ap busy-or-held resumed-here) refl)))
+          let not-idle : Phase → Bool = λ g. not (isIdle g) in
+          and-in (ap not-idle ran-phase) (and-in (ap not-idle suspended-phase) (never-both cs (oneByte v r ∷ []) before (never-halted cs before (Erase u b d) (ap halted suspended-phase) none) (and-in (ap not-idle resumed-here) refl)))
 
       -- the ticks that are left end it
       pub resumed-ends : let q = recordAfterCalls (interrupted d (oneByte w c) cs (oneByte v r) ++ (ticks (unitPages u (p .part .blocks) - d) ∷ [])) p in

@@ -1,4 +1,5 @@
 pub mod HaltedKept
 pub mod NestedBytes
 pub mod UnderWay
+pub mod Proceeds
 pub mod EraseResumed
