@@ -12,7 +12,6 @@ use Rattle.types.specs.declared.Waited.{Waited}
 use Rattle.types.specs.declared.Worked.{Worked}
 use Rattle.words.specs.Logic.{unless, _orElse_}
 use Rattle.paper.specs.Sizes.{pageBytes}
-use Rattle.paper.specs.Soundness.{sound, soundOf}
 use Rattle.paper.specs.Numbers.{rowsNumber, soundNumber}
 use Rattle.paper.specs.Calls.{ticked}
 use Rattle.record_bytes.specs.declared.Found.{Found}
@@ -46,12 +45,8 @@ module _ (bs : List ℕ) (e : recordIn bs .ok ≡ true) (x : Found) (ex : x ≡ 
   abbrev lent : List ℕ
   lent = take pageBytes (drop headerLength bs)
 
-  pub lent-length : length lent ≡ pageBytes
+  lent-length : length lent ≡ pageBytes
   lent-length = simp (length-take, length-drop) (omega (arith, held-length bs e))
-
-  -- it is told whether that is sound
-  pub lent-sound : x .sound ≡ soundOf (x .part) (x .phase) lent
-  lent-sound = found-sound bs e x ex ∙ rw (ex, held-page bs e)
 
   module _ (a r n : ℕ) where
     module _ (u : Waited) (eu : u ≡ waitedOf (x .part) (x .phase) (x .sound) a r n) where
@@ -71,4 +66,4 @@ module _ (bs : List ℕ) (e : recordIn bs .ok ≡ true) (x : Found) (ex : x ≡ 
     pub told-memory : (m : Memory) (xs y : List ℕ) → y ≡ waitedMemory m (x .part) (x .phase) (x .sound) lent a r n xs → y ≡ tickMemory m (recordIn bs) a r n xs
     unfolding tickMemory
     told-memory m xs y ey =
-        ey ∙ rw (found-sound bs e x ex, ex, held-page bs e) (memory-told held a r n m xs) ∙ sym (on-held (recordIn bs) _ xs e)
+        ey ∙ rw (found-sound bs e x ex, ex, held-page bs e) (memory-told held a r n m xs (ap (λ (g : List ℕ). length g) (sym (held-page bs e)) ∙ lent-length)) ∙ sym (on-held (recordIn bs) _ xs e)

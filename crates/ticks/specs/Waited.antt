@@ -20,7 +20,8 @@ use Rattle.paper.specs.Phases.{running}
 use Rattle.paper.specs.Operations.{ticksLeft, advancedBy}
 use Rattle.paper.specs.Commands.{changed}
 use Rattle.paper.specs.Numbers.{tickNumber}
-use Rattle.paper.specs.Ticks.{finishedPart, ran}
+use Rattle.paper.specs.Ticks.{finishedPart}
+use Rattle.ticks.specs.OneMemory.{ranWithin}
 
 -- what k ticks of an operation change, of those that are left: the last makes an end, others leave the part at its operation
 abbrev pub changeAfter : ℕ → Operation → Part → Phase → Change
@@ -39,10 +40,10 @@ abbrev pub ticksReached : ℕ → Work → ℕ → ℕ
 ticksReached n NoWork blocks = 0
 ticksReached n (At o) blocks = min n (ticksLeft o blocks)
 
--- and what they make of a memory, with the page data g
-abbrev pub memoryReached : Memory → ℕ → Work → ℕ → List ℕ → List ℕ → List ℕ
-memoryReached m n NoWork blocks g xs = xs
-memoryReached m n (At o) blocks g xs = ran m (min n (ticksLeft o blocks)) o g xs
+-- and what they make of a memory, with the page data g, for an array of a and rows of r bytes
+abbrev pub memoryReached : Memory → ℕ → Work → ℕ → List ℕ → ℕ → ℕ → List ℕ → List ℕ
+memoryReached m n NoWork blocks g a r xs = xs
+memoryReached m n (At o) blocks g a r xs = ranWithin m (min n (ticksLeft o blocks)) o g a r xs
 
 -- what a tick call answers, of a part in a phase that is sound or is not, for an array of a and rows of r bytes
 unfoldable pub waitedOf : Part → Phase → Bool → ℕ → ℕ → ℕ → Waited
@@ -54,7 +55,7 @@ waitedOf p f s a r n =
 -- and what it leaves in a memory
 unfoldable pub waitedMemory : Memory → Part → Phase → Bool → List ℕ → ℕ → ℕ → ℕ → List ℕ → List ℕ
 waitedMemory m p f s g a r n xs =
-    whenZero (tickNumber (p .blocks) s a r n) (memoryReached m n (running f) (p .blocks) g xs) xs
+    whenZero (tickNumber (p .blocks) s a r n) (memoryReached m n (running f) (p .blocks) g a r xs) xs
 
 -- the answer, made of the record
 abbrev pub tickedBy : Waited → Record → Ticked

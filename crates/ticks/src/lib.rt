@@ -1,20 +1,18 @@
 // Ticks. A call works out how many of its ticks find something to do, does those in one run over the
 // memory that the operation is of, and tells once what becomes of the record.
 ghost use mathlib.Core.Path.{_≡_};
-ghost use mathlib.Core.Bool.{true};
-ghost use Prim.Native.Nat.{_+_, _*_, _≤_};
+ghost use mathlib.Core.Bool.{cond};
+ghost use Prim.Native.Nat.{_+_, _*_, _^_, _≤_, _<_};
 ghost use lib.ListN.{length};
 ghost use Rattle.types.specs.declared.Memory.the-variants.{Array, Rows};
 ghost use Rattle.types.specs.declared.Work.the-variants.{At};
-ghost use Rattle.paper.specs.Sizes.{arrayBytes, rowsBytes};
 ghost use Rattle.paper.specs.Registers.{registerWritten, storedAfter};
 ghost use Rattle.paper.specs.Phases.{running};
 ghost use Rattle.paper.specs.Operations.{ticksDone, ticksLeft, advancedBy};
-ghost use Rattle.paper.specs.Soundness.{soundOf};
-ghost use Rattle.paper.specs.Ticks.{finishedPart, ran};
+ghost use Rattle.paper.specs.Ticks.{finishedPart};
 ghost use Rattle.paper.specs.Calls.{ticked, tickedMemory};
 ghost use Rattle.record_bytes.specs.Read.{recordIn};
-ghost use Rattle.ticks.specs.OneMemory.{pagesErased, bytesNarrowed, Within};
+ghost use Rattle.ticks.specs.OneMemory.{pagesErased, bytesNarrowed, programWithin, eraseWithin, ranWithin};
 ghost use Rattle.ticks.specs.Waited.{ticksReached, memoryReached, changeAfter, tickChange, waitedOf, waitedMemory};
 ghost use Rattle.ticks.specs.InBytes.{heldWorked, tickBytes, tickMemory};
 use record_bytes::places;
@@ -46,7 +44,7 @@ fn erase_pages(memory: &mut [u8], from: usize, count: usize)
 
 // So many kept bytes, from byte done on, written in order of arrival to their places in a page.
 fn narrow_page(page: &mut [u8], start: u8, done: usize, kept: &[u8], count: usize)
-    requires { ⌜ (done + count ≤ 256) × (length (now kept) ≡ 256) × (length (now page) ≡ 256) ⌝ }
+    requires { ⌜ (done + count ≤ length (now kept)) × (length (now page) ≡ 256) ⌝ }
     ensures { λ _. ⌜ now (page .exit) ≡ bytesNarrowed count 0 start done (now (kept .entry)) (now (page .entry)) ⌝ }
 {
     let mut i = 0;
@@ -60,17 +58,58 @@ fn narrow_page(page: &mut [u8], start: u8, done: usize, kept: &[u8], count: usiz
 
 // The same to the page at a base of a memory, which is lent on.
 fn narrow_bytes(memory: &mut [u8], base: usize, start: u8, done: usize, kept: &[u8], count: usize)
-    requires { ⌜ (done + count ≤ 256) × (length (now kept) ≡ 256) × (base + 256 ≤ length (now memory)) ⌝ }
+    requires { ⌜ (done + count ≤ length (now kept)) × (base + 256 ≤ length (now memory)) ⌝ }
     ensures { λ _. ⌜ now (memory .exit) ≡ bytesNarrowed count base start done (now (kept .entry)) (now (memory .entry)) ⌝ }
 {
     let end = base + types::PAGE_BYTES;
     narrow_page(&mut memory[base..end], start, done, kept, count);
 }
 
-// So many ticks of an operation, on the memory that it is of.
+// Whether so many ticks of a program lie within kept bytes of page data, and its page within a memory of all bytes.
+fn program_within(base: usize, done: usize, count: usize, kept: usize, all: usize) -> bool
+    requires { ⌜ (done + count < 2 ^ 64) × (256 ≤ all) ⌝ }
+    ensures { λ r. ⌜ r ≡ programWithin base done count kept all ⌝ }
+{
+    words::both(done + count <= kept, base <= all - types::PAGE_BYTES)
+}
+
+// Whether so many ticks of an erase lie within a memory of all bytes.
+fn erase_within(base: usize, done: usize, count: usize, all: usize) -> bool
+    requires { ⌜ done + count < 2 ^ 64 ⌝ }
+    ensures { λ r. ⌜ r ≡ eraseWithin base done count all ⌝ }
+{
+    if all < base {
+        return false;
+    }
+    done + count <= (all - base) / types::PAGE_BYTES
+}
+
+// So many ticks of a program of a memory, if they lie within it and the page data.
+fn program(memory: &mut [u8], base: usize, start: u8, done: usize, kept: &[u8], count: usize)
+    requires { ⌜ (done + count < 2 ^ 64) × (256 ≤ length (now memory)) ⌝ }
+    ensures { λ _. ⌜ now (memory .exit) ≡ cond (programWithin base done count (length (now (kept .entry))) (length (now (memory .entry)))) (bytesNarrowed count base start done (now (kept .entry)) (now (memory .entry))) (now (memory .entry)) ⌝ }
+{
+    let within = program_within(base, done, count, kept.len(), memory.len());
+    if within {
+        narrow_bytes(memory, base, start, done, kept, count);
+    }
+}
+
+// So many ticks of an erase of a memory, if they lie within it.
+fn erase(memory: &mut [u8], base: usize, done: usize, count: usize)
+    requires { ⌜ done + count < 2 ^ 64 ⌝ }
+    ensures { λ _. ⌜ now (memory .exit) ≡ cond (eraseWithin base done count (length (now (memory .entry)))) (pagesErased count (base + done * 256) (now (memory .entry))) (now (memory .entry)) ⌝ }
+{
+    let within = erase_within(base, done, count, memory.len());
+    if within {
+        erase_pages(memory, base + done * types::PAGE_BYTES, count);
+    }
+}
+
+// So many ticks of an operation, on the memory that it is of, if they lie within it.
 fn touch(op: Operation, count: usize, kept: &[u8], array: &mut [u8], rows: &mut [u8])
-    requires { ⌜ (length (now kept) ≡ 256) × Within op count (length (now array)) (length (now rows)) ⌝ }
-    ensures { λ _. ⌜ (now (array .exit) ≡ ran Array count op (now (kept .entry)) (now (array .entry))) × (now (rows .exit) ≡ ran Rows count op (now (kept .entry)) (now (rows .entry))) ⌝ }
+    requires { ⌜ (ticksDone op + count < 2 ^ 64) × (256 ≤ length (now array)) × (256 ≤ length (now rows)) ⌝ }
+    ensures { λ _. ⌜ (now (array .exit) ≡ ranWithin Array count op (now (kept .entry)) (length (now (array .entry))) (length (now (rows .entry))) (now (array .entry))) × (now (rows .exit) ≡ ranWithin Rows count op (now (kept .entry)) (length (now (array .entry))) (length (now (rows .entry))) (now (rows .entry))) ⌝ }
 {
     match op {
         Operation::Program {
@@ -80,14 +119,14 @@ fn touch(op: Operation, count: usize, kept: &[u8], array: &mut [u8], rows: &mut 
             done,
             ..
         } => match memory {
-            Memory::Array => narrow_bytes(array, base, start, done, kept, count),
-            Memory::Rows => narrow_bytes(rows, base, start, done, kept, count),
+            Memory::Array => program(array, base, start, done, kept, count),
+            Memory::Rows => program(rows, base, start, done, kept, count),
         },
         Operation::Erase { unit, base, done } => {
             let memory = pages::unit_memory(unit);
             match memory {
-                Memory::Array => erase_pages(array, base + done * types::PAGE_BYTES, count),
-                Memory::Rows => erase_pages(rows, base + done * types::PAGE_BYTES, count),
+                Memory::Array => erase(array, base, done, count),
+                Memory::Rows => erase(rows, base, done, count),
             }
         }
         Operation::Write { .. } => {}
@@ -141,7 +180,7 @@ fn finish(part: Part, phase: Phase, op: Operation) -> Part
 
 // The operation with so many ticks more done.
 fn advance(op: Operation, count: usize) -> Operation
-    requires { ⌜ ticksDone op + count ≤ 16777216 ⌝ }
+    requires { ⌜ ticksDone op + count < 2 ^ 64 ⌝ }
     ensures { λ r. ⌜ r ≡ advancedBy count op ⌝ }
 {
     match op {
@@ -172,7 +211,7 @@ fn advance(op: Operation, count: usize) -> Operation
 
 // What so many ticks of an operation change, of those that are left.
 fn change_after(count: usize, left: usize, op: Operation, part: Part, phase: Phase) -> Change
-    requires { ⌜ (ticksDone op + count ≤ 16777216) × (left ≡ ticksLeft op (part .blocks)) ⌝ }
+    requires { ⌜ (ticksDone op + count < 2 ^ 64) × (left ≡ ticksLeft op (part .blocks)) ⌝ }
     ensures { λ r. ⌜ r ≡ changeAfter count op part phase ⌝ }
 {
     if count == left {
@@ -192,10 +231,11 @@ fn work(
     rows: &mut [u8],
     ticks: usize,
 ) -> Waited
-    requires { ⌜ (running phase ≡ At op) × (soundOf part phase (now page) ≡ true) × (length (now page) ≡ 256) × (length (now array) ≡ arrayBytes (part .blocks)) × (length (now rows) ≡ rowsBytes) ⌝ }
-    ensures { λ r. ⌜ (r ≡ record { change = tickChange ticks (At op) part phase; number = 0; done = ticksReached ticks (At op) (part .blocks) }) × (now (array .exit) ≡ memoryReached Array ticks (At op) (part .blocks) (now (page .entry)) (now (array .entry))) × (now (rows .exit) ≡ memoryReached Rows ticks (At op) (part .blocks) (now (page .entry)) (now (rows .entry))) ⌝ }
+    requires { ⌜ (256 ≤ length (now array)) × (256 ≤ length (now rows)) ⌝ }
+    ensures { λ r. ⌜ (r ≡ record { change = tickChange ticks (At op) part phase; number = 0; done = ticksReached ticks (At op) (part .blocks) }) × (now (array .exit) ≡ memoryReached Array ticks (At op) (part .blocks) (now (page .entry)) (length (now (array .entry))) (length (now (rows .entry))) (now (array .entry))) × (now (rows .exit) ≡ memoryReached Rows ticks (At op) (part .blocks) (now (page .entry)) (length (now (array .entry))) (length (now (rows .entry))) (now (rows .entry))) ⌝ }
 {
-    let left = operations::ticks_in_all(op, part.blocks) - operations::ticks_done(op);
+    let all = operations::ticks_in_all(op, part.blocks);
+    let left = all - words::lesser(all, operations::ticks_done(op));
     let count = words::lesser(ticks, left);
     touch(op, count, page, array, rows);
     let change = change_after(count, left, op, part, phase);
@@ -206,7 +246,7 @@ fn work(
     }
 }
 
-// Ticks of a sound part on its own memory.
+// Ticks of a part.
 fn run(
     part: Part,
     phase: Phase,
@@ -215,8 +255,8 @@ fn run(
     rows: &mut [u8],
     ticks: usize,
 ) -> Waited
-    requires { ⌜ (soundOf part phase (now page) ≡ true) × (length (now page) ≡ 256) × (length (now array) ≡ arrayBytes (part .blocks)) × (length (now rows) ≡ rowsBytes) ⌝ }
-    ensures { λ r. ⌜ (r ≡ record { change = tickChange ticks (running phase) part phase; number = 0; done = ticksReached ticks (running phase) (part .blocks) }) × (now (array .exit) ≡ memoryReached Array ticks (running phase) (part .blocks) (now (page .entry)) (now (array .entry))) × (now (rows .exit) ≡ memoryReached Rows ticks (running phase) (part .blocks) (now (page .entry)) (now (rows .entry))) ⌝ }
+    requires { ⌜ (256 ≤ length (now array)) × (256 ≤ length (now rows)) ⌝ }
+    ensures { λ r. ⌜ (r ≡ record { change = tickChange ticks (running phase) part phase; number = 0; done = ticksReached ticks (running phase) (part .blocks) }) × (now (array .exit) ≡ memoryReached Array ticks (running phase) (part .blocks) (now (page .entry)) (length (now (array .entry))) (length (now (rows .entry))) (now (array .entry))) × (now (rows .exit) ≡ memoryReached Rows ticks (running phase) (part .blocks) (now (page .entry)) (length (now (array .entry))) (length (now (rows .entry))) (now (rows .entry))) ⌝ }
 {
     let running = phases::running(phase);
     match running {
@@ -229,10 +269,11 @@ fn run(
     }
 }
 
-// So many ticks of a part in a phase with page data, which stays where it is, and of which is told whether it is sound. It
-// answers what becomes of the record, the number, and how many ticks did work; refused, with 1, 2, 5 or 6, it writes nothing
-// and the record stays the same.
-fn tick_told(
+// So many ticks of a part in a phase with page data, of a record that is sound or is not, as the caller says. It answers what
+// becomes of the record, the number, and how many ticks did work; refused, with 1, 2, 5 or 6, it writes nothing and the record
+// stays the same. Ticks that do not lie within the memory or the page data that is lent write nothing; all ticks
+// of a sound record lie within.
+pub fn tick_part(
     part: Part,
     phase: Phase,
     sound: bool,
@@ -241,8 +282,9 @@ fn tick_told(
     rows: &mut [u8],
     ticks: usize,
 ) -> Waited
-    requires { ⌜ (sound ≡ soundOf part phase (now page)) × (length (now page) ≡ 256) ⌝ }
-    ensures { λ r. ⌜ (r ≡ waitedOf part phase sound (length (now (array .entry))) (length (now (rows .entry))) ticks) × (now (array .exit) ≡ waitedMemory Array part phase sound (now (page .entry)) (length (now (array .entry))) (length (now (rows .entry))) ticks (now (array .entry))) × (now (rows .exit) ≡ waitedMemory Rows part phase sound (now (page .entry)) (length (now (array .entry))) (length (now (rows .entry))) ticks (now (rows .entry))) ⌝ }
+    ensures answer { λ r. ⌜ r ≡ waitedOf part phase sound (length (now (array .entry))) (length (now (rows .entry))) ticks ⌝ }
+    ensures array { λ _. ⌜ now (array .exit) ≡ waitedMemory Array part phase sound (now (page .entry)) (length (now (array .entry))) (length (now (rows .entry))) ticks (now (array .entry)) ⌝ }
+    ensures rows { λ _. ⌜ now (rows .exit) ≡ waitedMemory Rows part phase sound (now (page .entry)) (length (now (array .entry))) (length (now (rows .entry))) ticks (now (rows .entry)) ⌝ }
 {
     let number = refusals::tick_number(part.blocks, sound, array.len(), rows.len(), ticks);
     if number != 0 {
@@ -266,7 +308,7 @@ pub fn tick(state: Record, array: &mut [u8], rows: &mut [u8], ticks: usize) -> T
     let phase = state.phase;
     let page = state.page;
     let sound = soundness::is_sound_of(part, phase, &page);
-    let waited = tick_told(part, phase, sound, &page, array, rows, ticks);
+    let waited = tick_part(part, phase, sound, &page, array, rows, ticks);
     let change = waited.change;
     let next = effects::apply(change, &page[0..0], state);
     Ticked {
@@ -295,7 +337,7 @@ pub fn tick_bytes(bytes: &mut [u8], array: &mut [u8], rows: &mut [u8], ticks: us
     let part = found.part;
     let phase = found.phase;
     let page = &bytes[places::PAGE..places::END];
-    let told = tick_told(part, phase, found.sound, page, array, rows, ticks);
+    let told = tick_part(part, phase, found.sound, page, array, rows, ticks);
     let change = told.change;
     let none_sent = [0u8; 0];
     record_bytes::writing::write_change(change, &none_sent, bytes);

@@ -28,7 +28,7 @@ same-length c = search needs
 returns : tie.Need-returns
 returns c =
     let a = c .before .before .before .before .before .before .args in
-    narrowed-back (a .base) (a .start) (a .done) (now (a .kept)) (now (a .memory)) (c .before .before .before .before .before .before .pre .2) (a .count) (a .base + 256 - a .base) (omega arith) _ (c .before .before .narrow-page .ensures)
+    narrowed-back (a .base) (a .start) (a .done) (now (a .kept)) (now (a .memory)) (c .before .before .before .before .before .before .pre .1) (a .count) (a .base + 256 - a .base) (omega arith) _ (c .before .before .narrow-page .ensures)
 
 pub narrow-bytes-spec : {M : Type 1} → statement M
 narrow-bytes-spec =

@@ -1,4 +1,4 @@
--- `ticks::narrow_page` meets its contract: the loop's invariant: so many bytes are written.
+-- `ticks::narrow_page` meets its contract. The loop's invariant: so many bytes are written.
 use native.Mathlib.Nat.{zero-add}
 use mathlib.Core.List.{List}
 use Prim.Native.Nat.{ℕ, _≤_, _-_}
@@ -37,18 +37,18 @@ unfolding pagePlace
 slice-read-page c =
     let s = c .before .before .before .before .before .before in
     let l = c .before .before .before .loop in
-    let n : length (l .page) ≡ 256 = ap (λ (b : List ℕ). length b) (l .inv .0) ∙ bytes-length (l .i) 0 (s .args .start) (s .args .done) (now (s .args .kept)) (now (s .args .page)) ∙ s .pre .2 in
+    let n : length (l .page) ≡ 256 = ap (λ (b : List ℕ). length b) (l .inv .0) ∙ bytes-length (l .i) 0 (s .args .start) (s .args .done) (now (s .args .kept)) (now (s .args .page)) ∙ s .pre .1 in
     omega (arith, n, c .before .page-place .ensures)
 
 shared-slice-read-page : tie.Need-shared-slice-read-page Inv-loop μ-loop
-shared-slice-read-page c = omega (arith, c .before .before .before .before .before .before .before .pre .0, c .before .before .before .before .before .before .before .pre .1)
+shared-slice-read-page c = omega (arith, c .before .before .before .before .before .before .before .pre .0)
 
 slice-write-page : tie.Need-slice-write-page Inv-loop μ-loop
 unfolding pagePlace
 slice-write-page c =
     let s = c .before .before .before .before .before .before .before in
     let l = c .before .before .before .before .loop in
-    let n : length (l .page) ≡ 256 = ap (λ (b : List ℕ). length b) (l .inv .0) ∙ bytes-length (l .i) 0 (s .args .start) (s .args .done) (now (s .args .kept)) (now (s .args .page)) ∙ s .pre .2 in
+    let n : length (l .page) ≡ 256 = ap (λ (b : List ℕ). length b) (l .inv .0) ∙ bytes-length (l .i) 0 (s .args .start) (s .args .done) (now (s .args .kept)) (now (s .args .page)) ∙ s .pre .1 in
     omega (arith, n, c .before .before .page-place .ensures)
 
 add-i : tie.Need-add-i Inv-loop μ-loop

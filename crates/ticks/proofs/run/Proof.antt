@@ -5,6 +5,7 @@ use Rattle.paper.specs.Phases.{running}
 use Rattle.types.specs.declared.Work.the-variants.{NoWork, At}
 use Rattle.types.specs.declared.Work.{Work}
 use Rattle.types.specs.declared.Memory.the-variants.{Array, Rows}
+use lib.ListN.{length}
 use denote.Ref.{now}
 use mathlib.Core.Path.{_≡_, sym, ap, _∙_}
 use borrow.Author.Needs.{needs}
@@ -21,15 +22,13 @@ enum-known-running : tie.Need-enum-known-running
 enum-known-running c = search needs
 
 work-requires : tie.Need-work-requires
-work-requires c κs =
-    let s = c .before .before .before .before .before .before .before .before .before in
-    (sym (c .before .before .before .before .before .running .ensures) ∙ c .before .before .before .running2 .given .1, s .pre .0, s .pre .1, s .pre .2, s .pre .3)
+work-requires c κs = search needs
 
 returns : tie.Need-returns
 returns c =
     let a = c .before .before .before .before .before .before .args in
     let e : NoWork ≡ running (a .phase) = sym (sym (c .before .before .running .ensures) ∙ c .enum-told .given .1) in
-    (same-waited _ _ _ _ (ap (λ (w : Work). tickChange (a .ticks) w (a .part) (a .phase)) e) (ap (λ (w : Work). ticksReached (a .ticks) w (a .part .blocks)) e), ap (λ (w : Work). memoryReached Array (a .ticks) w (a .part .blocks) (now (a .page)) (now (a .array))) e, ap (λ (w : Work). memoryReached Rows (a .ticks) w (a .part .blocks) (now (a .page)) (now (a .rows))) e)
+    (same-waited _ _ _ _ (ap (λ (w : Work). tickChange (a .ticks) w (a .part) (a .phase)) e) (ap (λ (w : Work). ticksReached (a .ticks) w (a .part .blocks)) e), ap (λ (w : Work). memoryReached Array (a .ticks) w (a .part .blocks) (now (a .page)) (length (now (a .array))) (length (now (a .rows))) (now (a .array))) e, ap (λ (w : Work). memoryReached Rows (a .ticks) w (a .part .blocks) (now (a .page)) (length (now (a .array))) (length (now (a .rows))) (now (a .rows))) e)
 
 same-length : tie.Need-same-length
 same-length c = search needs

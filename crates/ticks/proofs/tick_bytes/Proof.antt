@@ -6,7 +6,7 @@ use borrow.Author.Tests.{not-true, not-false}
 use Rattle.record_bytes.specs.declared.Found.{Found}
 use Rattle.record_bytes.specs.Read.{recordIn}
 use Rattle.record_bytes.proofs.Back.{held-length}
-use Rattle.ticks.proofs.InBytes.{unheld-worked, unheld-tick-bytes, unheld-memory, lent-length, lent-sound, told-worked, told-bytes, told-memory}
+use Rattle.ticks.proofs.InBytes.{unheld-worked, unheld-tick-bytes, unheld-memory, told-worked, told-bytes, told-memory}
 use borrow.Author.Needs.{needs}
 use native.Mathlib.Omega.{arith}
 use Rattle.ticks.proofs.tick_bytes.Statement.{statement}
@@ -36,12 +36,8 @@ part-page-start c = search needs
 part-page-end : tie.Need-part-page-end
 part-page-end c = omega (arith, held-length (now (c .before .before .before .before .before .before .before .before .before .args .bytes)) (ap (λ (x : Found). x .ok) (sym (c .before .before .before .before .read .ensures)) ∙ not-false _ (c .before .before .if1 .left)))
 
-tick-told-requires : tie.Need-tick-told-requires
-tick-told-requires c κs =
-    let bs = now (c .before .before .before .before .before .before .before .before .before .before .before .before .args .bytes) in
-    let f = c .before .before .before .before .before .before .before .read in
-    let e = ap (λ (x : Found). x .ok) (sym (c .before .before .before .before .before .before .before .read .ensures)) ∙ not-false _ (c .before .before .before .before .before .if1 .left) in
-    (lent-sound bs e (f .result) (f .ensures), lent-length bs e (f .result) (f .ensures))
+tick-part-requires : tie.Need-tick-part-requires
+tick-part-requires c κs = search needs
 
 slice-aggregate-write-change : tie.Need-slice-aggregate-write-change
 slice-aggregate-write-change c = search needs
@@ -63,8 +59,8 @@ returns-2 c =
     let bs = now (c .before .before .before .before .before .before .before .before .before .before .before .before .before .before .before .before .before .before .before .before .before .before .args .bytes) in
     let f = c .before .before .before .before .before .before .before .before .before .before .before .before .before .before .before .before .before .read in
     let e = ap (λ (x : Found). x .ok) (sym (c .before .before .before .before .before .before .before .before .before .before .before .before .before .before .before .before .before .read .ensures)) ∙ not-false _ (c .before .before .before .before .before .before .before .before .before .before .before .before .before .before .before .if1 .left) in
-    let u = c .before .before .before .before .before .before .before .before .before .tick-told .ensures in
-    (told-worked bs e (f .result) (f .ensures) _ _ _ _ (u .0), (c .before .before .write-change .ensures ∙ told-bytes bs e (f .result) (f .ensures) _ _ _ _ (u .0), (told-memory bs e (f .result) (f .ensures) _ _ _ _ _ _ (u .1), told-memory bs e (f .result) (f .ensures) _ _ _ _ _ _ (u .2))))
+    let u = c .before .before .before .before .before .before .before .before .before .tick-part .ensures in
+    (told-worked bs e (f .result) (f .ensures) _ _ _ _ (u .0), (c .before .before .write-change .ensures ∙ told-bytes bs e (f .result) (f .ensures) _ _ _ _ (u .0), (told-memory bs e (f .result) (f .ensures) _ _ _ _ _ _ (u .1 .0), told-memory bs e (f .result) (f .ensures) _ _ _ _ _ _ (u .1 .1))))
 
 pub tick-bytes-spec : {M : Type 1} → statement M
 tick-bytes-spec =
@@ -77,7 +73,7 @@ tick-bytes-spec =
     sub-page
     part-page-start
     part-page-end
-    tick-told-requires
+    tick-part-requires
     slice-aggregate-write-change
     write-change-requires
     same-length-2
