@@ -26,13 +26,14 @@ extern "C" {
  * program should check once that both are the same: if YAWLSPAR_MATCHES() is 0, it was compiled with the header
  * of one version and linked to the archive of another, and nothing below holds.
  */
-#define YAWLSPAR_VERSION 1006
+#define YAWLSPAR_VERSION 1007
 uint64_t yawlspar_version(void);
 #define YAWLSPAR_MATCHES() (yawlspar_version() == YAWLSPAR_VERSION)
 
 /*
- * The numbers that a call answers. 0 means that the call was executed. 1 to 6 are refusals: the call was wrong,
- * and the part has not seen it. 20 to 28 mean that the part ignored a transaction.
+ * The numbers that a call answers. 0 means that the call was executed. 1 to 7 are refusals: the call was wrong,
+ * and the part has not seen it. A script that answers 3 or 6 stopped at a step that was wrong, and the part has seen
+ * what came before. 20 to 28 mean that the part ignored a transaction.
  */
 enum yawlspar_number {
     YAWLSPAR_EXECUTED = 0,
@@ -42,6 +43,7 @@ enum yawlspar_number {
     YAWLSPAR_BAD_OUTPUT = 4,    /* the output is not as long as the input */
     YAWLSPAR_BAD_RECORD = 5,    /* no record, or one that is not sound, or another argument is out of range */
     YAWLSPAR_BAD_TICKS = 6,     /* more ticks than one call runs */
+    YAWLSPAR_BAD_LISTS = 7,     /* a script's lists differ in length, or its lengths do not add up to the input's */
     YAWLSPAR_UNKNOWN = 20,      /* the first byte is not a command of the part */
     YAWLSPAR_ASLEEP = 21,       /* a sleeping part takes only ABh */
     YAWLSPAR_BUSY = 22,         /* a busy part does not take the command */
@@ -123,8 +125,8 @@ uint64_t yawlspar_protected(uint64_t code, uint64_t blocks, uint64_t address);
 uint64_t yawlspar_page_place(uint64_t start, uint64_t index);
 
 /*
- * The three calls. A part's state is a record of YAWLSPAR_RECORD_BYTES bytes that the caller keeps;
- * yawlspar_power_up makes it, and the other two read it and write the next one back. Copying the bytes
+ * The four calls. A part's state is a record of YAWLSPAR_RECORD_BYTES bytes that the caller keeps;
+ * yawlspar_power_up makes it, and the other three read it and write the next one back. Copying the bytes
  * copies the part. The array, blocks * 65536 bytes, and the four information rows, 1,024 bytes, also belong to
  * the caller.
  *
@@ -138,14 +140,16 @@ uint64_t yawlspar_page_place(uint64_t start, uint64_t index);
  * size.
  *
  * The result r of a call is two numbers in one: YAWLSPAR_NUMBER(r), the answer, 0 for a call that was
- * executed, and above it the place or the count that is described at the call. If several numbers apply,
- * the lowest is the answer. A call that is refused, with 1 to 6, leaves every byte of every buffer as it
- * was, and the bits above the number are 0.
+ * executed, and above it the place, the count or the step that is described at the call. If several numbers apply,
+ * the lowest is the answer, except that a script looks for 7 before 4. A call that is refused, with 1 to 7, leaves
+ * every byte of every buffer as it was, and the bits above the number are 0. Only a script that stops at one of its
+ * steps, with 3 or 6, has done the steps before it.
  */
 #define YAWLSPAR_RECORD_BYTES 322
 #define YAWLSPAR_NUMBER(r) ((r) & 255)
 #define YAWLSPAR_PLACE(r) ((r) >> 8)
 #define YAWLSPAR_TICKS(r) ((r) >> 8)
+#define YAWLSPAR_STEP(r) ((r) >> 8)
 
 /*
  * Power-up: makes the record of a part that is idle and awake.
@@ -220,6 +224,53 @@ uint64_t yawlspar_transact(uint8_t *record, size_t record_len, const uint8_t *ar
  */
 uint64_t yawlspar_tick(uint8_t *record, size_t record_len, uint8_t *array, size_t array_len,
                        uint8_t *rows, size_t rows_len, uint64_t ticks);
+
+/*
+ * A script: a list of transactions, each with ticks after it, in one call. Step k is yawlspar_transact and then
+ * yawlspar_tick, and what a script leaves is what these calls leave when they are made one by one. It saves their
+ * fixed cost: the record is read and judged once for all steps, not twice for each.
+ *
+ *   record   the part's record; the next one is written over it
+ *   array    the part's array, which an operation may write
+ *   rows     the four information rows, which an operation may write
+ *   wp_high  1 if the pin WP# is high, 0 if it is low, in all steps
+ *   input    the bytes of all transactions, one after the other
+ *   lengths  how many of them are the transaction of each step: 1 to 4,096
+ *   ticks    how many ticks pass after it: 0 to 4,096; on a part of 512 blocks any number
+ *   output   as many bytes as the input; those of a transaction are in the same places as its input
+ *   answers  the number of each step's transaction is written here
+ *   done     how many of each step's ticks did work is written here
+ *
+ * Steps are counted from 0. Each of the four lists has one entry for each step, and lengths_len, ticks_len,
+ * answers_len and done_len count entries, not bytes. Record, array, rows, output, answers and done are written: none of
+ * them overlaps another, nor the input, lengths or ticks. First driven places are not reported.
+ *
+ * Before the first step these are looked for, in this order, and the first that applies is the number:
+ *   1  if the array's length is not that of the record's size, or that size is not valid;
+ *   2  if rows_len is not 1,024;
+ *   7  if the four lists differ in length, or the lengths do not add up to input_len;
+ *   4  if output_len is not input_len;
+ *   5  if the bytes hold no record, the record is not sound, or wp_high is neither 0 nor 1.
+ * Nothing is then written, and YAWLSPAR_STEP is 0. If the bytes hold no record, there is no size to check: the number
+ * is then 2, 7, 4 or 5.
+ *
+ * Otherwise the steps are done in turn. The script stops at the first one with a call that is refused. YAWLSPAR_STEP is
+ * that step, and the number is
+ *   3  if its length is 0 or above 4,096: 3 is written to its answer and 0 to its ticks done, its output is left as it
+ *      was, and none of its ticks pass;
+ *   6  if its ticks are above 4,096, on a part of less than 512 blocks: the transaction has been made, its answer and
+ *      its output are written, and 0 is written to its ticks done.
+ * What the steps before the stop did stays done; of output, answers and done nothing is written for those after it.
+ * With 20 to 28 the part ignored a transaction. That is its answer, and the script goes on.
+ *
+ * If no step stops it, the number is 0 and YAWLSPAR_STEP is the number of steps. A script of no steps answers 0 and 0,
+ * and changes nothing.
+ */
+uint64_t yawlspar_script(uint8_t *record, size_t record_len, uint8_t *array, size_t array_len,
+                         uint8_t *rows, size_t rows_len, uint64_t wp_high, const uint8_t *input,
+                         size_t input_len, const uint16_t *lengths, size_t lengths_len,
+                         const uint16_t *ticks, size_t ticks_len, uint8_t *output, size_t output_len,
+                         uint8_t *answers, size_t answers_len, uint16_t *done, size_t done_len);
 
 #ifdef __cplusplus
 }

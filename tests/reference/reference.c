@@ -979,3 +979,62 @@ int ref_tick(struct part *part, uint8_t *array, size_t array_length, uint8_t *ro
     }
     return 0;
 }
+
+/* ---- Request 2 of 02: a script ---- */
+
+/* Do the lengths add up to the input? */
+static bool adds_up(const uint16_t *lengths, size_t count, size_t in_length)
+{
+    uint64_t sum = 0;
+    size_t i;
+
+    for (i = 0; i < count; i++)
+        sum = sum + lengths[i];
+    return sum == in_length;
+}
+
+/* "The first call that answers 1 to 6", which is where a script stops. */
+static bool stops(int answer)
+{
+    return answer >= 1 && answer <= 6;
+}
+
+int ref_script(struct part *part, uint8_t *array, size_t array_length, uint8_t *rows, size_t rows_length,
+               bool wp_high, const uint8_t *in, size_t in_length, const uint16_t *lengths, size_t lengths_count,
+               const uint16_t *ticks, size_t ticks_count, uint8_t *out, size_t out_length, uint8_t *answers,
+               size_t answers_count, uint16_t *done, size_t done_count, size_t *step)
+{
+    int answer;
+    size_t first, from = 0;
+    uint32_t worked;
+
+    /* 1, 2, 7, 4, 5 "in that order are tested before the first step" */
+    *step = 0;
+    answer = lent_wrong(part, array_length, rows_length);
+    if (answer != 0)
+        return answer;
+    if (ticks_count != lengths_count || answers_count != lengths_count || done_count != lengths_count ||
+        !adds_up(lengths, lengths_count, in_length))
+        return 7;
+    if (out_length != in_length)
+        return 4;
+    if (!ref_sound(part))
+        return 5;
+
+    for (; *step < lengths_count; *step = *step + 1) {
+        size_t length = lengths[*step];
+
+        answer = ref_transact(part, array, array_length, rows, rows_length, wp_high, in + from, length, out + from,
+                              length, &first);
+        answers[*step] = (uint8_t)answer;
+        done[*step] = 0;
+        if (stops(answer))
+            return answer;
+        answer = ref_tick(part, array, array_length, rows, rows_length, ticks[*step], &worked);
+        done[*step] = (uint16_t)worked;
+        if (stops(answer))
+            return answer;
+        from = from + length;
+    }
+    return 0;
+}

@@ -88,6 +88,14 @@ int ref_transact(struct part *part, const uint8_t *array, size_t array_length, c
 int ref_tick(struct part *part, uint8_t *array, size_t array_length, uint8_t *rows,
              size_t rows_length, uint32_t ticks, uint32_t *worked);
 
+/* Request 2 of 02: a script. The transaction of each step is sent, and then its ticks run. `answers` takes each
+ * transaction's answer and `done` how many of its ticks did work. *step is the step that stopped it, counted from 0, or
+ * how many steps there are. The counts are those of the lists' entries. */
+int ref_script(struct part *part, uint8_t *array, size_t array_length, uint8_t *rows, size_t rows_length,
+               bool wp_high, const uint8_t *in, size_t in_length, const uint16_t *lengths, size_t lengths_count,
+               const uint16_t *ticks, size_t ticks_count, uint8_t *out, size_t out_length, uint8_t *answers,
+               size_t answers_count, uint16_t *done, size_t done_count, size_t *step);
+
 /* The protection question, of a code and a size in blocks. The code is BP3..BP0; on 512 blocks its bit 4 is TBS.
  * *first is the first protected block, and *count is how many are protected from it on. Both are 0 for none, and
  * when refused. */
