@@ -10,11 +10,13 @@ extern void *memset(void *, int, unsigned long);
 #define GUARD 64u
 #define SKEWS 16u /* a buffer may begin at any place modulo 16 */
 #define AROUND (2u * GUARD + SKEWS)
+#define SIDES 3
 
-struct side model, reference;
+struct side model, reference, single;
 struct part part;
 uint8_t message[MESSAGE_ROOM];
-uint64_t calls;
+struct script script;
+uint64_t calls, scripts, script_steps;
 
 static const char *run_name;
 static uint64_t run_seed, run_calls;
@@ -32,15 +34,42 @@ static void tell_power_up(const struct call *call)
            (unsigned long long)call->function, (unsigned long long)call->extended);
 }
 
+static void tell_input(const uint8_t *bytes, size_t length)
+{
+    size_t shown = length < 24 ? length : 24, i;
+
+    printf("input of %zu:", length);
+    for (i = 0; i < shown; i++)
+        printf(" %02X", bytes[i]);
+    printf("%s, ", shown < length ? " .." : "");
+}
+
 static void tell_transact(const struct call *call)
 {
-    size_t shown = call->input < 24 ? call->input : 24, i;
+    printf("yawlspar_transact(record of %zu, array of %zu, rows of %zu, wp_high %llu, ", call->record, call->array,
+           call->rows, (unsigned long long)call->wp_high);
+    tell_input(message, call->input);
+    printf("output of %zu)\n", call->output);
+}
 
-    printf("yawlspar_transact(record of %zu, array of %zu, rows of %zu, wp_high %llu, input of %zu:", call->record,
-           call->array, call->rows, (unsigned long long)call->wp_high, call->input);
+static void tell_list(const char *name, const uint16_t *list, size_t length)
+{
+    size_t shown = length < 16 ? length : 16, i;
+
+    printf("%s of %zu:", name, length);
     for (i = 0; i < shown; i++)
-        printf(" %02X", message[i]);
-    printf("%s, output of %zu)\n", shown < call->input ? " .." : "", call->output);
+        printf(" %u", list[i]);
+    printf("%s, ", shown < length ? " .." : "");
+}
+
+static void tell_script(const struct call *call)
+{
+    printf("yawlspar_script(record of %zu, array of %zu, rows of %zu, wp_high %llu, ", call->record, call->array,
+           call->rows, (unsigned long long)call->wp_high);
+    tell_input(script.input, call->input);
+    tell_list("lengths", script.lengths, call->lengths);
+    tell_list("ticks", script.ticks, call->tick_counts);
+    printf("output of %zu, answers of %zu, done of %zu)\n", call->output, call->answers, call->done);
 }
 
 static void tell_tick(const struct call *call)
@@ -59,6 +88,9 @@ static void tell(const struct call *call)
         break;
     case TRANSACT:
         tell_transact(call);
+        break;
+    case SCRIPT:
+        tell_script(call);
         break;
     default:
         tell_tick(call);
@@ -130,17 +162,37 @@ static void set_guard(uint8_t *end)
         end[i] = (uint8_t)(i * 29 + 7);
 }
 
+/* The same for a buffer that is written before each call: its bytes need not be set here. */
+static uint8_t *begin_in(uint8_t *store, uint32_t skew)
+{
+    return place_in(store, 0, skew);
+}
+
+/* The same for a list of numbers of 16 bits, which begins at an even place. */
+static uint16_t *begin_list(uint16_t *store, uint32_t skew)
+{
+    begin_in((uint8_t *)store, 0);
+    return store + (GUARD + skew) / 2;
+}
+
 static void make_side(struct side *side, int which, uint64_t seed)
 {
-    static uint8_t record[2][RECORD_ROOM + AROUND], array[2][ARRAY_ROOM + AROUND], rows[2][ROWS_ROOM + AROUND],
-        input[2][MESSAGE_ROOM + AROUND], output[2][MESSAGE_ROOM + AROUND];
+    static uint8_t record[SIDES][RECORD_ROOM + AROUND], array[SIDES][ARRAY_ROOM + AROUND],
+        rows[SIDES][ROWS_ROOM + AROUND], input[SIDES][SCRIPT_ROOM + AROUND], output[SIDES][SCRIPT_ROOM + AROUND],
+        answers[SIDES][STEPS_ROOM + AROUND];
+    static uint16_t lengths[SIDES][STEPS_ROOM + AROUND], ticks[SIDES][STEPS_ROOM + AROUND],
+        done[SIDES][STEPS_ROOM + AROUND];
     struct chance chance = {seed};
 
     side->record = place_in(record[which], RECORD_ROOM, number_below(&chance, SKEWS));
     side->array = place_in(array[which], array_room(), number_below(&chance, SKEWS));
     side->rows = place_in(rows[which], ROWS_ROOM, number_below(&chance, SKEWS));
-    side->input = place_in(input[which], MESSAGE_ROOM, number_below(&chance, SKEWS));
-    side->output = place_in(output[which], MESSAGE_ROOM, number_below(&chance, SKEWS));
+    side->input = begin_in(input[which], number_below(&chance, SKEWS));
+    side->output = begin_in(output[which], number_below(&chance, SKEWS));
+    side->answers = begin_in(answers[which], number_below(&chance, SKEWS));
+    side->lengths = begin_list(lengths[which], number_below(&chance, SKEWS));
+    side->ticks = begin_list(ticks[which], number_below(&chance, SKEWS));
+    side->done = begin_list(done[which], number_below(&chance, SKEWS));
 }
 
 void fill(uint8_t *bytes, size_t length, struct chance *chance)
@@ -178,6 +230,14 @@ void begin_run(const char *name, uint64_t seed, uint32_t blocks)
     fill(model.rows, REF_ROWS, &chance);
     memcpy(reference.array, model.array, blocks * REF_BLOCK);
     memcpy(reference.rows, model.rows, REF_ROWS);
+}
+
+void begin_single(void)
+{
+    make_side(&single, 2, run_seed);
+    memcpy(single.record, model.record, RECORD_ROOM);
+    memcpy(single.array, model.array, run_blocks * REF_BLOCK);
+    memcpy(single.rows, model.rows, REF_ROWS);
 }
 
 /* ---- Comparing ---- */
@@ -221,12 +281,25 @@ static void same_array(const struct call *call)
     same_buffer(call, "array", model.array, reference.array, call->array, array_length());
 }
 
+/* Places in it are those of bytes, two for each number. */
+static void same_list(const struct call *call, const char *what, const uint16_t *got, const uint16_t *expected,
+                      size_t length)
+{
+    same_buffer(call, what, (const uint8_t *)got, (const uint8_t *)expected, 2 * length, 0);
+}
+
 static void same_but_array(const struct call *call)
 {
     same_buffer(call, "rows", model.rows, reference.rows, call->rows, REF_ROWS);
-    if (call->kind == TRANSACT) {
+    if (call->kind == TRANSACT || call->kind == SCRIPT) {
         same_buffer(call, "input", model.input, reference.input, call->input, 0);
         same_buffer(call, "output", model.output, reference.output, call->output, 0);
+    }
+    if (call->kind == SCRIPT) {
+        same_list(call, "bytes of the lengths", model.lengths, reference.lengths, call->lengths);
+        same_list(call, "bytes of the tick counts", model.ticks, reference.ticks, call->tick_counts);
+        same_buffer(call, "answers", model.answers, reference.answers, call->answers, 0);
+        same_list(call, "bytes of the ticks done", model.done, reference.done, call->done);
     }
 }
 
@@ -241,11 +314,11 @@ void same_record(const struct call *call)
     same_buffer(call, "record", model.record, reference.record, call->record, YAWLSPAR_RECORD_BYTES);
 }
 
-/* The array is compared whole after each refusal and after ticks that did work. After other calls larger arrays
- * are compared more rarely, so that each size costs the same. */
+/* The array is compared whole after each refusal, after ticks that did work, and after a script. After other calls
+ * larger arrays are compared more rarely, so that each size costs the same. */
 static bool whole_is_due(const struct call *call, uint64_t expected)
 {
-    return is_refusal(expected) || (call->kind == TICK && YAWLSPAR_TICKS(expected) > 0) ||
+    return is_refusal(expected) || call->kind == SCRIPT || (call->kind == TICK && YAWLSPAR_TICKS(expected) > 0) ||
            run_calls % run_blocks == 0;
 }
 
@@ -255,7 +328,8 @@ static bool whole_is_due(const struct call *call, uint64_t expected)
  *   - the unit or page of an operation that now begins or goes on, before it is written over.
  * The whole is compared at the end of the run. So a byte that a call leaves wrong is found, if late: it stays wrong
  * until an operation writes over it, and that operation's unit is compared before it does and after each call of its
- * ticks. */
+ * ticks. Operations that begin and end within one script are not looked at here: scripts.c compares the whole more
+ * often. */
 #define WINDOW (64u * REF_PAGE)
 
 static bool runs(const struct part *at)
@@ -303,10 +377,12 @@ static void same_window(const struct call *call)
 
 static void compare_large_array(const struct call *call, const struct part *before, uint64_t expected)
 {
+    bool worked = call->kind == SCRIPT || (call->kind == TICK && YAWLSPAR_TICKS(expected) > 0);
+
     same_window(call);
-    if (YAWLSPAR_TICKS(expected) > 0 && call->kind == TICK && is_on_array(&before->op))
+    if (worked && is_on_array(&before->op))
         same_places(call, before->op.base, reach_of(&before->op));
-    if (runs(&part) && !runs(before) && is_on_array(&part.op))
+    if (runs(&part) && (call->kind == SCRIPT || !runs(before)) && is_on_array(&part.op))
         same_places(call, part.op.base, reach_of(&part.op));
 }
 
@@ -347,12 +423,12 @@ static bool same_part(const struct part *a, const struct part *b)
            memcmp(a->data, b->data, REF_PAGE) == 0;
 }
 
-/* A refused call leaves the record's bytes; any other changes them exactly when the reference's record changes. */
-static void compare_record(const struct call *call, const struct part *before, uint64_t expected)
+/* A call changes the record's bytes exactly when the reference's record changes, which is never if it is refused. */
+static void compare_record(const struct call *call, const struct part *before)
 {
     bool changed;
 
-    if (is_refusal(expected) || same_part(before, &part)) {
+    if (same_part(before, &part)) {
         same_record(call);
         return;
     }
@@ -393,13 +469,27 @@ static uint64_t expect_power_up(const struct call *call)
     return (uint64_t)number;
 }
 
-/* The number of a transaction that is a 5: the numbers 2 to 4 are lower, and need no record. */
+bool lists_fit(const struct call *call)
+{
+    uint64_t sum = 0;
+    size_t i;
+
+    for (i = 0; i < call->lengths; i++)
+        sum += script.lengths[i];
+    return call->tick_counts == call->lengths && call->answers == call->lengths && call->done == call->lengths &&
+           sum == call->input;
+}
+
+/* The number of a transaction that is a 5: the numbers 2 to 4 are lower, and need no record. Of a script 2, 7 and 4
+ * come before it. */
 static uint64_t expect_five(const struct call *call)
 {
     if (call->rows != REF_ROWS)
         return 2;
-    if (call->input == 0 || call->input > REF_MOST)
+    if (call->kind == TRANSACT && (call->input == 0 || call->input > REF_MOST))
         return 3;
+    if (call->kind == SCRIPT && !lists_fit(call))
+        return 7;
     return call->output != call->input ? 4 : 5;
 }
 
@@ -434,6 +524,22 @@ static uint64_t expect_tick(const struct call *call)
     return (uint64_t)number + 256 * (uint64_t)worked;
 }
 
+static uint64_t expect_script(const struct call *call)
+{
+    size_t at;
+    int number;
+
+    if (!holds_record(call))
+        return expect_five(call);
+    if (call->wp_high > 1)
+        return expect_bad_level(call);
+    number = ref_script(&part, reference.array, call->array, reference.rows, call->rows, call->wp_high == 1,
+                        reference.input, call->input, reference.lengths, call->lengths, reference.ticks,
+                        call->tick_counts, reference.output, call->output, reference.answers, call->answers,
+                        reference.done, call->done, &at);
+    return (uint64_t)number + 256 * (uint64_t)at;
+}
+
 static uint64_t expect(const struct call *call)
 {
     switch (call->kind) {
@@ -441,6 +547,8 @@ static uint64_t expect(const struct call *call)
         return expect_power_up(call);
     case TRANSACT:
         return expect_transact(call);
+    case SCRIPT:
+        return expect_script(call);
     default:
         return expect_tick(call);
     }
@@ -450,7 +558,7 @@ static uint64_t expect(const struct call *call)
 
 bool is_refusal(uint64_t result)
 {
-    return YAWLSPAR_NUMBER(result) >= 1 && YAWLSPAR_NUMBER(result) <= 6;
+    return YAWLSPAR_NUMBER(result) >= 1 && YAWLSPAR_NUMBER(result) <= 7;
 }
 
 struct call fitting(enum call_kind kind)
@@ -459,8 +567,8 @@ struct call fitting(enum call_kind kind)
                         .record = YAWLSPAR_RECORD_BYTES,
                         .array = array_length(),
                         .rows = REF_ROWS,
-                        .input = 1,
-                        .output = 1,
+                        .input = kind == SCRIPT ? 0 : 1,
+                        .output = kind == SCRIPT ? 0 : 1,
                         .wp_high = 1,
                         .blocks = run_blocks};
 
@@ -478,26 +586,54 @@ uint64_t call_model(const struct side *side, const struct call *call)
     case TRANSACT:
         return yawlspar_transact(side->record, call->record, side->array, call->array, side->rows, call->rows,
                                  call->wp_high, side->input, call->input, side->output, call->output);
+    case SCRIPT:
+        scripts++;
+        script_steps += call->lengths;
+        return yawlspar_script(side->record, call->record, side->array, call->array, side->rows, call->rows,
+                               call->wp_high, side->input, call->input, side->lengths, call->lengths, side->ticks,
+                               call->tick_counts, side->output, call->output, side->answers, call->answers, side->done,
+                               call->done);
     default:
         return yawlspar_tick(side->record, call->record, side->array, call->array, side->rows, call->rows,
                              call->ticks);
     }
 }
 
-static void prepare_side(const struct side *side, const struct call *call)
+static void prepare_messages(const struct side *side, const struct call *call, const uint8_t *input)
 {
-    memcpy(side->input, message, call->input);
+    memcpy(side->input, input, call->input);
     set_guard(side->input + call->input);
     memset(side->output, (int)(run_calls % 251), call->output);
     set_guard(side->output + call->output);
 }
 
+/* What the lists for answers and ticks done hold is no answer, and more ticks than were asked. */
+static void prepare_lists(const struct side *side, const struct call *call)
+{
+    memcpy(side->lengths, script.lengths, 2 * call->lengths);
+    set_guard((uint8_t *)(side->lengths + call->lengths));
+    memcpy(side->ticks, script.ticks, 2 * call->tick_counts);
+    set_guard((uint8_t *)(side->ticks + call->tick_counts));
+    memset(side->answers, (int)(29 + run_calls % 200), call->answers);
+    set_guard(side->answers + call->answers);
+    memset(side->done, (int)(128 + run_calls % 127), 2 * call->done);
+    set_guard((uint8_t *)(side->done + call->done));
+}
+
+void prepare_side(const struct side *side, const struct call *call)
+{
+    if (call->kind == TRANSACT)
+        prepare_messages(side, call, message);
+    if (call->kind == SCRIPT) {
+        prepare_messages(side, call, script.input);
+        prepare_lists(side, call);
+    }
+}
+
 void prepare(const struct call *call)
 {
-    if (call->kind == TRANSACT) {
-        prepare_side(&model, call);
-        prepare_side(&reference, call);
-    }
+    prepare_side(&model, call);
+    prepare_side(&reference, call);
 }
 
 uint64_t step(const struct call *call)
@@ -511,7 +647,7 @@ uint64_t step(const struct call *call)
     if (got != expected)
         fail_result(call, expected, got);
     compare_memory(call, &before, expected);
-    compare_record(call, &before, expected);
+    compare_record(call, &before);
     return got;
 }
 

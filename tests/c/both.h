@@ -2,8 +2,9 @@
  * The functions of yawlspar.h and the reference model, run in step.
  *
  * Each call is made of both, on memory of its own for each, and the two are compared: the result, every
- * byte of the output, the array and the rows. Guard bytes stand around each buffer. At the first difference
- * the program tells the call and what differs, and ends with status 1.
+ * byte of the output, the array and the rows, and of a script every entry of its lists. Guard bytes stand
+ * around each buffer. At the first difference the program tells the call and what differs, and ends with
+ * status 1.
  *
  * An array of 512 blocks is compared in part after most calls, and whole when a run ends: see both.c.
  */
@@ -23,13 +24,17 @@
 #define ARRAY_ROOM ((REF_LARGE + 1u) * REF_BLOCK)
 #define ROWS_ROOM (2u * REF_ROWS)
 #define MESSAGE_ROOM (2u * REF_MOST)
+#define SCRIPT_ROOM (1u << 20) /* bytes of a script's input */
+#define STEPS_ROOM 66000u      /* entries of its lists: more than 16 bits count */
 
-enum call_kind { POWER_UP, TRANSACT, TICK };
+enum call_kind { POWER_UP, TRANSACT, TICK, SCRIPT };
 
-/* One call, with the lengths that it is lent. The input's bytes are those of `message`. */
+/* One call, with the lengths that it is lent. The input's bytes are those of `message`; a script's are those of
+ * `script`, with its lists. */
 struct call {
     enum call_kind kind;
     size_t record, array, rows, input, output;
+    size_t lengths, tick_counts, answers, done; /* entries of a script's lists */
     uint64_t wp_high;
     uint64_t ticks;
     uint64_t blocks, maker, type, capacity, device, status, function, extended;
@@ -37,20 +42,27 @@ struct call {
 
 /* What a side lends. */
 struct side {
-    uint8_t *record, *array, *rows, *input, *output;
+    uint8_t *record, *array, *rows, *input, *output, *answers;
+    uint16_t *lengths, *ticks, *done;
 };
 
 /* The reference's side keeps the record's bytes as they were before the call. Where all calls are made of the model
- * alone, the two sides are two parts: see writes.h. */
-extern struct side model, reference;
+ * alone, the two sides are two parts: see writes.h. The side `single` is for calls that the model makes one by one
+ * where it also makes a script of them: see scripts.c. */
+extern struct side model, reference, single;
 
 /* The reference's record. Its size is 0 as long as there was no power-up: the record's bytes are then junk. */
 extern struct part part;
 
 extern uint8_t message[MESSAGE_ROOM];
 
-/* How many calls were made of the model and compared. */
-extern uint64_t calls;
+extern struct script {
+    uint8_t input[SCRIPT_ROOM];
+    uint16_t lengths[STEPS_ROOM], ticks[STEPS_ROOM];
+} script;
+
+/* How many calls were made of the model and compared; how many of them were scripts, and the steps that these had. */
+extern uint64_t calls, scripts, script_steps;
 
 /* What the program calls itself in a report. Each program has its own. */
 extern const char *const program_name;
@@ -60,13 +72,17 @@ extern const char *const program_name;
 void begin_run(const char *name, uint64_t seed, uint32_t blocks);
 void name_run(const char *name);
 
+/* Makes the side `single`: with the model's record, array and rows. */
+void begin_single(void);
+
 /* Fills stored bytes: with FFh, or with any. */
 void fill(uint8_t *bytes, size_t length, struct chance *chance);
 
 /* Asks for no ticks, and compares all memory. */
 void end_run(void);
 
-/* A call with the right lengths: a transaction with WP# high and one byte, 0 ticks, a power-up with zeros. */
+/* A call with the right lengths: a transaction with WP# high and one byte, 0 ticks, a power-up with zeros, a script of
+ * no steps with WP# high. */
 struct call fitting(enum call_kind kind);
 
 /* Makes the call of both and compares. Gives the result. */
@@ -75,11 +91,15 @@ uint64_t step(const struct call *call);
 /* Makes the call of the model alone, on the memory of a side. */
 uint64_t call_model(const struct side *side, const struct call *call);
 
-/* The number of a result is one of the refusals 1 to 6. */
+/* The number of a result is one of the refusals 1 to 7. */
 bool is_refusal(uint64_t result);
 
-/* Makes input and output ready for a call on both sides: the message, and junk to be written over. */
+/* A script's four lists have one length, and its lengths add up to its input's. */
+bool lists_fit(const struct call *call);
+
+/* Makes input and output ready for a call on both sides: the message or the script, and junk to be written over. */
 void prepare(const struct call *call);
+void prepare_side(const struct side *side, const struct call *call);
 
 /* Ends the program if the bytes of the two sides differ, guards included. */
 void same_record(const struct call *call);
@@ -101,9 +121,24 @@ bool run_seeds(int argc, char **argv, void (*by_hand)(void), void (*run)(uint64_
 
 /* ---- The runs. ---- */
 
+/* What a run of random traffic does with its power-ups and with the steps of the traffic (tests/traffic/). */
+struct takers {
+    void (*begin)(void); /* array and rows are made */
+    void (*power_up)(const struct call *call);
+    void (*send)(bool wp_high, const uint8_t *bytes, size_t length);
+    void (*wait)(uint32_t ticks);
+    void (*strange)(void);
+    void (*settle)(void); /* makes what was put off: `part` is looked at next */
+};
+
+/* Begins such a run on a part of a size that the seed picks, and goes on for at least so many calls. */
+void play_traffic(const struct takers *takers, const char *name, uint64_t seed, uint64_t least);
+
 void directed_calls(void);
 void large_calls(void);
 void damaged_records(void);
+void directed_scripts(void);
 void random_calls(uint64_t seed, uint64_t least);
+void random_scripts(uint64_t seed, uint64_t least);
 
 #endif

@@ -1,7 +1,8 @@
 /* Random sequences of calls: made-up traffic (tests/traffic/) and, between its steps, calls that are refused.
  *
  * A sequence is on a part of one size. Most scenes begin with a part that is ready, the others with what the last
- * one left. */
+ * one left. What becomes of the steps is up to the takers: random_calls makes a call of each, and random_scripts, in
+ * scripts.c, makes scripts of them. */
 #include "both.h"
 
 #include "../traffic/traffic.h"
@@ -9,6 +10,7 @@
 extern void *memcpy(void *, const void *, unsigned long);
 
 static uint8_t locks; /* the rows that this sequence may lock */
+static const struct takers *take;
 
 static uint64_t pick(const uint64_t *list, size_t count)
 {
@@ -205,7 +207,7 @@ static void strange_power_up(void)
     step(&call);
 }
 
-void traffic_strange(void)
+static void make_strange_call(void)
 {
     switch (below(5)) {
     case 0:
@@ -226,7 +228,12 @@ void traffic_strange(void)
 
 /* ---- Calls of the traffic ---- */
 
-void traffic_send(bool wp_high, const uint8_t *bytes, size_t length)
+static void make_power_up(const struct call *call)
+{
+    step(call);
+}
+
+static void make_transaction(bool wp_high, const uint8_t *bytes, size_t length)
 {
     struct call call = fitting(TRANSACT);
 
@@ -236,12 +243,34 @@ void traffic_send(bool wp_high, const uint8_t *bytes, size_t length)
     step(&call);
 }
 
-void traffic_wait(uint32_t ticks)
+static void make_ticks(uint32_t ticks)
 {
     struct call call = fitting(TICK);
 
     call.ticks = ticks;
     step(&call);
+}
+
+static void do_nothing(void)
+{
+}
+
+static const struct takers at_once = {do_nothing, make_power_up,     make_transaction,
+                                      make_ticks, make_strange_call, do_nothing};
+
+void traffic_send(bool wp_high, const uint8_t *bytes, size_t length)
+{
+    take->send(wp_high, bytes, length);
+}
+
+void traffic_wait(uint32_t ticks)
+{
+    take->wait(ticks);
+}
+
+void traffic_strange(void)
+{
+    take->strange();
 }
 
 /* ---- The sequence ---- */
@@ -250,7 +279,7 @@ static void power_up(void)
 {
     struct call call = random_power_up();
 
-    step(&call);
+    take->power_up(&call);
 }
 
 /* Brings the part back to where a driver can use it: awake, idle, and mostly unprotected. */
@@ -285,8 +314,10 @@ static void any_scene(void)
 {
     if (one_in(100))
         power_up();
-    if (!one_in(4))
+    if (!one_in(4)) {
+        take->settle();
         make_ready();
+    }
     play_scene();
 }
 
@@ -300,18 +331,26 @@ static void chapter(void)
         any_scene();
 }
 
-void random_calls(uint64_t seed, uint64_t least)
+void play_traffic(const struct takers *takers, const char *name, uint64_t seed, uint64_t least)
 {
     static const uint32_t sizes[] = {1, 16, 4, 8, 1, REF_LARGE, 4};
     struct limits limits = {.message_most = REF_MOST, .long_one_in = 12, .blocks = sizes[seed % COUNT(sizes)]};
     uint64_t end = calls + least;
 
+    take = takers;
     begin_traffic(seed, &limits);
     locks = one_in(3) ? 0 : any_byte();
-    begin_run("random calls", seed, limits.blocks);
+    begin_run(name, seed, limits.blocks);
+    take->begin();
     before_power_up();
     power_up();
     while (calls < end)
         chapter();
+    take->settle();
     end_run();
+}
+
+void random_calls(uint64_t seed, uint64_t least)
+{
+    play_traffic(&at_once, "random calls", seed, least);
 }
