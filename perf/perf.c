@@ -6,8 +6,9 @@
  *   perf list                   print each job's number, its sides and its name
  *   perf run JOB SIDE TIMES     set up, do the job TIMES times on one side, and end: for counting instructions
  *
- * A job is a driver's errand: one call, or the calls that belong together. The sides are model, reference and
- * bytes, which is memcpy or memset. The numbers are no test: the exit status is 0 whatever they are.
+ * A job is a driver's errand: one call, or the calls that belong together; and 64 calls beside a script of the same.
+ * The sides are model, reference and bytes, which is memcpy or memset. The numbers are no test: the exit status is 0
+ * whatever they are.
  */
 #include <stdbool.h>
 #include <stddef.h>
@@ -34,11 +35,14 @@ extern int clock_gettime(int clock, struct timespec *time);
 #define LEAST_NANOSECONDS 200000000.0
 #define ROUNDS 3
 #define BLOCKS_MOST REF_LARGE
+#define STEPS 64 /* of a script */
 
 static uint8_t record[YAWLSPAR_RECORD_BYTES];
 static struct part part;
 static uint8_t array[BLOCKS_MOST * REF_BLOCK], rows[REF_ROWS];
 static uint8_t input[REF_MOST], output[REF_MOST];
+static uint16_t lengths[STEPS], ticks_asked[STEPS], ticks_done[STEPS];
+static uint8_t answers[STEPS];
 static size_t array_length;
 
 /* ---- Both models ---- */
@@ -88,13 +92,31 @@ static uint64_t reference_tick(uint32_t ticks)
     return worked;
 }
 
+/* A script of all that is in the input and in the lists. Gives the step, which is the number of steps. */
+static uint64_t model_script(size_t length)
+{
+    return YAWLSPAR_STEP(yawlspar_script(record, sizeof record, array, array_length, rows, sizeof rows, 1, input, length,
+                                         lengths, STEPS, ticks_asked, STEPS, output, length, answers, STEPS, ticks_done,
+                                         STEPS));
+}
+
+static uint64_t reference_script(size_t length)
+{
+    size_t step;
+
+    ref_script(&part, array, array_length, rows, sizeof rows, true, input, length, lengths, STEPS, ticks_asked, STEPS,
+               output, length, answers, STEPS, ticks_done, STEPS, &step);
+    return step;
+}
+
 struct one_model {
     uint64_t (*transact)(size_t length);
     uint64_t (*tick)(uint32_t ticks);
+    uint64_t (*script)(size_t length);
 };
 
-static const struct one_model the_model = {model_transact, model_tick};
-static const struct one_model the_reference = {reference_transact, reference_tick};
+static const struct one_model the_model = {model_transact, model_tick, model_script};
+static const struct one_model the_reference = {reference_transact, reference_tick, reference_script};
 
 /* ---- Jobs ---- */
 
@@ -110,6 +132,32 @@ static void status_job(const struct one_model *on)
 {
     input[0] = 0x05;
     must_be(on->transact(2), 0);
+}
+
+static void status_calls_job(const struct one_model *on)
+{
+    int i;
+
+    input[0] = 0x05;
+    for (i = 0; i < STEPS; i++)
+        must_be(on->transact(2), 0);
+}
+
+/* The input and the lists of as many status reads; no ticks pass after them. */
+static void begin_script(const struct one_model *on)
+{
+    size_t i;
+
+    (void)on;
+    for (i = 0; i < STEPS; i++) {
+        lengths[i] = 2;
+        input[2 * i] = 0x05;
+    }
+}
+
+static void status_script_job(const struct one_model *on)
+{
+    must_be(on->script(2 * STEPS), STEPS);
 }
 
 static void extended_job(const struct one_model *on)
@@ -321,6 +369,8 @@ struct job {
 static const struct job jobs[] = {
     {"05h of 2 bytes, 1 block", 1, 1, NULL, status_job, NULL},
     {"05h of 2 bytes, 16 blocks", 16, 1, NULL, status_job, NULL},
+    {"64 calls of 05h of 2 bytes", 16, STEPS, NULL, status_calls_job, NULL},
+    {"64 steps of 05h in a script", 16, STEPS, begin_script, status_script_job, NULL},
     {"05h of 2 bytes, busy, 16 blocks", 16, 1, begin_erase, status_job, NULL},
     {"81h of 2 bytes, 16 blocks", 16, 1, NULL, extended_job, NULL},
     {"ignored, 1 byte, 16 blocks", 16, 0, NULL, ignored_job, NULL},
