@@ -28,6 +28,8 @@ static const char *words_of(uint64_t number)
         return "refused: the bytes hold no sound record, or a number is out of its range";
     case YAWLSPAR_BAD_TICKS:
         return "refused: too many ticks for one call";
+    case YAWLSPAR_BAD_LISTS:
+        return "refused: the lists of a script do not fit each other or its input";
     case YAWLSPAR_UNKNOWN:
         return "ignored: no command of this part";
     case YAWLSPAR_ASLEEP:
@@ -76,6 +78,18 @@ static uint64_t wait(uint64_t ticks)
     return yawlspar_tick(record, sizeof record, array, sizeof array, rows, sizeof rows, ticks);
 }
 
+/* A script of one step, 06h, whose list of ticks has this length. */
+static uint64_t run_script(size_t ticks_len)
+{
+    static const uint8_t enable[] = {0x06};
+    static const uint16_t lengths[] = {1}, ticks[] = {0, 0};
+    uint8_t answers[1];
+    uint16_t done[1];
+
+    return yawlspar_script(record, sizeof record, array, sizeof array, rows, sizeof rows, WP_HIGH, enable, 1, lengths, 1,
+                           ticks, ticks_len, output, 1, answers, 1, done, 1);
+}
+
 /* ---- The numbers ---- */
 
 static void show(uint64_t expected, const char *what, uint64_t result)
@@ -89,7 +103,7 @@ static void show(uint64_t expected, const char *what, uint64_t result)
     }
 }
 
-/* A wrong call is answered 1 to 6. The part has not seen it, and no byte is changed. */
+/* A wrong call is answered 1 to 7. The part has not seen it, and no byte is changed. */
 static void show_refusals(void)
 {
     static const uint8_t enable[] = {0x06};
@@ -101,6 +115,7 @@ static void show_refusals(void)
     show(YAWLSPAR_BAD_OUTPUT, "06h with an output of 2 bytes", transact(sizeof record, sizeof rows, enable, 1, 2));
     show(YAWLSPAR_BAD_RECORD, "06h with a byte of the record missing", transact(sizeof record - 1, sizeof rows, enable, 1, 1));
     show(YAWLSPAR_BAD_TICKS, "4,097 ticks", wait(4097));
+    show(YAWLSPAR_BAD_LISTS, "a script with a tick count too many", run_script(2));
 }
 
 /* What is sent, one transaction after the other, to a part that was just powered up; the last one shows the number. The
