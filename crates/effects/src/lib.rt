@@ -2,7 +2,7 @@
 ghost use mathlib.Core.Path.{_≡_};
 ghost use Rattle.paper.specs.Records.{marked, resting, withLive, withBank};
 ghost use Rattle.paper.specs.Registers.{bankTurned};
-ghost use Rattle.paper.specs.Commands.{pageAfter, changed, unarmed, starts, changeBy, errorsOf, changeBarred};
+ghost use Rattle.paper.specs.Commands.{pageAfter, partAfter, phaseAfter, dataAfter, changed, unarmed, starts, changeBy, errorsOf, changeBarred};
 use types::Addressing;
 use types::Change;
 use types::Data;
@@ -171,84 +171,69 @@ fn page_after(becomes: Data, input: &[u8], page: [u8; 256]) -> [u8; 256]
     }
 }
 
+// What a change makes of a part.
+pub fn part_after(change: Change, part: Part) -> Part
+    ensures { λ r. ⌜ r ≡ partAfter change part ⌝ }
+{
+    match change {
+        Change::Same => part,
+        Change::Marked(armed) => mark(part, armed),
+        Change::Live(live) => set_live(mark(part, false), live),
+        Change::Anew(next) => next,
+        Change::Runs(next, _, _) => next,
+        Change::Halts(next) => next,
+        Change::GoesOn(next) => next,
+        Change::Clears(next) => next,
+    }
+}
+
+// What it makes of the phase.
+pub fn phase_after(change: Change, phase: Phase) -> Phase
+    ensures { λ r. ⌜ r ≡ phaseAfter change phase ⌝ }
+{
+    match change {
+        Change::Same => phase,
+        Change::Marked(_) => phase,
+        Change::Live(_) => phase,
+        Change::Anew(_) => phase,
+        Change::Runs(_, _, work) => phases::running_in(phase, work),
+        Change::Halts(_) => phases::suspended_in(phase),
+        Change::GoesOn(_) => phases::resumed_in(phase),
+        Change::Clears(_) => Phase::Idle,
+    }
+}
+
+// What becomes of page data by it.
+pub fn data_after(change: Change) -> Data
+    ensures { λ r. ⌜ r ≡ dataAfter change ⌝ }
+{
+    match change {
+        Change::Same => Data::Kept,
+        Change::Marked(_) => Data::Kept,
+        Change::Live(_) => Data::Kept,
+        Change::Anew(_) => Data::Kept,
+        Change::Runs(_, becomes, _) => becomes,
+        Change::Halts(_) => Data::Kept,
+        Change::GoesOn(_) => Data::Kept,
+        Change::Clears(_) => Data::Zero,
+    }
+}
+
 // The record after a change by a call with an input.
 pub fn apply(change: Change, input: &[u8], state: Record) -> Record
     ensures { λ r. ⌜ r ≡ changed change (now (input .entry)) state ⌝ }
 {
+    let part = state.part;
+    let phase = state.phase;
     let identity = state.identity;
     let page = state.page;
-    match change {
-        Change::Same => state,
-        Change::Marked(armed) => {
-            let part = state.part;
-            let phase = state.phase;
-            let next = mark(part, armed);
-            Record {
-                part: next,
-                phase: phase,
-                identity: identity,
-                page: page,
-            }
-        }
-        Change::Live(live) => {
-            let part = state.part;
-            let phase = state.phase;
-            let next = set_live(mark(part, false), live);
-            Record {
-                part: next,
-                phase: phase,
-                identity: identity,
-                page: page,
-            }
-        }
-        Change::Anew(part) => {
-            let phase = state.phase;
-            Record {
-                part: part,
-                phase: phase,
-                identity: identity,
-                page: page,
-            }
-        }
-        Change::Runs(part, becomes, work) => {
-            let phase = state.phase;
-            let working = phases::running_in(phase, work);
-            let data = page_after(becomes, input, page);
-            Record {
-                part: part,
-                phase: working,
-                identity: identity,
-                page: data,
-            }
-        }
-        Change::Halts(part) => {
-            let phase = state.phase;
-            let halted = phases::suspended_in(phase);
-            Record {
-                part: part,
-                phase: halted,
-                identity: identity,
-                page: page,
-            }
-        }
-        Change::GoesOn(part) => {
-            let phase = state.phase;
-            let resumed = phases::resumed_in(phase);
-            Record {
-                part: part,
-                phase: resumed,
-                identity: identity,
-                page: page,
-            }
-        }
-        Change::Clears(part) => {
-            let none = record::no_data();
-            Record {
-                part: part,
-                phase: Phase::Idle,
-                identity: identity,
-                page: none,
-            }
-        }
+    let next = part_after(change, part);
+    let doing = phase_after(change, phase);
+    let data = page_after(data_after(change), input, page);
+    Record {
+        part: next,
+        phase: doing,
+        identity: identity,
+        page: data,
     }
 }

@@ -1,11 +1,10 @@
 -- A sound record whose page data is a page fits its bytes, so that it is read back from them; and calls keep page data a page.
-use Prim.Native.Nat.{ℕ, zero, suc, _+_, _-_, _^_, _≤_}
-use mathlib.Core.Path.{_≡_, refl, _∙_}
+use Prim.Native.Nat.{ℕ, zero, suc, _+_, _^_, _≤_}
+use mathlib.Core.Path.{_≡_, refl}
 use mathlib.Core.Bool.{Bool, true, false, cond}
 use mathlib.Core.List.{List, [], _∷_}
 use native.Mathlib.Omega.{arith}
 use lib.Dec.{ltb}
-use lib.ListN.{length, drop, replicate, length-append, length-drop, length-replicate}
 use borrow.Author.Tests.{leb-true}
 use Rattle.types.specs.declared.Memory.{Memory}
 use Rattle.types.specs.declared.Memory.the-variants.{Array, Rows}
@@ -14,24 +13,21 @@ use Rattle.types.specs.declared.Operation.the-variants.{Program, Erase, Write}
 use Rattle.types.specs.declared.Work.{Work}
 use Rattle.types.specs.declared.Work.the-variants.{NoWork, At}
 use Rattle.types.specs.declared.Stored.{Stored}
-use Rattle.types.specs.declared.Data.{Data}
-use Rattle.types.specs.declared.Data.the-variants.{Kept, Sent, Zero}
 use Rattle.types.specs.declared.Change.{Change}
-use Rattle.types.specs.declared.Change.the-variants.{Same, Marked, Live, Anew, Runs, Halts, GoesOn, Clears}
 use Rattle.types.specs.declared.Record.{Record}
 use Rattle.words.proofs.Tests.{and-l, and-r}
 use Rattle.paper.specs.Sizes.{arrayBytes, rowsBytes, memoryBytes, pageBytes}
-use Rattle.paper.specs.Program.{dataSent, keptCount, passedCount, pageData, noData}
 use Rattle.paper.specs.Erase.{memoryOf, unitBytes}
 use Rattle.paper.specs.Phases.{running, halted}
 use Rattle.paper.specs.Operations.{ticksInAll, ticksDone, advancedBy}
 use Rattle.paper.specs.Soundness.{sound}
-use Rattle.paper.specs.Commands.{pageAfter, changed}
+use Rattle.paper.specs.Commands.{dataAfter, changed}
 use Rattle.paper.specs.Ticks.{finished, advanced, worked, tickedAt, recordAfter}
 use Rattle.paper.specs.Calls.{outcomeOf, transacted}
 use Rattle.paper.specs.History.{Call, transaction, ticks, recordAfterCall, recordAfterCalls}
 use Rattle.paper.proofs.Sizes.{size-range}
 use Rattle.paper.proofs.Pages.{unit-pages-le}
+use Rattle.paper.proofs.KeptBytes.{none-page, after-page}
 use Rattle.paper.proofs.CallKept.{after-tick-call}
 use Rattle.paper.proofs.Soundness.{InOrder, sound-parts, running-in-order, halted-in-order}
 use Rattle.cells.specs.Operations.{cellsOf, workCells}
@@ -65,30 +61,9 @@ sound-fits p s h =
     let g = p .part .stored in
     record { blocks = omega arith; runs = work-fits n g (running (p .phase)) few (λ o e. running-in-order p o e s); suspended = work-fits n g (halted (p .phase)) few (λ o e. halted-in-order p o e s); page = h }
 
--- page data of what was sent, and of nothing
-data-page : (d : List ℕ) → length (pageData d) ≡ pageBytes
-unfolding pageData
-data-page d = length-append (drop (passedCount d) d) (replicate (pageBytes - keptCount d) 0) ∙ simp (length-drop, length-replicate) (omega arith)
-
-pub none-page : length noData ≡ pageBytes
-unfolding noData
-none-page = refl
-
 -- what a transaction changes keeps it a page
-after-page : (d : Data) (i g : List ℕ) → length g ≡ pageBytes → length (pageAfter d i g) ≡ pageBytes
-after-page Kept i g h = h
-after-page (Sent a) i g h = data-page (dataSent a i)
-after-page Zero i g h = none-page
-
 changed-page : (c : Change) (i : List ℕ) (p : Record) → Page p → Page (changed c i p)
-changed-page Same i p h = h
-changed-page (Marked armed) i p h = h
-changed-page (Live v) i p h = h
-changed-page (Anew q) i p h = h
-changed-page (Runs q d w) i p h = after-page d i (p .page) h
-changed-page (Halts q) i p h = h
-changed-page (GoesOn q) i p h = h
-changed-page (Clears q) i p h = none-page
+changed-page c i p h = after-page (dataAfter c) i (p .page) h
 
 -- and so do ticks
 worked-page : (p : Record) (o : Operation) (t : Bool) → Page p → Page (cond t (advanced p (advancedBy 1 o)) (finished p o))

@@ -1,15 +1,18 @@
--- Page data: of more than 256 bytes the last 256 count, in order of arrival, and zeros follow them.
+-- Page data: of more than 256 bytes the last 256 count, in order of arrival, and zeros follow them. What becomes of a page in a call is a page.
 use Prim.Native.Nat.{ℕ, zero, suc, _+_, _-_, _<_, _≤_}
 use mathlib.Core.Path.{_≡_, refl, ap, _∙_}
 use mathlib.Core.Bool.{true}
 use mathlib.Core.List.{List}
 use native.Mathlib.Omega.{arith}
-use lib.ListN.{length, drop, getD, replicate, length-drop, List·getD-append}
+use lib.ListN.{length, drop, getD, replicate, length-append, length-drop, length-replicate, List·getD-append}
 use lib.Seq.{drop-at, getD-drop}
+use Rattle.types.specs.declared.Data.{Data}
+use Rattle.types.specs.declared.Data.the-variants.{Kept, Sent, Zero}
 use Rattle.words.specs.Logic.{_and_}
 use Rattle.words.specs.Lists.{allZero}
 use Rattle.paper.specs.Sizes.{pageBytes}
-use Rattle.paper.specs.Program.{keptCount, passedCount, pageData}
+use Rattle.paper.specs.Program.{dataSent, keptCount, passedCount, pageData, noData}
+use Rattle.paper.specs.Commands.{pageAfter}
 
 zeros-zero : (n : ℕ) → allZero (replicate n 0) ≡ true
 unfolding _and_
@@ -38,3 +41,19 @@ module _ (d : List ℕ) where
   zeros-after =
       rw (drop-at (drop (passedCount d) d) (replicate (pageBytes - keptCount d) 0) (keptCount d) kept-length)
       (zeros-zero (pageBytes - keptCount d))
+
+  -- together they are a page
+  data-page : length (pageData d) ≡ pageBytes
+  unfolding pageData
+  data-page = length-append (drop (passedCount d) d) (replicate (pageBytes - keptCount d) 0) ∙ simp (length-drop, length-replicate) (omega arith)
+
+-- so is no page data
+pub none-page : length noData ≡ pageBytes
+unfolding noData
+none-page = refl
+
+-- and page data after a call, where it was a page before
+pub after-page : (d : Data) (i g : List ℕ) → length g ≡ pageBytes → length (pageAfter d i g) ≡ pageBytes
+after-page Kept i g h = h
+after-page (Sent a) i g h = data-page (dataSent a i)
+after-page Zero i g h = none-page

@@ -38,8 +38,7 @@ use Rattle.types.specs.declared.Part.{Part}
 use Rattle.types.specs.declared.Record.{Record}
 use Rattle.types.specs.declared.Data.{Data}
 use Rattle.types.specs.declared.Data.the-variants.{Kept, Sent}
-use Rattle.types.specs.declared.Change.{Change}
-use Rattle.types.specs.declared.Change.the-variants.{Same, Marked, Live, Anew, Runs, Halts, GoesOn, Clears}
+use Rattle.types.specs.declared.Change.the-variants.{Marked, Live}
 use Rattle.types.specs.declared.Outcome.{Outcome}
 use Rattle.words.specs.Logic.{_or_}
 use Rattle.words.specs.Lists.{allZero}
@@ -107,17 +106,6 @@ module _ (P : Record → Type 0) (p : Record) (wp : Bool) (i : List ℕ) (same :
   unfolding transacted
   after-transaction = any-outcome (λ (u : Outcome). P (changed (u .change) i p)) (p .part) (p .phase) wp i (λ n. same) ignored-so did (sound p)
 
--- no change of a record changes its identity
-same-identity : (c : Change) (i : List ℕ) (p : Record) → changed c i p .identity ≡ p .identity
-same-identity Same i p = refl
-same-identity (Marked armed) i p = refl
-same-identity (Live v) i p = refl
-same-identity (Anew q) i p = refl
-same-identity (Runs q d w) i p = refl
-same-identity (Halts q) i p = refl
-same-identity (GoesOn q) i p = refl
-same-identity (Clears q) i p = refl
-
 -- a part of the same size
 abbrev SameSize : Part → Record → Type 0
 SameSize p q = q .part .blocks ≡ p .blocks
@@ -153,7 +141,7 @@ module _ (p : Record) (i : List ℕ) where
 
     pub transaction-identity : transacted p a r wp i o .next .identity ≡ p .identity
     unfolding transacted
-    transaction-identity = same-identity (outcomeOf (p .part) (p .phase) (sound p) a r wp i o .change) i p
+    transaction-identity = refl
 
 -- a bank register that is written has bits 6..1 zero
 turned-large : (n function : ℕ) (far : Bool) (b : ℕ) → isLarge n ≡ true → largeOk n function (bankTurned far b) ≡ true

@@ -33,16 +33,43 @@ pageAfter Kept i g = g
 pageAfter (Sent a) i g = pageData (dataSent a i)
 pageAfter Zero i g = noData
 
--- the record after a change by a call with the input i
+-- what a change makes of a part
+abbrev pub partAfter : Change → Part → Part
+partAfter Same p = p
+partAfter (Marked armed) p = marked p armed
+partAfter (Live v) p = withLive (marked p false) v
+partAfter (Anew q) p = q
+partAfter (Runs q d w) p = q
+partAfter (Halts q) p = q
+partAfter (GoesOn q) p = q
+partAfter (Clears q) p = q
+
+-- what it makes of the phase
+abbrev pub phaseAfter : Change → Phase → Phase
+phaseAfter Same f = f
+phaseAfter (Marked armed) f = f
+phaseAfter (Live v) f = f
+phaseAfter (Anew q) f = f
+phaseAfter (Runs q d w) f = runningIn f w
+phaseAfter (Halts q) f = suspendedIn f
+phaseAfter (GoesOn q) f = resumedIn f
+phaseAfter (Clears q) f = Idle
+
+-- what becomes of page data by it
+abbrev pub dataAfter : Change → Data
+dataAfter Same = Kept
+dataAfter (Marked armed) = Kept
+dataAfter (Live v) = Kept
+dataAfter (Anew q) = Kept
+dataAfter (Runs q d w) = d
+dataAfter (Halts q) = Kept
+dataAfter (GoesOn q) = Kept
+dataAfter (Clears q) = Zero
+
+-- the record after a change by a call with the input i; no change has another identity
 abbrev pub changed : Change → List ℕ → Record → Record
-changed Same i p = p
-changed (Marked armed) i p = record { part = marked (p .part) armed; phase = p .phase; identity = p .identity; page = p .page }
-changed (Live v) i p = record { part = withLive (marked (p .part) false) v; phase = p .phase; identity = p .identity; page = p .page }
-changed (Anew q) i p = record { part = q; phase = p .phase; identity = p .identity; page = p .page }
-changed (Runs q d w) i p = record { part = q; phase = runningIn (p .phase) w; identity = p .identity; page = pageAfter d i (p .page) }
-changed (Halts q) i p = record { part = q; phase = suspendedIn (p .phase); identity = p .identity; page = p .page }
-changed (GoesOn q) i p = record { part = q; phase = resumedIn (p .phase); identity = p .identity; page = p .page }
-changed (Clears q) i p = record { part = q; phase = Idle; identity = p .identity; page = noData }
+changed c i p =
+    record { part = partAfter c (p .part); phase = phaseAfter c (p .phase); identity = p .identity; page = pageAfter (dataAfter c) i (p .page) }
 
 -- what a command begins on a part of n blocks, with the input i, in which its address is sent as g says
 abbrev pub begins : Effect → Addressing → ℕ → List ℕ → Work

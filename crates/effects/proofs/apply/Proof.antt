@@ -1,105 +1,29 @@
--- `effects::apply` meets its contract: each arm is a clause of the definition.
+-- `effects::apply` meets its contract: each part of the record is what the change makes of it.
 use borrow.Author.Needs.{needs}
 use Rattle.effects.proofs.apply.Statement.{statement}
 use Rattle.effects.proofs.apply.Tie as tie
 
-enum-told : tie.Need-enum-told
-enum-told c = search needs
+part-after-requires : tie.Need-part-after-requires
+part-after-requires c κs = search needs
 
-enum-known-change : tie.Need-enum-known-change
-enum-known-change c = search needs
+phase-after-requires : tie.Need-phase-after-requires
+phase-after-requires c κs = search needs
 
-mark-requires : tie.Need-mark-requires
-mark-requires c κs = search needs
-
-enum-known-change-2 : tie.Need-enum-known-change-2
-enum-known-change-2 c = search needs
-
-mark-requires-2 : tie.Need-mark-requires-2
-mark-requires-2 c κs = search needs
-
-set-live-requires : tie.Need-set-live-requires
-set-live-requires c κs = search needs
-
-enum-known-change-3 : tie.Need-enum-known-change-3
-enum-known-change-3 c = search needs
-
-enum-known-change-4 : tie.Need-enum-known-change-4
-enum-known-change-4 c = search needs
-
-running-in-requires : tie.Need-running-in-requires
-running-in-requires c κs = search needs
+data-after-requires : tie.Need-data-after-requires
+data-after-requires c κs = search needs
 
 page-after-requires : tie.Need-page-after-requires
 page-after-requires c κs = search needs
 
-enum-known-change-5 : tie.Need-enum-known-change-5
-enum-known-change-5 c = search needs
-
-suspended-in-requires : tie.Need-suspended-in-requires
-suspended-in-requires c κs = search needs
-
-enum-known-change-6 : tie.Need-enum-known-change-6
-enum-known-change-6 c = search needs
-
-resumed-in-requires : tie.Need-resumed-in-requires
-resumed-in-requires c κs = search needs
-
-enum-known-change-7 : tie.Need-enum-known-change-7
-enum-known-change-7 c = search needs
-
-no-data-requires : tie.Need-no-data-requires
-no-data-requires c κs = search needs
-
 returns : tie.Need-returns
-returns c = rw (c .enum-told .given .1)
-
-returns-2 : tie.Need-returns-2
-returns-2 c = rw (c .before .before .before .change .given .1, c .mark .ensures)
-
-returns-3 : tie.Need-returns-3
-returns-3 c = rw (c .before .before .before .before .change2 .given .1, c .set-live .ensures, c .before .mark2 .ensures)
-
-returns-4 : tie.Need-returns-4
-returns-4 c = rw (c .before .change3 .given .1)
-
-returns-5 : tie.Need-returns-5
-returns-5 c = rw (c .before .before .before .change4 .given .1, c .page-after .ensures, c .before .running-in .ensures)
-
-returns-6 : tie.Need-returns-6
-returns-6 c = rw (c .before .before .change5 .given .1, c .suspended-in .ensures)
-
-returns-7 : tie.Need-returns-7
-returns-7 c = rw (c .before .before .change6 .given .1, c .resumed-in .ensures)
-
-returns-8 : tie.Need-returns-8
-returns-8 c = rw (c .before .before .change7 .given .1, c .no-data .ensures)
+returns c = rw (c .page-after .ensures, c .before .data-after .ensures, c .before .before .phase-after .ensures, c .before .before .before .part-after .ensures)
 
 pub apply-spec : {M : Type 1} → statement M
 apply-spec =
     tie.close
     (tie.spec
-    enum-told
-    enum-known-change
-    mark-requires
-    enum-known-change-2
-    mark-requires-2
-    set-live-requires
-    enum-known-change-3
-    enum-known-change-4
-    running-in-requires
+    part-after-requires
+    phase-after-requires
+    data-after-requires
     page-after-requires
-    enum-known-change-5
-    suspended-in-requires
-    enum-known-change-6
-    resumed-in-requires
-    enum-known-change-7
-    no-data-requires
-    returns
-    returns-2
-    returns-3
-    returns-4
-    returns-5
-    returns-6
-    returns-7
-    returns-8)
+    returns)
