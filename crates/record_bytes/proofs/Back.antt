@@ -38,7 +38,7 @@ same-fields : (b b′ : ℕ) (s : Stored) (w w′ a a′ z z′ : Bool) (v k : �
     → _≡_ {A = Part} record { blocks = b; stored = s; wel = w; armed = a; asleep = z; live = v; bank = k } record { blocks = b′; stored = s; wel = w′; armed = a′; asleep = z′; live = v; bank = k }
 same-fields b b′ s w w′ a a′ z z′ v k eb ew ea ez = rw (eb, ew, ea, ez)
 
-page-back : (p : Record) → drop headerLength (recordBytes p) ≡ p .page
+pub page-back : (p : Record) → drop headerLength (recordBytes p) ≡ p .page
 unfolding recordBytes partBytes worksBytes operationBytes
 page-back p = refl
 

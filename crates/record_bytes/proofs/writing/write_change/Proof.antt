@@ -1,8 +1,10 @@
 -- `record_bytes::writing::write_change` meets its contract: an arm for each change; where other work runs, page data stands behind the header and becomes there what it becomes.
-use Rattle.record_bytes.proofs.Laid.{running-header-length, page-there, page-laid}
+use Rattle.record_bytes.proofs.Laid.{running-header-length, page-room, page-there, page-laid}
+use Rattle.record_bytes.proofs.Changed.{page-written}
 use Rattle.record_bytes.specs.Layout.{headerRunning, changeWritten}
 use borrow.Author.Tests.{eq-eqb, ne-eqb}
 use denote.Ref.{now}
+use mathlib.Core.Path.{_∙_}
 use borrow.Author.Needs.{needs}
 use Rattle.record_bytes.proofs.writing.write_change.Statement.{statement}
 use Rattle.record_bytes.proofs.writing.write_change.Tie as tie
@@ -111,7 +113,7 @@ returns-6 c =
     let v = c .before .before .before .before .before .before .before .before .before .change4 .given .0 in
     let q = headerRunning (v .0) (v .1 .1 .0) bs in
     let lq = running-header-length bs l (v .0) (v .1 .1 .0) in
-    rw (c .before .before .before .before .before .before .before .before .before .change4 .given .1, eq-eqb _ _ l) (page-laid bs q _ lq l h _ _ (rw (page-there bs q _ lq l h) at (c .before .before .write-page .ensures)))
+    rw (c .before .before .before .before .before .before .before .before .before .change4 .given .1, eq-eqb _ _ l) (page-laid bs q _ lq l h _ _ (rw (page-there bs q _ lq l h) at (c .before .before .write-page .ensures ∙ page-written _ _ _ (page-room bs q _ lq l h))))
 
 same-length-5 : tie.Need-same-length-5
 same-length-5 c = search needs
