@@ -21,4 +21,5 @@ pub mod Halted
 pub mod ByPlace
 pub mod CBench
 pub mod Board
+pub mod Script
 pub mod Bench

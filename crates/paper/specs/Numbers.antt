@@ -22,6 +22,7 @@ use Rattle.types.specs.declared.Wanted.{Wanted}
 use Rattle.types.specs.declared.Wanted.the-variants.{Any, Running, Halted, Armed}
 use Rattle.types.specs.declared.Columns.{Columns}
 use Rattle.words.specs.Logic.{_and_, _or_, unless, _orElse_}
+use Rattle.words.specs.Lists.{sumTo}
 use Rattle.paper.specs.Sizes.{isLarge, sizeOk, arrayBytes, rowsBytes, transactionLimit, tickLimit}
 use Rattle.paper.specs.Address.{rowOk}
 use Rattle.paper.specs.Protection.{barred}
@@ -56,6 +57,14 @@ soundNumber sound = unless sound 5
 unfoldable pub ticksNumber : ℕ → ℕ → ℕ
 ticksNumber n ticks = unless (leb ticks (tickLimit n)) 6
 
+-- 7: the four lists of a script differ in length, or the lengths ls don't add up to the i bytes of input; t, n and d are the lengths of the others
+unfoldable pub listsNumber : List ℕ → ℕ → ℕ → ℕ → ℕ → ℕ
+listsNumber ls t n d i =
+    unless (eqb t (length ls)
+    and eqb n (length ls)
+    and eqb d (length ls)
+    and eqb (sumTo ls (length ls)) i) 7
+
 -- 5 at power-up: status bits 1..0, function bits 3..0, but for bit 1, TBS, on the large part, or bits 4..0 of the extended read register not zero
 unfoldable pub givenOk : ℕ → Stored → Bool
 givenOk n s =
@@ -82,6 +91,15 @@ transactionRefusal n sound a r l o = sizeNumber n a orElse laterRefusal sound r 
 unfoldable pub tickNumber : ℕ → Bool → ℕ → ℕ → ℕ → ℕ
 tickNumber n sound a r ticks =
     sizeNumber n a orElse rowsNumber r orElse soundNumber sound orElse ticksNumber n ticks
+
+-- a script's 2, 7, 4 and 5, in that order, which go by no size: o is the length of its output
+unfoldable pub laterScriptRefusal : Bool → ℕ → List ℕ → ℕ → ℕ → ℕ → ℕ → ℕ → ℕ
+laterScriptRefusal sound r ls t n d i o =
+    rowsNumber r orElse listsNumber ls t n d i orElse outputNumber i o orElse soundNumber sound
+
+-- and its 1, 2, 7, 4 and 5, which are tested before the first step
+unfoldable pub scriptRefusal : ℕ → Bool → ℕ → ℕ → List ℕ → ℕ → ℕ → ℕ → ℕ → ℕ → ℕ
+scriptRefusal b sound a r ls t n d i o = sizeNumber b a orElse laterScriptRefusal sound r ls t n d i o
 
 -- 25: nothing running that can be suspended, nothing to resume, or 99h not armed
 abbrev pub stateOk : Wanted → Part → Phase → Bool

@@ -5,7 +5,7 @@ use mathlib.Core.Bool.{Bool, true, false, false≢true}
 use mathlib.Core.List.{List, _++_}
 use lib.Dec.{eqb}
 use native.Mathlib.Omega.{arith}
-use lib.ListN.{length, take, drop, length-append, length-drop, take-append-drop}
+use lib.ListN.{length, take, drop, length-append, length-take, length-drop, take-append-drop}
 use lib.Seq.{take-all, take-at}
 use borrow.Author.Tests.{eq-eqb, eqb-true}
 use Rattle.types.specs.declared.Stored.{Stored}
@@ -147,6 +147,9 @@ module _ (bs : List ℕ) (h : recordIn bs .ok ≡ true) where
   held-bytes = ap (λ (x : Held). recordBytes (x .state)) (taken bs holding) ∙ own-bytes bs holding
 
   -- page data as it is lent
+  pub lent-length : length (take pageBytes (drop headerLength bs)) ≡ pageBytes
+  lent-length = simp (length-take, length-drop) (omega (arith, held-length))
+
   pub held-page : take pageBytes (drop headerLength bs) ≡ recordIn bs .state .page
   unfolding fieldsIn
   held-page =

@@ -5,6 +5,7 @@ use Rattle.record_bytes.proofs.writing.write_idle.Reads as write-idle
 use Rattle.record_bytes.proofs.writing.write_page.Reads as write-page
 use Rattle.record_bytes.proofs.writing.write_change.Reads as write-change
 use Rattle.record_bytes.proofs.writing.write_phase.Reads as write-phase
+use Rattle.record_bytes.proofs.reading.identity_in.Reads as identity-in
 use Rattle.record_bytes.proofs.reading.read.Reads as read
 
 pub write-idle-one : OneExit write-idle.Learnt (λ κ s. now (s .1 .1 .0))
@@ -18,6 +19,9 @@ write-change-one κ a x y s t p q = agree p q
 
 pub write-phase-one : OneExit write-phase.Learnt (λ κ s. now (s .1 .1 .0))
 write-phase-one κ a x y s t p q = agree p q
+
+pub identity-in-one : OneResult identity-in.Learnt
+identity-in-one κ a x y s t p q = agree p q
 
 pub read-one : OneResult read.Learnt
 read-one κ a x y s t p q = agree p q

@@ -5,11 +5,12 @@ ghost use Rattle.types.specs.declared.Work.the-variants.{NoWork};
 ghost use Rattle.paper.specs.Address.{highFirst};
 ghost use Rattle.cells.specs.Operations.{workCells, sameCells};
 ghost use Rattle.record_bytes.specs.Layout.{operationLength, recordLength};
-ghost use Rattle.record_bytes.specs.Read.{marksIn, cellsIn, storedOf, partIn, doingIn, nothing, recordIn, found};
+ghost use Rattle.record_bytes.specs.Read.{marksIn, cellsIn, storedOf, partIn, identityIn, doingIn, nothing, recordIn, found};
 use crate::Doing;
 use crate::Found;
 use crate::places;
 use cells::Cells;
+use types::Identity;
 use types::Part;
 use types::Phase;
 use types::Stored;
@@ -80,6 +81,18 @@ fn part_in(bytes: &[u8]) -> Part
         asleep: bytes[places::ASLEEP] == 1,
         live: bytes[places::LIVE],
         bank: bytes[places::BANK],
+    }
+}
+
+// The identity at its place. A byte past the end counts as 0.
+pub fn identity_in(bytes: &[u8]) -> Identity
+    ensures { λ r. ⌜ r ≡ identityIn (now (bytes .entry)) ⌝ }
+{
+    Identity {
+        maker: sent::byte_at(bytes, places::MAKER),
+        kind: sent::byte_at(bytes, places::KIND),
+        capacity: sent::byte_at(bytes, places::CAPACITY),
+        device: sent::byte_at(bytes, places::DEVICE),
     }
 }
 

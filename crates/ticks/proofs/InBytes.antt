@@ -3,8 +3,7 @@ use Prim.Native.Nat.{ℕ}
 use mathlib.Core.Path.{_≡_, sym, ap, _∙_}
 use mathlib.Core.Bool.{true, false}
 use mathlib.Core.List.{List, []}
-use native.Mathlib.Omega.{arith}
-use lib.ListN.{length, take, drop, length-take, length-drop}
+use lib.ListN.{length, take, drop}
 use Rattle.types.specs.declared.Memory.{Memory}
 use Rattle.types.specs.declared.Record.{Record}
 use Rattle.types.specs.declared.Ticked.{Ticked}
@@ -17,7 +16,7 @@ use Rattle.paper.specs.Calls.{ticked}
 use Rattle.record_bytes.specs.declared.Found.{Found}
 use Rattle.record_bytes.specs.Layout.{headerLength, recordBytes, changeWritten}
 use Rattle.record_bytes.specs.Read.{Held, recordIn, found}
-use Rattle.record_bytes.proofs.Back.{held-length, held-page, found-sound, on-none, on-held}
+use Rattle.record_bytes.proofs.Back.{lent-length, held-page, found-sound, on-none, on-held}
 use Rattle.record_bytes.proofs.Changed.{held-changed}
 use Rattle.ticks.specs.Waited.{waitedOf, waitedMemory, tickedBy}
 use Rattle.ticks.specs.InBytes.{heldWorked, tickBytes, tickMemory}
@@ -45,9 +44,6 @@ module _ (bs : List ℕ) (e : recordIn bs .ok ≡ true) (x : Found) (ex : x ≡ 
   abbrev lent : List ℕ
   lent = take pageBytes (drop headerLength bs)
 
-  lent-length : length lent ≡ pageBytes
-  lent-length = simp (length-take, length-drop) (omega (arith, held-length bs e))
-
   module _ (a r n : ℕ) where
     module _ (u : Waited) (eu : u ≡ waitedOf (x .part) (x .phase) (x .sound) a r n) where
       ticks-told : tickedBy u held ≡ ticked held a r n
@@ -66,4 +62,4 @@ module _ (bs : List ℕ) (e : recordIn bs .ok ≡ true) (x : Found) (ex : x ≡ 
     pub told-memory : (m : Memory) (xs y : List ℕ) → y ≡ waitedMemory m (x .part) (x .phase) (x .sound) lent a r n xs → y ≡ tickMemory m (recordIn bs) a r n xs
     unfolding tickMemory
     told-memory m xs y ey =
-        ey ∙ rw (found-sound bs e x ex, ex, held-page bs e) (memory-told held a r n m xs (ap (λ (g : List ℕ). length g) (sym (held-page bs e)) ∙ lent-length)) ∙ sym (on-held (recordIn bs) _ xs e)
+        ey ∙ rw (found-sound bs e x ex, ex, held-page bs e) (memory-told held a r n m xs (ap (λ (g : List ℕ). length g) (sym (held-page bs e)) ∙ lent-length bs e)) ∙ sym (on-held (recordIn bs) _ xs e)

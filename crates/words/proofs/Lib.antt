@@ -1,5 +1,6 @@
 pub mod Tests
 pub mod Lists
+pub mod Sums
 pub mod Zeros
 pub mod Allowed
 pub mod Tight

@@ -2,7 +2,7 @@
 use Prim.Native.Nat.{ℕ, zero, suc, _+_, _-_, _%_}
 use mathlib.Core.List.{List, [], _∷_, _++_}
 use mathlib.Core.Bool.{Bool, true, cond}
-use lib.ListN.{length, getD, take}
+use lib.ListN.{length, getD, take, drop}
 use lib.Dec.{eqb}
 use Rattle.words.specs.Logic.{_and_}
 
@@ -28,3 +28,15 @@ allZero (x ∷ xs) = eqb x 0 and allZero xs
 abbrev pub every : {A : Type 0} → (A → Bool) → List A → Bool
 every f [] = true
 every f (x ∷ xs) = f x and every f xs
+
+-- the sum of the first k numbers of a list
+abbrev pub sumTo : List ℕ → ℕ → ℕ
+sumTo ns zero = 0
+sumTo ns (suc k) = sumTo ns k + getD ns k 0
+
+-- n bytes of a list from the place at on, and the list with others in their place
+abbrev pub between : ℕ → ℕ → List ℕ → List ℕ
+between at n xs = take n (drop at xs)
+
+abbrev pub putBetween : ℕ → ℕ → List ℕ → List ℕ → List ℕ
+putBetween at n xs ys = take at xs ++ (ys ++ drop n (drop at xs))

@@ -7,8 +7,7 @@ ghost use mathlib.Core.Path.{_≡_};
 ghost use Prim.Native.Nat.{_≤_};
 ghost use lib.ListN.{length};
 ghost use Rattle.types.specs.declared.Memory.the-variants.{Array, Rows};
-ghost use Rattle.record_bytes.specs.Layout.{recordLength};
-ghost use Rattle.record_bytes.specs.Read.{identityIn, recordIn};
+ghost use Rattle.record_bytes.specs.Read.{recordIn};
 ghost use Rattle.ticks.specs.InBytes.{tickBytes, tickMemory};
 ghost use Rattle.yawlspar.specs.Face.{packed, asked, givenNumber, powerUpAnswer, powerUpBytes, transactAnswer, transactBytes, transactOutput, tickAnswer};
 ghost use Rattle.yawlspar.specs.Version.{version};
@@ -104,19 +103,6 @@ pub extern "C" fn yawlspar_power_up(
     0
 }
 
-// The identity in a record's bytes.
-fn identity_in(bytes: &[u8]) -> Identity
-    requires { ⌜ length (now bytes) ≡ recordLength ⌝ }
-    ensures { λ r. ⌜ r ≡ identityIn (now (bytes .entry)) ⌝ }
-{
-    Identity {
-        maker: bytes[places::MAKER],
-        kind: bytes[places::KIND],
-        capacity: bytes[places::CAPACITY],
-        device: bytes[places::DEVICE],
-    }
-}
-
 // A transaction. WP# is low for 0 and high for 1. The number and the first driven place; refused, with 1 to 5,
 // every buffer is as it was. Where the bytes hold no record, 1 is not judged: there is no size.
 #[no_mangle]
@@ -139,7 +125,7 @@ pub extern "C" fn yawlspar_transact(
     }
     let part = found.part;
     let phase = found.phase;
-    let identity = identity_in(bytes);
+    let identity = record_bytes::reading::identity_in(bytes);
     let level = wp <= 1;
     let high = wp == 1;
     let fit = words::both(found.sound, level);

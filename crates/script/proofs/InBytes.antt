@@ -1,0 +1,157 @@
+-- What the definitions for a script on bytes come to: no record held, a script that is refused, and one that runs.
+use Prim.Native.Nat.{ℕ}
+use mathlib.Core.Path.{_≡_, refl, sym, ap, _∙_}
+use mathlib.Core.Bool.{Bool, true, false}
+use mathlib.Core.List.{List, _++_}
+use borrow.Author.Tests.{eqb-true, eq-eqb, ne-eqb}
+use lib.Dec.{eqb, leb}
+use lib.ListN.{length, take, drop}
+use Rattle.types.specs.declared.Identity.{Identity}
+use Rattle.types.specs.declared.Record.{Record}
+use Rattle.words.specs.Logic.{_and_, _orElse_}
+use Rattle.words.proofs.Tests.{and-l, and-r, unless-zero, orElse-zero}
+use Rattle.paper.specs.Sizes.{arrayBytes, rowsBytes, pageBytes}
+use Rattle.paper.specs.Soundness.{sound, soundOf}
+use Rattle.paper.specs.Numbers.{sizeNumber, rowsNumber, listsNumber, outputNumber, soundNumber, laterScriptRefusal, scriptRefusal}
+use Rattle.paper.specs.Board.{Board, boardOf}
+use Rattle.paper.specs.Script.{Script, Scripted, afterSteps, unstepped, scripted}
+use Rattle.paper.proofs.Soundness.{recordOf}
+use Rattle.record_bytes.specs.declared.Found.{Found}
+use Rattle.record_bytes.specs.Layout.{headerLength, recordBytes, phaseWritten}
+use Rattle.record_bytes.specs.Read.{recordIn, identityIn, found}
+use Rattle.record_bytes.proofs.Back.{lent-length, held-bytes, held-page, held-identity, found-sound, on-none, on-held}
+use Rattle.record_bytes.proofs.Changed.{phase-written}
+use Rattle.script.specs.declared.Ran.{Ran}
+use Rattle.script.specs.declared.State.{State}
+use Rattle.script.specs.Steps.{world, Ready, Fit}
+use Rattle.script.specs.InBytes.{heldScript, ranOf, scriptBytes}
+
+-- what a script gives, of its answer and of each buffer but the record's bytes
+pub record Gives (given : Scripted) (number step : ℕ) (xs rs o n d : List ℕ) : Type 0 where
+  pub answer : _≡_ {A = Ran} record { number = number; step = step } (ranOf given)
+  pub array : xs ≡ given .board .array
+  pub rows : rs ≡ given .board .rows
+  pub output : o ≡ given .output
+  pub answers : n ≡ given .answers
+  pub done : d ≡ given .done
+
+pub gives : (given w : Scripted) → given ≡ w → Gives given (w .number) (w .step) (w .board .array) (w .board .rows) (w .output) (w .answers) (w .done)
+gives given w e =
+    let f = sym e in
+    record { answer = ap ranOf f; array = ap (λ (v : Scripted). v .board .array) f; rows = ap (λ (v : Scripted). v .board .rows) f; output = ap (λ (v : Scripted). v .output) f; answers = ap (λ (v : Scripted). v .answers) f; done = ap (λ (v : Scripted). v .done) f }
+
+-- a script of s on bytes, with memory, output and lists, and the level of WP#; what was found in the bytes, and the tests before the first step but for 1
+module _ (bs : List ℕ) (x : Found) (ex : x ≡ found (recordIn bs)) (wp : ℕ) (s : Script) (xs rs o n d : List ℕ) where
+  abbrev given : Scripted
+  given = heldScript (recordIn bs) wp s xs rs o n d
+
+  abbrev later : Bool → ℕ
+  later fit = laterScriptRefusal fit (length rs) (s .lengths) (length (s .ticks)) (length n) (length d) (length (s .input)) (length o)
+
+  module _ (fit : Bool) (ef : fit ≡ (x .sound and leb wp 1)) where
+    -- no record held
+    module _ (e : recordIn bs .ok ≡ false) where
+      not-fit : fit ≡ false
+      unfolding _and_
+      not-fit = ef ∙ rw (ex, e) refl
+
+      pub unheld-given : (k : ℕ) → k ≡ later fit → given ≡ unstepped k (boardOf (recordIn bs .state) xs rs) o n d
+      unfolding heldScript
+      unheld-given k ek =
+          on-none (recordIn bs) _ _ e ∙ ap (λ (j : ℕ). unstepped j (boardOf (recordIn bs .state) xs rs) o n d) (sym (ek ∙ ap later not-fit))
+
+      pub unheld-left : bs ≡ scriptBytes (recordIn bs) given bs
+      unheld-left = sym (on-none (recordIn bs) _ bs e)
+
+    -- a record held
+    module _ (e : recordIn bs .ok ≡ true) where
+      abbrev held : Record
+      held = recordIn bs .state
+
+      abbrev number : ℕ
+      number = sizeNumber (x .part .blocks) (length xs) orElse later fit
+
+      fit-is : fit ≡ (sound held and leb wp 1)
+      fit-is = ef ∙ ap (λ (t : Bool). t and leb wp 1) (found-sound bs e x ex)
+
+      refusal-is : number ≡ scriptRefusal (held .part .blocks) (sound held and leb wp 1) (length xs) (length rs) (s .lengths) (length (s .ticks)) (length n) (length d) (length (s .input)) (length o)
+      unfolding scriptRefusal
+      refusal-is = rw (fit-is, ex) refl
+
+      held-given : given ≡ scripted (sound held and leb wp 1) s (boardOf held xs rs) o n d
+      unfolding heldScript
+      held-given = on-held (recordIn bs) _ _ e
+
+      -- refused
+      module _ (k : ℕ) (ek : k ≡ number) (h : k ≡ 0 → ⊥) where
+        pub refused-given : given ≡ unstepped k (boardOf held xs rs) o n d
+        unfolding scripted
+        refused-given =
+            let off = ne-eqb _ _ (λ z. h (ek ∙ refusal-is ∙ z)) in
+            held-given ∙ rw off (ap (λ (j : ℕ). unstepped j (boardOf held xs rs) o n d) (sym (ek ∙ refusal-is)))
+
+        pub refused-left : bs ≡ scriptBytes (recordIn bs) given bs
+        refused-left =
+            sym (on-held (recordIn bs) _ bs e ∙ ap (λ (w : Scripted). recordBytes (w .board .state)) refused-given ∙ held-bytes bs e)
+
+      -- or not: what the steps find
+      module _ (z : number ≡ 0) where
+        abbrev lent : List ℕ
+        lent = take pageBytes (drop headerLength bs)
+
+        first-zero : sizeNumber (x .part .blocks) (length xs) ≡ 0
+        first-zero = orElse-zero _ _ z .0
+
+        rows-zero : rowsNumber (length rs) ≡ 0
+        unfolding laterScriptRefusal
+        rows-zero = orElse-zero _ _ (orElse-zero _ _ z .1) .0
+
+        lists-zero : listsNumber (s .lengths) (length (s .ticks)) (length n) (length d) (length (s .input)) ≡ 0
+        unfolding laterScriptRefusal
+        lists-zero = orElse-zero _ _ (orElse-zero _ _ (orElse-zero _ _ z .1) .1) .0
+
+        output-zero : outputNumber (length (s .input)) (length o) ≡ 0
+        unfolding laterScriptRefusal
+        output-zero = orElse-zero _ _ (orElse-zero _ _ (orElse-zero _ _ (orElse-zero _ _ z .1) .1) .1) .0
+
+        sound-zero : soundNumber fit ≡ 0
+        unfolding laterScriptRefusal
+        sound-zero = orElse-zero _ _ (orElse-zero _ _ (orElse-zero _ _ (orElse-zero _ _ z .1) .1) .1) .1
+
+        pub begins-fit : Fit s (length o) (length n) (length d)
+        unfolding listsNumber outputNumber
+        begins-fit =
+            let t = unless-zero _ 6 lists-zero in
+            let u = and-r _ _ t in
+            let v = and-r _ _ u in
+            record { ticks = eqb-true _ _ (and-l _ _ t); answers = eqb-true _ _ (and-l _ _ u); done = eqb-true _ _ (and-l _ _ v); output = eqb-true _ _ (unless-zero _ 3 output-zero); sum = eqb-true _ _ (and-r _ _ v) }
+
+        pub begins-ready : Ready (x .part) (x .phase) lent (length xs) (length rs)
+        unfolding sizeNumber rowsNumber soundNumber
+        begins-ready =
+            let fits = sym ef ∙ unless-zero _ 4 sound-zero in
+            record { is-sound = rw (ex, held-page bs e) (sym (found-sound bs e x ex) ∙ and-l _ _ fits); page = lent-length bs e; array = eqb-true _ _ (and-r _ _ (unless-zero _ 0 first-zero)); rows = eqb-true _ _ (unless-zero _ 1 rows-zero) }
+
+        -- and what they leave, from the state q on to the state r
+        abbrev start : State
+        start = record { part = x .part; phase = x .phase; number = 0; step = 0; at = 0 }
+
+        module _ (id : Identity) (eid : id ≡ identityIn bs) (r : State) (g′ xs′ rs′ o′ n′ d′ : List ℕ) (er : world id r g′ xs′ rs′ o′ n′ d′ ≡ afterSteps s (length (s .lengths)) (world id start lent xs rs o n d)) where
+          own-identity : id ≡ held .identity
+          own-identity = eid ∙ held-identity bs e
+
+          found-is : recordOf id (x .part) (x .phase) lent ≡ held
+          found-is = rw (own-identity, held-page bs e, ex)
+
+          pub ran-given : given ≡ world id r g′ xs′ rs′ o′ n′ d′
+          unfolding scripted
+          ran-given =
+              held-given
+              ∙ rw (eq-eqb _ _ (sym refusal-is ∙ z)) (ap (λ (q : Record). afterSteps s (length (s .lengths)) (unstepped 0 (boardOf q xs rs) o n d)) (sym found-is))
+              ∙ sym er
+
+          pub ran-left : length g′ ≡ pageBytes → phaseWritten (r .part) (r .phase) (take headerLength bs ++ (g′ ++ drop pageBytes (drop headerLength bs))) ≡ scriptBytes (recordIn bs) given bs
+          ran-left l =
+              phase-written bs g′ (r .part) (r .phase) e l
+              ∙ ap (λ (i : Identity). recordBytes (recordOf i (r .part) (r .phase) g′)) (sym own-identity)
+              ∙ sym (on-held (recordIn bs) _ bs e ∙ ap (λ (w : Scripted). recordBytes (w .board .state)) ran-given)

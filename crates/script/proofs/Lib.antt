@@ -1,0 +1,4 @@
+pub mod Sums
+pub mod OneByOne
+pub mod OneStep
+pub mod InBytes

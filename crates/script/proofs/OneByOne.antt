@@ -1,0 +1,104 @@
+-- Steps one after the other: where each lies in the buffers, what it makes of the script's values, and that a script which has stopped stays so.
+use Prim.Native.Nat.{ℕ, zero, suc, _+_, _≤_, _<_}
+use mathlib.Core.Path.{_≡_, refl, sym, ap, subst, _∙_}
+use mathlib.Core.Bool.{Bool, true, false}
+use mathlib.Core.List.{List}
+use native.Mathlib.Omega.{arith}
+use native.Mathlib.Numerals.{add-one}
+use borrow.Author.Tests.{eq-eqb, ne-eqb, leb-true, leb-false}
+use lib.Dec.{leb}
+use lib.ListN.{length, getD, set}
+use Rattle.types.specs.declared.Identity.{Identity}
+use Rattle.words.specs.Logic.{whenZero}
+use Rattle.words.specs.Lists.{sumTo, between, putBetween}
+use Rattle.words.proofs.Sums.{sum-within}
+use Rattle.paper.specs.Script.{Script, Scripted, Made, made, madeAt, stepped, afterSteps}
+use Rattle.script.specs.declared.State.{State}
+use Rattle.script.specs.Steps.{world, turned, Ready, Fit}
+
+-- a step ends within the buffers
+pub end-within : (s : Script) (o n d k at : ℕ) → Fit s o n d → k < length (s .lengths) → at ≡ sumTo (s .lengths) k → at + getD (s .lengths) k 0 ≤ length (s .input)
+end-within s o n d k at f h e = omega (arith, sum-within (s .lengths) (length (s .lengths)) k h, f .sum, e)
+
+module _ (s : Script) (k : ℕ) (w : Scripted) where
+  -- n bytes from the place at on, and with what a step made of them
+  abbrev madeFrom : ℕ → ℕ → Made
+  madeFrom at n = made (s .wp) (between at n (s .input)) (getD (s .ticks) k 0) (w .board) (between at n (w .output))
+
+  abbrev put : ℕ → ℕ → Made → ℕ → Scripted
+  put at n m j =
+      record { board = m .board; output = putBetween at n (w .output) (m .output); answers = set (w .answers) k (m .answer); done = set (w .done) k (m .done); number = m .number; step = j }
+
+  pub turn-is : (at n : ℕ) (m : Made) (j : ℕ) → at ≡ sumTo (s .lengths) k → n ≡ getD (s .lengths) k 0 → m ≡ madeFrom at n → j ≡ whenZero (m .number) (k + 1) k → put at n m j ≡ turned s k w
+  unfolding stepped
+  turn-is at n m j ea en em ej =
+      ap (put at n m) ej
+      ∙ ap (λ (x : Made). put at n x (whenZero (x .number) (k + 1) k)) em
+      ∙ ap (λ (b : ℕ). put b n (madeFrom b n) (whenZero (madeFrom b n .number) (k + 1) k)) ea
+      ∙ ap (λ (l : ℕ). put (sumTo (s .lengths) k) l (madeFrom (sumTo (s .lengths) k) l) (whenZero (madeFrom (sumTo (s .lengths) k) l .number) (k + 1) k)) en
+
+module _ (s : Script) (w₀ : Scripted) where
+  -- one step more
+  abbrev onward : ℕ → Scripted → Scripted
+  onward k v = whenZero (v .number) (turned s k v) v
+
+  pub step-on : (k : ℕ) (w v : Scripted) → w ≡ afterSteps s k w₀ → w .number ≡ 0 → v ≡ turned s k w → v ≡ afterSteps s (k + 1) w₀
+  step-on k w v e go ev =
+      let on : turned s k w ≡ onward k w = rw (eq-eqb (w .number) 0 go) refl in
+      rw add-one (ev ∙ on ∙ ap (onward k) e)
+
+  -- nothing after the stop is written
+  stays-by : (k n : ℕ) → k ≤ suc n → (k ≤ n → afterSteps s n w₀ ≡ afterSteps s k w₀) → (afterSteps s k w₀ .number ≡ 0 → ⊥) → (t : Bool) → leb k n ≡ t → afterSteps s (suc n) w₀ ≡ afterSteps s k w₀
+  stays-by k n h before stop true e =
+      let same = before (leb-true k n e) in
+      let off : onward n (afterSteps s k w₀) ≡ afterSteps s k w₀ = rw (ne-eqb (afterSteps s k w₀ .number) 0 stop) refl in
+      ap (onward n) same ∙ off
+  stays-by k n h before stop false e =
+      let same : suc n ≡ k = omega (arith, h, leb-false k n e) in
+      ap (λ (m : ℕ). afterSteps s m w₀) same
+
+  pub stays : (k n : ℕ) → k ≤ n → (afterSteps s k w₀ .number ≡ 0 → ⊥) → afterSteps s n w₀ ≡ afterSteps s k w₀
+  stays k zero h stop = let same : 0 ≡ k = omega arith in ap (λ (m : ℕ). afterSteps s m w₀) same
+  stays k (suc n) h stop = stays-by k n h (λ (l : k ≤ n). stays k n l stop) stop (leb k n) refl
+
+-- what the loop carries after k steps
+pub record Along (id : Identity) (s : Script) (k : ℕ) (w₀ : Scripted) (q : State) (g xs rs o n d : List ℕ) : Type 0 where
+  pub told : world id q g xs rs o n d ≡ afterSteps s k w₀
+  pub within : k ≤ length (s .lengths)
+  pub going : q .number ≡ 0
+  pub at : q .at ≡ sumTo (s .lengths) k
+  pub ready : Ready (q .part) (q .phase) g (length xs) (length rs)
+  pub array : length xs ≡ length (w₀ .board .array)
+  pub rows : length rs ≡ length (w₀ .board .rows)
+  pub output : length o ≡ length (w₀ .output)
+  pub answers : length n ≡ length (w₀ .answers)
+  pub done : length d ≡ length (w₀ .done)
+
+module _ (id : Identity) (s : Script) (k : ℕ) (w₀ : Scripted) (q : State) (g xs rs o n d : List ℕ) (l : Along id s k w₀ q g xs rs o n d) where
+  pub fit-along : Fit s (length (w₀ .output)) (length (w₀ .answers)) (length (w₀ .done)) → Fit s (length o) (length n) (length d)
+  fit-along f =
+      record { ticks = f .ticks; answers = l .answers ∙ f .answers; done = l .done ∙ f .done; output = l .output ∙ f .output; sum = f .sum }
+
+  -- after the last step
+  pub all-made : length (s .lengths) ≤ k → world id q g xs rs o n d ≡ afterSteps s (length (s .lengths)) w₀
+  all-made h =
+      let e : k ≡ length (s .lengths) = omega (arith, l .within) in
+      l .told ∙ ap (λ (m : ℕ). afterSteps s m w₀) e
+
+  -- after one more
+  module _ (h : k < length (s .lengths)) (q′ : State) (g′ xs′ rs′ o′ n′ d′ : List ℕ) (e : world id q′ g′ xs′ rs′ o′ n′ d′ ≡ turned s k (world id q g xs rs o n d)) where
+    told-on : world id q′ g′ xs′ rs′ o′ n′ d′ ≡ afterSteps s (k + 1) w₀
+    told-on = step-on s w₀ k (world id q g xs rs o n d) (world id q′ g′ xs′ rs′ o′ n′ d′) (l .told) (l .going) e
+
+    -- which stops the script
+    pub stopped-at : (q′ .number ≡ 0 → ⊥) → world id q′ g′ xs′ rs′ o′ n′ d′ ≡ afterSteps s (length (s .lengths)) w₀
+    stopped-at stop =
+        let off : afterSteps s (k + 1) w₀ .number ≡ 0 → ⊥ = λ z. stop (ap (λ (v : Scripted). v .number) told-on ∙ z) in
+        told-on ∙ sym (stays s w₀ (k + 1) (length (s .lengths)) (omega arith) off)
+
+    -- or does not
+    pub one-more : q′ .number ≡ 0 → q′ .at ≡ sumTo (s .lengths) (k + 1) → Ready (q′ .part) (q′ .phase) g′ (length xs) (length rs)
+        → length xs′ ≡ length xs → length rs′ ≡ length rs → length o′ ≡ length o → length n′ ≡ length n → length d′ ≡ length d
+        → Along id s (k + 1) w₀ q′ g′ xs′ rs′ o′ n′ d′
+    one-more go at ready ex er eo en ed =
+        record { told = told-on; within = omega arith; going = go; at = at; ready = rw (ex, er) ready; array = ex ∙ l .array; rows = er ∙ l .rows; output = eo ∙ l .output; answers = en ∙ l .answers; done = ed ∙ l .done }

@@ -1,0 +1,329 @@
+// A whole script in one call: transactions, and ticks after each, on the record that bytes hold. The record is read and judged once;
+// part and phase are carried from step to step and written once, and page data stays where it is.
+ghost use mathlib.Core.Path.{_≡_};
+ghost use mathlib.Core.Bool.{true};
+ghost use Prim.Native.Nat.{_+_, _≤_, _<_};
+ghost use lib.Dec.{eqb, leb};
+ghost use lib.ListN.{length};
+ghost use Rattle.words.specs.Logic.{whenZero};
+ghost use Rattle.words.specs.Lists.{sumTo};
+ghost use Rattle.paper.specs.Soundness.{soundOf};
+ghost use Rattle.paper.specs.Numbers.{laterScriptRefusal};
+ghost use Rattle.paper.specs.Board.{boardOf};
+ghost use Rattle.paper.specs.Script.{stopping, made, afterSteps};
+ghost use Rattle.paper.proofs.Soundness.{recordOf};
+ghost use Rattle.record_bytes.specs.Read.{recordIn};
+ghost use Rattle.script.specs.Steps.{madeOf, world, turned, Ready, Fit};
+ghost use Rattle.script.specs.InBytes.{scriptOf, heldScript, ranOf, scriptBytes};
+use record_bytes::places;
+use types::Identity;
+use types::Part;
+use types::Phase;
+
+// What a script answers: the number that refuses or stops it, 0 where none does, and the step.
+pub struct Ran {
+    pub number: u8,
+    pub step: usize,
+}
+
+// What a step makes of part and phase, its transaction's answer, its ticks done, and the number that stops the script, or 0.
+struct Stepped {
+    part: Part,
+    phase: Phase,
+    answer: u8,
+    done: usize,
+    number: u8,
+}
+
+// What steps carry: part and phase, the number that stops the script, or 0, the step, and where the next one begins.
+struct State {
+    part: Part,
+    phase: Phase,
+    number: u8,
+    step: usize,
+    at: usize,
+}
+
+// The number of a call that stops a script, 1 to 6; 0 for any other.
+fn stopping(number: u8) -> u8
+    ensures { λ r. ⌜ r ≡ stopping number ⌝ }
+{
+    if number <= 6 { number } else { 0 }
+}
+
+// A step on a sound part and its own memory: a transaction, and its ticks after it where it does not stop the script.
+fn step(
+    part: Part,
+    phase: Phase,
+    identity: Identity,
+    page: &mut [u8],
+    array: &mut [u8],
+    rows: &mut [u8],
+    wp: bool,
+    input: &[u8],
+    ticks: usize,
+    output: &mut [u8],
+) -> Stepped
+    requires { ⌜ Ready part phase (now page) (length (now array)) (length (now rows)) ⌝ }
+    ensures made { λ r. ⌜ madeOf identity r (now (page .exit)) (now (array .exit)) (now (rows .exit)) (now (output .exit)) ≡ made wp (now (input .entry)) ticks (boardOf (recordOf identity part phase (now (page .entry))) (now (array .entry)) (now (rows .entry))) (now (output .entry)) ⌝ }
+    ensures ready { λ r. ⌜ Ready (r .part) (r .phase) (now (page .exit)) (length (now (array .entry))) (length (now (rows .entry))) × (r .done ≤ ticks) ⌝ }
+{
+    let sent = transact::transact_part(identity, part, phase, true, array, rows, wp, input, output);
+    let change = sent.change;
+    let next = effects::part_after(change, part);
+    let then = effects::phase_after(change, phase);
+    record_bytes::writing::write_page(effects::data_after(change), input, page);
+    let stop = stopping(sent.number);
+    if stop != 0 {
+        return Stepped {
+            part: next,
+            phase: then,
+            answer: sent.number,
+            done: 0,
+            number: stop,
+        };
+    }
+    let waited = ticks::tick_part(next, then, true, page, array, rows, ticks);
+    let change = waited.change;
+    let none_sent = [0u8; 0];
+    record_bytes::writing::write_page(effects::data_after(change), &none_sent, page);
+    Stepped {
+        part: effects::part_after(change, next),
+        phase: effects::phase_after(change, then),
+        answer: sent.number,
+        done: waited.done,
+        number: waited.number,
+    }
+}
+
+// The step after step k, or step k itself where it stopped the script.
+fn step_after(number: u8, k: usize) -> usize
+    requires { ⌜ k + 1 < 18446744073709551616 ⌝ }
+    ensures { λ r. ⌜ r ≡ whenZero number (k + 1) k ⌝ }
+{
+    if number == 0 { k + 1 } else { k }
+}
+
+// Step k of a script, with its output and its entries written.
+fn turn(
+    state: State,
+    identity: Identity,
+    page: &mut [u8],
+    array: &mut [u8],
+    rows: &mut [u8],
+    wp: bool,
+    input: &[u8],
+    lengths: &[u16],
+    ticks: &[u16],
+    output: &mut [u8],
+    answers: &mut [u8],
+    done: &mut [u16],
+    k: usize,
+) -> State
+    requires { ⌜ Fit (record { wp = wp; input = now input; lengths = now lengths; ticks = now ticks }) (length (now output)) (length (now answers)) (length (now done)) ⌝ }
+    requires { ⌜ (k < length (now lengths)) × (state .at ≡ sumTo (now lengths) k) ⌝ }
+    requires { ⌜ Ready (state .part) (state .phase) (now page) (length (now array)) (length (now rows)) ⌝ }
+    ensures stepped { λ r. ⌜ world identity r (now (page .exit)) (now (array .exit)) (now (rows .exit)) (now (output .exit)) (now (answers .exit)) (now (done .exit)) ≡ turned (record { wp = wp; input = now (input .entry); lengths = now (lengths .entry); ticks = now (ticks .entry) }) k (world identity state (now (page .entry)) (now (array .entry)) (now (rows .entry)) (now (output .entry)) (now (answers .entry)) (now (done .entry))) ⌝ }
+    ensures at { λ r. ⌜ r .at ≡ sumTo (now (lengths .entry)) (k + 1) ⌝ }
+    ensures ready { λ r. ⌜ Ready (r .part) (r .phase) (now (page .exit)) (length (now (array .entry))) (length (now (rows .entry))) ⌝ }
+{
+    let part = state.part;
+    let phase = state.phase;
+    let at = state.at;
+    let end = at + (lengths[k] as usize);
+    let stepped = step(
+        part,
+        phase,
+        identity,
+        page,
+        array,
+        rows,
+        wp,
+        &input[at..end],
+        ticks[k] as usize,
+        &mut output[at..end],
+    );
+    answers[k] = stepped.answer;
+    done[k] = stepped.done as u16;
+    let next = stepped.part;
+    let then = stepped.phase;
+    let number = stepped.number;
+    State {
+        part: next,
+        phase: then,
+        number: number,
+        step: step_after(number, k),
+        at: end,
+    }
+}
+
+// The steps, one after the other, up to and including the one that stops the script.
+fn steps(
+    start: State,
+    identity: Identity,
+    page: &mut [u8],
+    array: &mut [u8],
+    rows: &mut [u8],
+    wp: bool,
+    input: &[u8],
+    lengths: &[u16],
+    ticks: &[u16],
+    output: &mut [u8],
+    answers: &mut [u8],
+    done: &mut [u16],
+) -> State
+    requires { ⌜ Fit (record { wp = wp; input = now input; lengths = now lengths; ticks = now ticks }) (length (now output)) (length (now answers)) (length (now done)) ⌝ }
+    requires { ⌜ (start .at ≡ 0) × (start .number ≡ 0) ⌝ }
+    requires { ⌜ Ready (start .part) (start .phase) (now page) (length (now array)) (length (now rows)) ⌝ }
+    ensures { λ r. ⌜ world identity r (now (page .exit)) (now (array .exit)) (now (rows .exit)) (now (output .exit)) (now (answers .exit)) (now (done .exit)) ≡ afterSteps (record { wp = wp; input = now (input .entry); lengths = now (lengths .entry); ticks = now (ticks .entry) }) (length (now (lengths .entry))) (world identity start (now (page .entry)) (now (array .entry)) (now (rows .entry)) (now (output .entry)) (now (answers .entry)) (now (done .entry))) ⌝ }
+{
+    let mut state = start;
+    let mut k = 0;
+    while k < lengths.len() {
+        state = turn(
+            state,
+            identity,
+            page,
+            array,
+            rows,
+            wp,
+            input,
+            lengths,
+            ticks,
+            output,
+            answers,
+            done,
+            k,
+        );
+        if state.number != 0 {
+            return state;
+        }
+        k += 1;
+    }
+    state
+}
+
+// Whether lengths add up to a total. It takes them off the total, so that no sum can grow too large.
+fn add_up(lengths: &[u16], total: usize) -> bool
+    ensures { λ r. ⌜ r ≡ eqb (sumTo (now (lengths .entry)) (length (now (lengths .entry)))) total ⌝ }
+{
+    let mut left = total;
+    let mut k = 0;
+    while k < lengths.len() {
+        let n = lengths[k] as usize;
+        if left < n {
+            return false;
+        }
+        left -= n;
+        k += 1;
+    }
+    left == 0
+}
+
+// A script's 2, 7, 4 and 5, which go by no size: the lengths of rows, of the other three lists, of input and output.
+fn later_refusal(
+    sound: bool,
+    rows: usize,
+    lengths: &[u16],
+    ticks: usize,
+    answers: usize,
+    done: usize,
+    input: usize,
+    output: usize,
+) -> u8
+    ensures { λ r. ⌜ r ≡ laterScriptRefusal sound rows (now (lengths .entry)) ticks answers done input output ⌝ }
+{
+    let count = lengths.len();
+    let t = ticks == count;
+    let n = answers == count;
+    let d = done == count;
+    let sum = add_up(lengths, input);
+    let lists = words::both(t, words::both(n, words::both(d, sum)));
+    let same = output == input;
+    let n4 = words::number_or(same, 4, words::number_or(sound, 5, 0));
+    refusals::rows_number_or(rows, words::number_or(lists, 7, n4))
+}
+
+// A script on the record that bytes hold, which is written over them. WP# is low for 0 and high for 1. Each step sends as many
+// bytes of input as its length says, into as many bytes of output, and then asks its ticks. It answers the number that stops
+// it, and the step; or 0, and the number of steps. Refused, with 1, 2, 7, 4 or 5, every buffer is as it was. Where the bytes
+// hold no record, 1 is not judged: there is no size.
+pub fn run(
+    bytes: &mut [u8],
+    array: &mut [u8],
+    rows: &mut [u8],
+    wp: u64,
+    input: &[u8],
+    lengths: &[u16],
+    ticks: &[u16],
+    output: &mut [u8],
+    answers: &mut [u8],
+    done: &mut [u16],
+) -> Ran
+    ensures answer { λ r. ⌜ r ≡ ranOf (heldScript (recordIn (now (bytes .entry))) wp (scriptOf wp (now (input .entry)) (now (lengths .entry)) (now (ticks .entry))) (now (array .entry)) (now (rows .entry)) (now (output .entry)) (now (answers .entry)) (now (done .entry))) ⌝ }
+    ensures bytes { λ _. ⌜ now (bytes .exit) ≡ scriptBytes (recordIn (now (bytes .entry))) (heldScript (recordIn (now (bytes .entry))) wp (scriptOf wp (now (input .entry)) (now (lengths .entry)) (now (ticks .entry))) (now (array .entry)) (now (rows .entry)) (now (output .entry)) (now (answers .entry)) (now (done .entry))) (now (bytes .entry)) ⌝ }
+    ensures array { λ _. ⌜ now (array .exit) ≡ heldScript (recordIn (now (bytes .entry))) wp (scriptOf wp (now (input .entry)) (now (lengths .entry)) (now (ticks .entry))) (now (array .entry)) (now (rows .entry)) (now (output .entry)) (now (answers .entry)) (now (done .entry)) .board .array ⌝ }
+    ensures rows { λ _. ⌜ now (rows .exit) ≡ heldScript (recordIn (now (bytes .entry))) wp (scriptOf wp (now (input .entry)) (now (lengths .entry)) (now (ticks .entry))) (now (array .entry)) (now (rows .entry)) (now (output .entry)) (now (answers .entry)) (now (done .entry)) .board .rows ⌝ }
+    ensures output { λ _. ⌜ now (output .exit) ≡ heldScript (recordIn (now (bytes .entry))) wp (scriptOf wp (now (input .entry)) (now (lengths .entry)) (now (ticks .entry))) (now (array .entry)) (now (rows .entry)) (now (output .entry)) (now (answers .entry)) (now (done .entry)) .output ⌝ }
+    ensures answers { λ _. ⌜ now (answers .exit) ≡ heldScript (recordIn (now (bytes .entry))) wp (scriptOf wp (now (input .entry)) (now (lengths .entry)) (now (ticks .entry))) (now (array .entry)) (now (rows .entry)) (now (output .entry)) (now (answers .entry)) (now (done .entry)) .answers ⌝ }
+    ensures done { λ _. ⌜ now (done .exit) ≡ heldScript (recordIn (now (bytes .entry))) wp (scriptOf wp (now (input .entry)) (now (lengths .entry)) (now (ticks .entry))) (now (array .entry)) (now (rows .entry)) (now (output .entry)) (now (answers .entry)) (now (done .entry)) .done ⌝ }
+{
+    let found = record_bytes::reading::read(bytes);
+    let level = wp <= 1;
+    let fit = words::both(found.sound, level);
+    let later = later_refusal(
+        fit,
+        rows.len(),
+        lengths,
+        ticks.len(),
+        answers.len(),
+        done.len(),
+        input.len(),
+        output.len(),
+    );
+    if !found.ok {
+        return Ran {
+            number: later,
+            step: 0,
+        };
+    }
+    let part = found.part;
+    let phase = found.phase;
+    let number = refusals::size_number_or(part.blocks, array.len(), later);
+    if number != 0 {
+        return Ran {
+            number: number,
+            step: 0,
+        };
+    }
+    let identity = record_bytes::reading::identity_in(bytes);
+    let start = State {
+        part: part,
+        phase: phase,
+        number: 0,
+        step: 0,
+        at: 0,
+    };
+    let high = wp == 1;
+    let end = steps(
+        start,
+        identity,
+        &mut bytes[places::PAGE..places::END],
+        array,
+        rows,
+        high,
+        input,
+        lengths,
+        ticks,
+        output,
+        answers,
+        done,
+    );
+    let part = end.part;
+    let phase = end.phase;
+    record_bytes::writing::write_phase(part, phase, bytes);
+    Ran {
+        number: end.number,
+        step: end.step,
+    }
+}
