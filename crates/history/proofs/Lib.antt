@@ -6,3 +6,5 @@ pub mod Contracts
 pub mod Locked
 pub mod Course
 pub mod Joined
+pub mod ScriptSteps
+pub mod Scripts
