@@ -1,4 +1,4 @@
--- Demand 3 from C: a part is powered up by yawlspar_power_up, unrefused, and driven by any calls of yawlspar_transact and yawlspar_tick on its own record's bytes and memory. The bytes then hold the record that the calls tell, every stored byte is what the history says, and what was protected or locked throughout is kept.
+-- Demand 3 from C: a part is powered up by yawlspar_power_up, unrefused, and driven by any calls of yawlspar_transact, yawlspar_tick and yawlspar_script on its own record's bytes and memory. The bytes then hold the record that the calls tell, every stored byte is what the history says, and what was protected or locked throughout is kept.
 use Prim.Native.Nat.{ℕ}
 use mathlib.Core.Path.{_≡_, refl, sym, ap, _∙_}
 use mathlib.Core.List.{List}
@@ -19,7 +19,7 @@ use Rattle.from_c.specs.Driven.{Lent, lent, CCall, callsOf, Driven, pack
 use Rattle.from_c.specs.FromC.{FromC}
 use Rattle.from_c.specs.Holding.{Page, Holding}
 use Rattle.from_c.proofs.Holding.{in-bytes}
-use Rattle.from_c.proofs.Chained.{driven-run}
+use Rattle.from_c.proofs.Chained.{driven-run, driven-heard, plain-heard}
 
 -- the numbers that yawlspar_power_up was given, and the buffer that it was lent
 module _ (q : Asked) (bs : List ℕ) where
@@ -49,6 +49,7 @@ module _ (q : Asked) (bs : List ℕ) where
   pub driven-told : {ds : List CCall} {xs rs : List ℕ} {m : Lent} → powerUpAnswer (length bs) q ≡ 0 → length xs ≡ arrayBytes (q .blocks) → length rs ≡ rowsBytes
       → (chain : Driven (lent (powerUpBytes q bs) xs rs) ds m) → FromC q bs chain
   driven-told {ds} {xs} {rs} {m} z lx lr chain =
-      let l = driven-run chain start (up-holds z xs rs lx lr) in
+      let h = up-holds z xs rs lx lr in
+      let l = driven-run chain start h in
       let sent : PoweredAndSent (q .blocks) (identityOf q) (registersOf q) (callsOf ds start) xs rs (l .next) (m .array) (m .rows) = record { unrefused = up-unrefused z; own-array = lx; own-rows = lr; run = l .run } in
-      record { next = l .next; bytes = l .holding .bytes; in-bytes = in-bytes (l .holding); sent = sent; told = history-told (q .blocks) (identityOf q) (registersOf q) sent; answers = l .heard ∙ ap packedSteps (sym (course-told (l .run))) }
+      record { next = l .next; bytes = l .holding .bytes; in-bytes = in-bytes (l .holding); sent = sent; told = history-told (q .blocks) (identityOf q) (registersOf q) sent; answers = driven-heard chain start h; plain-answers = λ plain. plain-heard chain start h plain ∙ ap packedSteps (sym (course-told (l .run))) }

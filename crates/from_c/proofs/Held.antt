@@ -9,9 +9,12 @@ use Rattle.types.specs.declared.Memory.the-variants.{Array, Rows}
 use Rattle.types.specs.declared.Record.{Record}
 use Rattle.types.specs.declared.Answer.{Answer}
 use Rattle.types.specs.declared.Ticked.{Ticked}
+use Rattle.words.specs.Logic.{_and_}
 use Rattle.words.proofs.Tests.{and-r, and-true}
 use Rattle.paper.specs.Soundness.{sound}
 use Rattle.paper.specs.Calls.{transacted, transactedOutput, ticked, tickedMemory}
+use Rattle.paper.specs.Board.{boardOf}
+use Rattle.paper.specs.Script.{Scripted, scripted}
 use Rattle.paper.proofs.Numbers.{transaction-taken}
 use Rattle.record_bytes.specs.Layout.{recordBytes}
 use Rattle.record_bytes.specs.Read.{held, recordIn, onHeld}
@@ -20,7 +23,8 @@ use Rattle.ticks.proofs.InBytes.{unheld-tick-bytes, unheld-memory}
 use Rattle.yawlspar.specs.Face.{packed, transactAnswer, transactBytes, transactOutput, tickAnswer}
 use Rattle.yawlspar.proofs.Face.{unheld-bytes}
 use Rattle.yawlspar.proofs.Refused.{refused-bytes}
-use Rattle.from_c.specs.Driven.{Lent, lent, CCall, transact, tick, gives}
+use Rattle.yawlspar.specs.InBytes.{scriptOf, heldScript, scriptAnswer}
+use Rattle.from_c.specs.Driven.{Lent, lent, CCall, transact, tick, script, gives}
 
 -- the bytes hold the record p
 module _ (l : Lent) (p : Record) (e : recordIn (l .bytes) ≡ held p) where
@@ -62,10 +66,23 @@ module _ (l : Lent) (p : Record) (e : recordIn (l .bytes) ≡ held p) where
     unfolding onHeld tickMemory
     held-rows = rw e refl
 
+  -- a script
+  module _ (wp : ℕ) (i ls ts o n d : List ℕ) where
+    abbrev pub came : Scripted
+    came = scripted (sound p and leb wp 1) (scriptOf wp i ls ts) (boardOf p (l .array) (l .rows)) o n d
+
+    pub held-script : gives (script wp i ls ts o n d) l ≡ record { answer = scriptAnswer came; buffers = came .output ∷ came .answers ∷ came .done ∷ []; left = lent (recordBytes (came .board .state)) (came .board .array) (came .board .rows) }
+    unfolding onHeld heldScript
+    held-script = rw e refl
+
 -- a transaction whose level is none changes nothing
 pub no-level : (l : Lent) (wp : ℕ) (i o : List ℕ) → leb wp 1 ≡ false → gives (transact wp i o) l .left .bytes ≡ l .bytes
 no-level l wp i o e =
     refused-bytes (l .bytes) (length (l .array)) (length (l .rows)) wp i (length o) (λ z. false≢true (sym e ∙ and-r _ _ (transaction-taken _ _ _ _ _ _ z .is-sound)))
+
+unheld-script : (wp : ℕ) (i ls ts o n d : List ℕ) (l : Lent) → recordIn (l .bytes) .ok ≡ false → gives (script wp i ls ts o n d) l .left ≡ l
+unfolding onHeld heldScript
+unheld-script wp i ls ts o n d l e = rw e refl
 
 -- where the bytes hold no record, no call changes anything
 pub unheld-left : (c : CCall) (l : Lent) → recordIn (l .bytes) .ok ≡ false → gives c l .left ≡ l
@@ -76,3 +93,4 @@ unheld-left (tick n) l e =
     let a = length (l .array) in
     let r = length (l .rows) in
     rw (← unheld-tick-bytes h e a r n (l .bytes), ← unheld-memory h e a r n Array (l .array), ← unheld-memory h e a r n Rows (l .rows)) refl
+unheld-left (script wp i ls ts o n d) l e = unheld-script wp i ls ts o n d l e

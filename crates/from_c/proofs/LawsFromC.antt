@@ -22,7 +22,7 @@ use Rattle.laws.proofs.DriverLaws.{laws}
 use Rattle.from_c.specs.Driven.{Lent, lent, CCall, transact, callOf, callsOf, Driven}
 use Rattle.from_c.specs.Holding.{Holding}
 use Rattle.from_c.specs.LawsFromC.{boardIn, inC, MadeFromC, RestedIn, SameFromC, ErasedFromC, LawsFromC}
-use Rattle.from_c.proofs.Chained.{driven-run}
+use Rattle.from_c.proofs.Chained.{driven-run, driven-heard, plain-heard}
 use Rattle.from_c.proofs.FromC.{up-unrefused, up-holds}
 
 -- a transaction at either level
@@ -41,7 +41,7 @@ in-c (ticks n ∷ cs) p = ap (λ (ds : List Call). ticks n ∷ ds) (in-c cs (rec
 pub made-from-c : (l m : Lent) (p : Record) (cs : List CCall) → Holding l p → (chain : Driven l cs m) → MadeFromC p chain
 made-from-c l m p cs h chain =
     let s = driven-run chain p h in
-    record { next = s .next; holding = s .holding; made = s .run; answers = s .heard }
+    record { next = s .next; holding = s .holding; made = s .run; answers = driven-heard chain p h; plain-answers = plain-heard chain p h }
 
 -- the same board is the same record's bytes, array and rows
 same-lent : (m n : Lent) (q r : Record) → Holding m q → Holding n r → boardIn m q ≡ boardIn n r → m ≡ n

@@ -2,6 +2,7 @@ pub mod Fitting
 pub mod Held
 pub mod Holding
 pub mod Leads
+pub mod ScriptHeard
 pub mod Stands
 pub mod Chains
 pub mod Chained

@@ -15,7 +15,7 @@ use Rattle.types.specs.declared.PoweredUp.{PoweredUp}
 use Rattle.types.specs.declared.Answer.{Answer}
 use Rattle.types.specs.declared.Record.{Record}
 use Rattle.paper.specs.Sizes.{arrayBytes}
-use Rattle.words.proofs.Tests.{and-l}
+use Rattle.words.proofs.Tests.{and-l, and-in}
 use Rattle.paper.specs.Soundness.{sound}
 use Rattle.paper.specs.Numbers.{ignoredNumber}
 use Rattle.paper.specs.Calls.{poweredUp, transacted}
@@ -118,7 +118,7 @@ cut-held m at k h n-is id-is (c.by-reset wp x l chain hears) =
     let made = made-from-c m k at (transact wp (0x99 ∷ []) (x ∷ []) ∷ []) h chain in
     let calls-are = sent-of wp 0x99 x [] at l in
     let run = subst (λ (cs : List Call). Makes (boardIn m at) cs (boardIn k (made .next))) calls-are (made .made) in
-    let told : packed 0 1 ∷ [] ≡ packedSteps (courseOf (reset (eqb wp 1) ∷ []) at (length (m .array)) (length (m .rows))) = sym hears ∙ made .answers ∙ ap (λ (cs : List Call). packedSteps (courseOf cs at (length (m .array)) (length (m .rows)))) calls-are in
+    let told : packed 0 1 ∷ [] ≡ packedSteps (courseOf (reset (eqb wp 1) ∷ []) at (length (m .array)) (length (m .rows))) = sym hears ∙ made .plain-answers (and-in refl refl) ∙ ap (λ (cs : List Call). packedSteps (courseOf cs at (length (m .array)) (length (m .rows)))) calls-are in
     let own : answerTo (boardIn m at) (eqb wp 1) (0x99 ∷ []) 1 ≡ answerToByte (eqb wp 1) 0x99 at = ap (λ (n : ℕ). transacted at n (length (m .rows)) (eqb wp 1) (0x99 ∷ []) 1) (h .array) ∙ ap (λ (n : ℕ). transacted at (arrayBytes (at .part .blocks)) n (eqb wp 1) (0x99 ∷ []) 1) (h .rows) in
     let z = reset-heard at (h .is-sound) (eqb wp 1) (ignoredNumber (Known Reset) (at .part) (at .phase) (0x99 ∷ []) (eqb wp 1)) refl (sym (ap (λ (a : Answer). packed (a .number) (a .first)) own) ∙ sym (ap (λ (ks : List ℕ). getD ks 0 0) told)) in
     record { after = made .next; held = made .holding; board = afterCall (reset (eqb wp 1)) (boardIn m at); is = run-folded run; cut = by-reset (eqb wp 1) (ap (λ (a : Answer). a .number) own ∙ z); registers = refl }

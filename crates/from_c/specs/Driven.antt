@@ -1,17 +1,22 @@
--- What a C program does with a part: chained calls, each lent the record's bytes, the array and the rows as the last one left them. A kind of call is a constructor of CCall, and a clause each of `gives`, `callOf` and `heardOf`.
-use Prim.Native.Nat.{ℕ}
+-- What a C program does with a part: chained calls, each lent the record's bytes, the array and the rows as the last one left them. A kind of call is a constructor of CCall, and a clause each of `gives`, `callOf`, `heardOf`, `toldBy`, `InMemory` and `isPlain`.
+use Prim.Native.Nat.{ℕ, zero, suc, _/_, _%_, _^_, _<_}
 use mathlib.Core.Path.{_≡_}
-use mathlib.Core.Bool.{cond}
+use mathlib.Core.Bool.{Bool, true, false, cond}
 use mathlib.Core.List.{List, [], _∷_, _++_}
 use lib.Dec.{eqb, leb}
-use lib.ListN.{length}
+use lib.ListN.{length, getD}
 use Rattle.types.specs.declared.Memory.the-variants.{Array, Rows}
 use Rattle.types.specs.declared.Record.{Record}
+use Rattle.words.specs.Logic.{_and_}
+use Rattle.paper.specs.Sizes.{arrayBytes, rowsBytes}
+use Rattle.paper.specs.Soundness.{sound}
 use Rattle.paper.specs.History.{Call, transaction, ticks, recordAfterCalls}
-use Rattle.history.specs.Course.{Step, sent, waited}
+use Rattle.paper.specs.Script.{Scripted, scriptCalls}
+use Rattle.history.specs.Course.{Step, sent, waited, courseOf}
 use Rattle.record_bytes.specs.Read.{recordIn}
 use Rattle.ticks.specs.InBytes.{tickBytes, tickMemory}
 use Rattle.yawlspar.specs.Face.{packed, transactAnswer, transactBytes, transactOutput, tickAnswer}
+use Rattle.yawlspar.specs.InBytes.{scriptOf, heldScript, scriptBytes, scriptAnswer}
 
 -- what every call is lent: the record's bytes, the array and the rows
 pub record Lent : Type 0 where
@@ -22,10 +27,12 @@ pub record Lent : Type 0 where
 abbrev pub lent : List ℕ → List ℕ → List ℕ → Lent
 lent bs xs rs = record { bytes = bs; array = xs; rows = rs }
 
--- a call from C: a transaction with the number that stands for the level of WP#, its input, and its output buffer as it is lent; or so many ticks
+-- a call from C: a transaction with the number that stands for the level of WP#, its input, and its output buffer as it is lent; so many ticks;
+-- or a script with that number, its input, its lengths and its tick counts, and as they are lent its output buffer and the lists for the answers and the ticks done
 pub data CCall : Type 0 where
   transact : ℕ → List ℕ → List ℕ → CCall
   tick : ℕ → CCall
+  script : ℕ → List ℕ → List ℕ → List ℕ → List ℕ → List ℕ → List ℕ → CCall
 
 -- what a call gives to C: its answer, the buffers that are its own, in their order, and what every call is lent, all as it leaves them
 pub record Given : Type 0 where
@@ -33,22 +40,44 @@ pub record Given : Type 0 where
   pub buffers : List (List ℕ)
   pub left : Lent
 
+-- what a script gives that comes to w
+abbrev pub scriptGives : Lent → Scripted → Given
+scriptGives l w =
+    record { answer = scriptAnswer w; buffers = w .output ∷ w .answers ∷ w .done ∷ []; left = lent (scriptBytes (recordIn (l .bytes)) w (l .bytes)) (w .board .array) (w .board .rows) }
+
 -- what a call's contract allows it to give
 abbrev pub gives : CCall → Lent → Given
 gives (transact wp i o) l =
     record { answer = transactAnswer (recordIn (l .bytes)) (length (l .array)) (length (l .rows)) wp i (length o); buffers = transactOutput (recordIn (l .bytes)) (l .array) (l .rows) wp i o ∷ []; left = lent (transactBytes (recordIn (l .bytes)) (length (l .array)) (length (l .rows)) wp i (length o) (l .bytes)) (l .array) (l .rows) }
 gives (tick n) l =
     record { answer = tickAnswer (recordIn (l .bytes)) (length (l .array)) (length (l .rows)) n; buffers = []; left = lent (tickBytes (recordIn (l .bytes)) (length (l .array)) (length (l .rows)) n (l .bytes)) (tickMemory Array (recordIn (l .bytes)) (length (l .array)) (length (l .rows)) n (l .array)) (tickMemory Rows (recordIn (l .bytes)) (length (l .array)) (length (l .rows)) n (l .rows)) }
+gives (script wp i ls ts o n d) l = scriptGives l (heldScript (recordIn (l .bytes)) wp (scriptOf wp i ls ts) (l .array) (l .rows) o n d)
 
 -- the calls that it stands for, on a part with the record p: WP# is low for 0 and high for 1; another number is no level, and the part does not see the call
 abbrev pub callOf : CCall → Record → List Call
 callOf (transact wp i o) p = cond (leb wp 1) (transaction (eqb wp 1) i (length o) ∷ []) []
 callOf (tick n) p = ticks n ∷ []
+callOf (script wp i ls ts o n d) p = scriptCalls (sound p and leb wp 1) (scriptOf wp i ls ts) p (length o) (length n) (length d)
 
--- what C hears of the answers of these calls
+-- what C hears of the first k steps of a script, by its lists n and d, where all of them were made whole: of each its answer, and its ticks done with the number 0
+abbrev pub heardWhole : ℕ → List ℕ → List ℕ → List ℕ
+heardWhole zero n d = []
+heardWhole (suc k) n d = heardWhole k n d ++ (getD n k 0 ∷ packed 0 (getD d k 0) ∷ [])
+
+-- and of the entries of the step that a number stopped: by 3 its answer alone, by 6 its ticks done too; any other number refused the script before its first step
+abbrev pub heardStop : ℕ → ℕ → ℕ → List ℕ
+heardStop number answer done =
+    cond (eqb number 3) (answer ∷ []) (cond (eqb number 6) (answer ∷ packed 6 done ∷ []) [])
+
+-- of a script with that number and that step
+abbrev pub heardSteps : ℕ → ℕ → List ℕ → List ℕ → List ℕ
+heardSteps number k n d = heardWhole k n d ++ heardStop number (getD n k 0) (getD d k 0)
+
+-- what C hears of the answers of these calls; of a script by number and step, which its answer holds, and by its two lists
 abbrev pub heardOf : CCall → Given → List ℕ
 heardOf (transact wp i o) g = cond (leb wp 1) (g .answer ∷ []) []
 heardOf (tick n) g = g .answer ∷ []
+heardOf (script wp i ls ts o n d) g = heardSteps (g .answer % 256) (g .answer / 256) (getD (g .buffers) 1 []) (getD (g .buffers) 2 [])
 
 -- the calls that calls from C stand for, from the record p on
 abbrev pub callsOf : List CCall → Record → List Call
@@ -71,8 +100,46 @@ packedSteps [] = []
 packedSteps (sent a ∷ ss) = packed (a .number) (a .first) ∷ packedSteps ss
 packedSteps (waited t us ∷ ss) = packed (t .number) (t .done) ∷ packedSteps ss
 
+-- and what they answer within a script, which does not tell where a transaction is first driven
+abbrev pub scriptSteps : List Step → List ℕ
+scriptSteps [] = []
+scriptSteps (sent a ∷ ss) = a .number ∷ scriptSteps ss
+scriptSteps (waited t us ∷ ss) = packed (t .number) (t .done) ∷ scriptSteps ss
+
+-- what a call from C tells of the course of the calls that it stands for
+abbrev pub toldBy : CCall → List Step → List ℕ
+toldBy (transact wp i o) ss = packedSteps ss
+toldBy (tick n) ss = packedSteps ss
+toldBy (script wp i ls ts o n d) ss = scriptSteps ss
+
+-- the course of calls on a part with its own memory
+abbrev pub ownCourse : List Call → Record → List Step
+ownCourse cs p = courseOf cs p (arrayBytes (p .part .blocks)) rowsBytes
+
+-- what calls from C tell of the part's course, from the record p on
+abbrev pub toldOf : List CCall → Record → List ℕ
+toldOf [] p = []
+toldOf (c ∷ cs) p = toldBy c (ownCourse (callOf c p) p) ++ toldOf cs (recordAfterCalls (callOf c p) p)
+
+-- a script has fewer than 2 ^ 56 steps, so that its answer holds its step: a memory holds no list of so many
+abbrev pub InMemory : CCall → Type 0
+InMemory (transact wp i o) = Unit {0}
+InMemory (tick n) = Unit {0}
+InMemory (script wp i ls ts o n d) = length ls < 2 ^ 56
+
+abbrev pub AllInMemory : List CCall → Type 0
+AllInMemory [] = Unit {0}
+AllInMemory (c ∷ cs) = InMemory c × AllInMemory cs
+
+-- a call that is no script
+abbrev pub isPlain : CCall → Bool
+isPlain (transact wp i o) = true
+isPlain (tick n) = true
+isPlain (script wp i ls ts o n d) = false
+
 -- ABh, then the calls b, 66h, the calls c and 99h, as one-byte transactions with the levels l1, l2 and l3, into buffers that hold x, y and z
+abbrev pub untilFromC : ℕ → ℕ → ℕ → ℕ → List CCall → List CCall → List CCall
+untilFromC l1 l2 x y b c = transact l1 (0xAB ∷ []) (x ∷ []) ∷ (b ++ (transact l2 (0x66 ∷ []) (y ∷ []) ∷ c))
+
 abbrev pub closingFromC : ℕ → ℕ → ℕ → ℕ → ℕ → ℕ → List CCall → List CCall → List CCall
-closingFromC l1 l2 l3 x y z b c =
-    transact l1 (0xAB ∷ []) (x ∷ [])
-    ∷ (b ++ (transact l2 (0x66 ∷ []) (y ∷ []) ∷ (c ++ (transact l3 (0x99 ∷ []) (z ∷ []) ∷ []))))
+closingFromC l1 l2 l3 x y z b c = untilFromC l1 l2 x y b (c ++ (transact l3 (0x99 ∷ []) (z ∷ []) ∷ []))

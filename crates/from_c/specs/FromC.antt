@@ -1,11 +1,12 @@
 -- Demand 3 from C, with the records of its page: what chained calls from C leave of a part that yawlspar_power_up powered up, and what they leave when they end with ABh, 66h and 99h. `Demand3FromC` is all of it.
 use Prim.Native.Nat.{ℕ, _≤_}
 use mathlib.Core.Path.{_≡_}
-use mathlib.Core.Bool.{Bool}
+use mathlib.Core.Bool.{Bool, true}
 use mathlib.Core.List.{List, [], _∷_, _++_}
 use lib.Dec.{eqb}
 use lib.ListN.{length}
 use Rattle.types.specs.declared.Record.{Record}
+use Rattle.words.specs.Lists.{every}
 use Rattle.paper.specs.Sizes.{arrayBytes, rowsBytes}
 use Rattle.paper.specs.History.{Call, recordAfterCall, recordAfterCalls}
 use Rattle.record_bytes.specs.Layout.{recordBytes}
@@ -14,7 +15,7 @@ use Rattle.yawlspar.specs.Face.{packed, Asked, identityOf, registersOf, upOf, p
 use Rattle.history.specs.Course.{course}
 use Rattle.reset.specs.Closing.{wake, untilArmed, poweredAs}
 use Rattle.reset.specs.Demand3.{PoweredAndSent, FromPowerUp, Closes, FreshRun}
-use Rattle.from_c.specs.Driven.{Lent, lent, CCall, callsOf, Driven, heard, packedSteps, closingFromC}
+use Rattle.from_c.specs.Driven.{Lent, lent, CCall, callsOf, Driven, heard, packedSteps, toldOf, AllInMemory, isPlain, closingFromC}
 
 -- answers of which the last is that of an executed transaction
 pub record EndsExecuted (answers : List ℕ) : Type 0 where
@@ -24,14 +25,15 @@ pub record EndsExecuted (answers : List ℕ) : Type 0 where
 
 -- the numbers that yawlspar_power_up was given, and the buffer that it was lent
 module _ (q : Asked) (bs : List ℕ) where
-  -- what calls from C leave: the bytes are those of a record, and hold it; the part was powered up and sent the calls that they stand for, and has that record; every stored byte is what the history says; and C heard what the part answered
+  -- what calls from C leave: the bytes are those of a record, and hold it; the part was powered up and sent the calls that they stand for, and has that record; every stored byte is what the history says; and C heard what its calls tell of the part's course, all of it where none is a script
   pub record FromC {ds : List CCall} {xs rs : List ℕ} {m : Lent} (chain : Driven (lent (powerUpBytes q bs) xs rs) ds m) : Type 0 where
     pub next : Record
     pub bytes : m .bytes ≡ recordBytes next
     pub in-bytes : recordIn (m .bytes) ≡ held next
     pub sent : PoweredAndSent (q .blocks) (identityOf q) (registersOf q) (callsOf ds (upOf q .next)) xs rs next (m .array) (m .rows)
     pub told : FromPowerUp (q .blocks) (identityOf q) (registersOf q) (callsOf ds (upOf q .next)) xs rs next (m .array) (m .rows)
-    pub answers : heard chain ≡ packedSteps (course (sent .run))
+    pub answers : AllInMemory ds → heard chain ≡ toldOf ds (upOf q .next)
+    pub plain-answers : every isPlain ds ≡ true → heard chain ≡ packedSteps (course (sent .run))
 
   -- what calls from C leave that stand for a, ABh, b, 66h, c and 99h: the part is a fresh one; the bytes are those of the record that power-up gives for the same size, identity and stored registers; and 99h, the last, answers 0
   pub record FreshFromC (a : List Call) (w1 w2 w3 : Bool) (b c : List Call) {ds : List CCall} {xs rs : List ℕ} {m : Lent} (chain : Driven (lent (powerUpBytes q bs) xs rs) ds m) : Type 0 where

@@ -1,7 +1,7 @@
--- The laws for the driver team from C: for chained calls of yawlspar_transact and yawlspar_tick that stand for writes, on the bytes of an idle, awake part's record and on memory of its own lengths.
+-- The laws for the driver team from C: for chained calls of yawlspar_transact, yawlspar_tick and yawlspar_script that stand for writes, on the bytes of an idle, awake part's record and on memory of its own lengths.
 use Prim.Native.Nat.{ℕ}
 use mathlib.Core.Path.{_≡_}
-use mathlib.Core.Bool.{false}
+use mathlib.Core.Bool.{true, false}
 use mathlib.Core.List.{List, [], _∷_, _++_}
 use lib.ListN.{length, replicate}
 use Rattle.types.specs.declared.Memory.{Memory}
@@ -9,6 +9,7 @@ use Rattle.types.specs.declared.EraseUnit.{EraseUnit}
 use Rattle.types.specs.declared.Phase.the-variants.{Idle}
 use Rattle.types.specs.declared.Record.{Record}
 use Rattle.words.specs.Logic.{bit}
+use Rattle.words.specs.Lists.{every}
 use Rattle.paper.specs.Sizes.{arrayBytes, rowsBytes}
 use Rattle.paper.specs.Program.{pageBase}
 use Rattle.paper.specs.History.{Call, transaction, ticks, recordAfterCalls}
@@ -17,7 +18,7 @@ use Rattle.yawlspar.specs.Face.{Asked, upOf, powerUpAnswer, powerUpBytes}
 use Rattle.history.specs.Course.{courseOf}
 use Rattle.laws.specs.Writes.{program, erase, Write, steps, Whole, Makes, placeOf}
 use Rattle.laws.specs.DriverLaws.{allSteps, AllWhole, Any, SameEitherWay, SameProgram, Erased}
-use Rattle.from_c.specs.Driven.{Lent, lent, CCall, transact, tick, callsOf, Driven, heard, packedSteps}
+use Rattle.from_c.specs.Driven.{Lent, lent, CCall, transact, tick, callsOf, Driven, heard, packedSteps, toldOf, AllInMemory, isPlain}
 use Rattle.from_c.specs.Holding.{Holding}
 
 -- the part that is lent, with the record p
@@ -30,12 +31,13 @@ inC [] = []
 inC (transaction wp i o ∷ cs) = transact (bit wp) i (replicate o 0) ∷ inC cs
 inC (ticks n ∷ cs) = tick n ∷ inC cs
 
--- what calls from C make of what is lent: what the calls that they stand for make of the part, with the bytes of its record; and C hears what these answer
+-- what calls from C make of what is lent: what the calls that they stand for make of the part, with the bytes of its record; and C hears what it tells of their course, all of it where no call is a script
 pub record MadeFromC (p : Record) {l m : Lent} {cs : List CCall} (chain : Driven l cs m) : Type 0 where
   pub next : Record
   pub holding : Holding m next
   pub made : Makes (boardIn l p) (callsOf cs p) (boardIn m next)
-  pub answers : heard chain ≡ packedSteps (courseOf (callsOf cs p) p (length (l .array)) (length (l .rows)))
+  pub answers : AllInMemory cs → heard chain ≡ toldOf cs p
+  pub plain-answers : every isPlain cs ≡ true → heard chain ≡ packedSteps (courseOf (callsOf cs p) p (length (l .array)) (length (l .rows)))
 
 -- what is lent belongs to an idle, awake part
 pub record RestedIn (l : Lent) (p : Record) : Type 0 where

@@ -76,16 +76,41 @@ last-after : {number : ℕ} (ss ts : List Step) → every goesOn ss ≡ true →
 last-after ss ts h t =
     record { earlier = ss ++ t .earlier; last = t .last; is = ap (λ (us : List Step). ss ++ us) (t .is) ∙ sym (append-assoc ss (t .earlier) (t .last ∷ [])); others = every-both goesOn ss (t .earlier) h (t .others); answered = t .answered }
 
--- a script that is not refused, on a sound part
-module _ (ok : Bool) (s : Script) (b : Board) (o n d : List ℕ) (is-sound : sound (b .state) ≡ true) (z : refusalOf ok s b o n d ≡ 0) where
+-- a script that is not refused, on a sound part, with its output and its lists
+pub record Accepted : Type 0 where
+  pub ok : Bool
+  pub script : Script
+  pub board : Board
+  pub output : List ℕ
+  pub answers : List ℕ
+  pub done : List ℕ
+  pub is-sound : sound (board .state) ≡ true
+  pub unrefused : refusalOf ok script board output answers done ≡ 0
+
+module _ (x : Accepted) where
+  abbrev s : Script
+  s = x .script
+
+  abbrev b : Board
+  b = x .board
+
+  abbrev o : List ℕ
+  o = x .output
+
+  abbrev n : List ℕ
+  n = x .answers
+
+  abbrev d : List ℕ
+  d = x .done
+
   abbrev blocks : ℕ
   blocks = b .state .part .blocks
 
   abbrev steps : ℕ
   steps = length (s .lengths)
 
-  taken : ScriptTaken blocks ok (length (b .array)) (length (b .rows)) (s .lengths) (length (s .ticks)) (length n) (length d) (length (s .input)) (length o)
-  taken = script-taken _ _ _ _ _ _ _ _ _ _ z
+  taken : ScriptTaken blocks (x .ok) (length (b .array)) (length (b .rows)) (s .lengths) (length (s .ticks)) (length n) (length d) (length (s .input)) (length o)
+  taken = script-taken _ _ _ _ _ _ _ _ _ _ (x .unrefused)
 
   -- what its first k steps leave, what stops them, the calls that they make, and the course of these
   abbrev pub after : ℕ → Scripted
@@ -129,7 +154,7 @@ module _ (ok : Bool) (s : Script) (b : Board) (o n d : List ℕ) (is-sound : sou
 
   own-after : (cs : List Call) → Own (afterCalls cs b)
   own-after cs =
-      let t = run-told (run-exists cs b) is-sound (taken .size) (taken .rows) in
+      let t = run-told (run-exists cs b) (x .is-sound) (taken .size) (taken .rows) in
       record { sound-is = t .next-sound; size = t .size; array = t .array-length ∙ taken .size ∙ ap arrayBytes (sym (t .size)); rows = t .rows-length ∙ taken .rows }
 
   -- step k, where nothing stopped the script before it
@@ -281,11 +306,11 @@ module _ (ok : Bool) (s : Script) (b : Board) (o n d : List ℕ) (is-sound : sou
       stopped-then : (j : ℕ) → k < j → Stopped s b o j (course (suc k)) (after (suc k))
       stopped-then j below =
           record {
-            number = subst⁻¹ (λ (x : ℕ). (x ≡ 3) ⊎ (x ≡ 6)) (number-then ∙ made-number) (three-or-six (stepLength s k) blocks ticksAt (λ e. made-stops (made-number ∙ e)));
+            number = subst⁻¹ (λ (j : ℕ). (j ≡ 3) ⊎ (j ≡ 6)) (number-then ∙ made-number) (three-or-six (stepLength s k) blocks ticksAt (λ e. made-stops (made-number ∙ e)));
             step = rw step-then below;
             before = ap stop step-then ∙ g .unstopped;
             here = ap stop (ap (λ (i : ℕ). i + 1) step-then ∙ add-one k) ∙ stop-next ∙ sym number-then;
-            last = subst⁻¹ (λ (x : ℕ). LastStops x (course (suc k))) number-then (subst⁻¹ (LastStops (madeThen .number)) course-next (last-after (course k) courseThen (g .goes) (course-stops course-made)));
+            last = subst⁻¹ (λ (j : ℕ). LastStops j (course (suc k))) number-then (subst⁻¹ (LastStops (madeThen .number)) course-next (last-after (course k) courseThen (g .goes) (course-stops course-made)));
             unwritten = λ e.
                 ap (λ (i : ℕ). drop (stepAt s i) (after (suc k) .output)) step-then
                 ∙ ap (drop (stepAt s k)) (kept-then (sym number-then ∙ e))
@@ -352,7 +377,7 @@ module _ (ok : Bool) (s : Script) (b : Board) (o n d : List ℕ) (is-sound : sou
     halt-told : StepsTold s b o n d k (after (suc (h .at))) (calls (suc (h .at))) (stop (suc (h .at)))
     halt-told =
         told k (suc (h .at)) (written-next (h .at) until goes-until) (made-then (h .at) until goes-until (h .stops)) halt-number (λ e. absurd (h .stops (sym halt-number ∙ e)))
-        (λ x. stopped-then (h .at) until goes-until (h .stops) k (h .below))
+        (λ u. stopped-then (h .at) until goes-until (h .stops) k (h .below))
 
     halted-told : StepsTold s b o n d k (after k) (calls k) (stop k)
     halted-told =
@@ -420,4 +445,5 @@ module _ (ok : Bool) (s : Script) (b : Board) (o n d : List ℕ) (ea : length (b
   )
 
 pub script-laws : ScriptLaws
-script-laws = record { refused = refused-script; taken = taken-script; steps = steps-told }
+script-laws =
+    record { refused = refused-script; taken = taken-script; steps = λ ok s b o n d is-sound z k l. steps-told (record { ok = ok; script = s; board = b; output = o; answers = n; done = d; is-sound = is-sound; unrefused = z }) k l }
