@@ -7,7 +7,7 @@ use mathlib.Core.Logic.{_⊎_, inl, inr}
 use native.Mathlib.Omega.{arith}
 use lib.Dec.{eqb, leb}
 use lib.ListN.{length, getD, take, drop, length-append, length-drop, length-replicate, take-append-drop}
-use lib.Seq.{length-take-le, drop-append-add, drop-at, drop-drop}
+use lib.Seq.{length-take-le, take-append-le, drop-append-le, drop-append-add, take-at, drop-at, drop-drop}
 use borrow.Author.Tests.{eqb-true, eqb-false, leb-true, eq-eqb, ne-eqb}
 use Rattle.types.specs.declared.Addressing.{Addressing}
 use Rattle.types.specs.declared.Answer.{Answer}
@@ -28,7 +28,7 @@ use Rattle.words.proofs.Lists.{length-upTo}
 use Rattle.paper.specs.Sizes.{arrayBytes, rowsBytes, tickLimit}
 use Rattle.paper.specs.Operations.{Touch}
 use Rattle.paper.specs.Soundness.{sound}
-use Rattle.paper.specs.Numbers.{sizeNumber, rowsNumber, lengthNumber, outputNumber, soundNumber, ticksNumber, transactionRefusal, commandNumber, ignoredNumber}
+use Rattle.paper.specs.Numbers.{sizeNumber, rowsNumber, lengthNumber, outputNumber, soundNumber, ticksNumber, transactionRefusal, tickNumber, commandNumber, ignoredNumber}
 use Rattle.paper.specs.Table.{decoded, columns}
 use Rattle.paper.specs.Reads.{undrivenByte, undriven, outputByte, outputOf}
 use Rattle.paper.specs.Calls.{executed, ignored, outcomeTo, outcomeOf, transacted, outputTo, outputAfter, ticked}
@@ -148,6 +148,17 @@ module _ (p : Record) (s : sound p ≡ true) (a r : ℕ) (ea : a ≡ arrayBytes 
   ticks-number : (n : ℕ) → ticked p a r n .number ≡ ticksNumber (p .part .blocks) n
   ticks-number n = ticks-as n (leb n (tickLimit (p .part .blocks))) refl
 
+-- ticks that are refused do nothing
+idle-as : (p : Record) (a r n : ℕ) (t : Bool) → eqb (tickNumber (p .part .blocks) (sound p) a r n) 0 ≡ t → (ticked p a r n .number ≡ 0 → ⊥) → ticked p a r n .done ≡ 0
+unfolding ticked
+idle-as p a r n true e h =
+    let z : ticked p a r n .number ≡ 0 = rw e refl in
+    absurd (h z)
+idle-as p a r n false e h = rw e refl
+
+refused-done : (p : Record) (a r n : ℕ) → (ticked p a r n .number ≡ 0 → ⊥) → ticked p a r n .done ≡ 0
+refused-done p a r n = idle-as p a r n (eqb (tickNumber (p .part .blocks) (sound p) a r n) 0) refl
+
 -- an output is as long as the input, and stays where the transaction is refused
 length-either : (t : Bool) (xs ys : List ℕ) (n : ℕ) → length xs ≡ n → length ys ≡ n → length (cond t xs ys) ≡ n
 length-either true xs ys n e f = e
@@ -222,6 +233,17 @@ module _ (wp : Bool) (i : List ℕ) (t : ℕ) (b : Board) (o : List ℕ) (s : so
   pub step-kept : made wp i t b o .number ≡ 3 → made wp i t b o .output ≡ o
   step-kept = kept-as (eqb (lengthNumber (length o)) 0) refl
 
+  none-as : (u : Bool) → eqb (lengthNumber (length o)) 0 ≡ u → (made wp i t b o .number ≡ 0 → ⊥) → made wp i t b o .done ≡ 0
+  unfolding made
+  none-as true e h =
+      let z : stopping (answer .number) ≡ 0 = answer-stops ∙ eqb-true _ _ e in
+      ap (λ (n : ℕ). whenZero n (ran .done) 0) z
+      ∙ refused-done (answer .next) (length (b .array)) (length (b .rows)) t (λ k. h (step-number ∙ orElse-on _ _ (eqb-true _ _ e) ∙ sym ran-number ∙ k))
+  none-as false e h = ap (λ (u : Bool). cond u (ran .done) 0) (ne-eqb _ _ (λ z. eqb-false _ _ e (sym answer-stops ∙ z)))
+
+  pub step-none : (made wp i t b o .number ≡ 0 → ⊥) → made wp i t b o .done ≡ 0
+  step-none = none-as (eqb (lengthNumber (length o)) 0) refl
+
   course-as : (u : Bool) → eqb (lengthNumber (length o)) 0 ≡ u
       → StepCourse (made wp i t b o) (courseFrom b (transaction wp i (length o) ∷ cond u (ticks t ∷ []) []))
   unfolding made
@@ -278,6 +300,10 @@ course-stops (alone a ea ed en e) = record { earlier = []; last = sent a; is = r
 pub between-length : (at n : ℕ) (xs : List ℕ) → at + n ≤ length xs → length (between at n xs) ≡ n
 between-length at n xs h = length-take-le n (drop at xs) (simp length-drop (omega arith))
 
+between-front : (at n : ℕ) (xs ys : List ℕ) → at + n ≤ length xs → between at n (xs ++ ys) ≡ between at n xs
+between-front at n xs ys h =
+    ap (take n) (drop-append-le at xs ys (omega arith)) ∙ take-append-le n (drop at xs) ys (simp length-drop (omega arith))
+
 module _ (at n : ℕ) (xs : List ℕ) where
   pub put-same : putBetween at n xs (between at n xs) ≡ xs
   put-same = ap (λ (ys : List ℕ). take at xs ++ ys) (take-append-drop n (drop at xs)) ∙ take-append-drop at xs
@@ -294,3 +320,14 @@ module _ (at n : ℕ) (xs : List ℕ) where
         ∙ drop-append-add (take at xs) (ys ++ drop n (drop at xs)) n
         ∙ drop-at ys (drop n (drop at xs)) n e
         ∙ drop-drop n at xs
+
+    pub put-at : between at n (putBetween at n xs ys) ≡ ys
+    put-at =
+        ap (take n) (drop-at (take at xs) (ys ++ drop n (drop at xs)) at (length-take-le at xs (omega arith))) ∙ take-at ys (drop n (drop at xs)) n e
+
+    pub put-before : (i j : ℕ) → i + j ≤ at → between i j (putBetween at n xs ys) ≡ between i j xs
+    put-before i j l =
+        let front : i + j ≤ length (take at xs) = rw (length-take-le at xs (omega arith)) l in
+        between-front i j (take at xs) (ys ++ drop n (drop at xs)) front
+        ∙ sym (between-front i j (take at xs) (drop at xs) front)
+        ∙ ap (between i j) (take-append-drop at xs)

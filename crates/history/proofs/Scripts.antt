@@ -8,24 +8,25 @@ use native.Mathlib.Omega.{arith}
 use native.Mathlib.Numerals.{add-one}
 use lib.Dec.{eqb, leb}
 use lib.ListN.{length, take, drop, getD, length-set}
-use lib.Seq.{drop-drop, drop-set-lt, take-suc-set}
+use lib.Seq.{drop-drop, drop-set-lt, take-suc-set, getD-set-same}
 use borrow.Author.Tests.{eqb-true, eqb-false, leb-true, leb-false, ne-eqb}
 use Rattle.words.specs.Logic.{whenZero, _orElse_}
-use Rattle.words.specs.Lists.{every, sumTo, between}
+use Rattle.words.specs.Lists.{every, sumTo, between, putBetween}
 use Rattle.words.proofs.Tests.{and-l, and-r, unless-zero, orElse-zero, orElse-on, orElse-first}
 use Rattle.words.proofs.Lists.{every-both}
 use Rattle.paper.specs.Sizes.{arrayBytes, rowsBytes}
 use Rattle.paper.specs.Soundness.{sound}
 use Rattle.paper.specs.Numbers.{sizeNumber, rowsNumber, listsNumber, lengthNumber, outputNumber, soundNumber, ticksNumber, laterScriptRefusal, scriptRefusal}
+use Rattle.paper.specs.Calls.{transactedOutput}
 use Rattle.paper.specs.History.{Call}
 use Rattle.paper.specs.Board.{Board, afterCall, afterCalls}
-use Rattle.paper.specs.Script.{Script, Scripted, Made, stepAt, stepLength, madeAt, stepped, afterSteps, unstepped, refusalOf, scripted, stopBefore, callsBefore, scriptCalls}
+use Rattle.paper.specs.Script.{Script, Scripted, Made, made, stepAt, stepLength, madeAt, stepped, afterSteps, unstepped, refusalOf, scripted, stopBefore, callsBefore, scriptCalls}
 use Rattle.history.specs.Run.{Run}
 use Rattle.history.specs.Course.{Step}
-use Rattle.history.specs.ScriptLaws.{goesOn, answersIn, doneIn, LastStops, stepsMade, courseFrom, Stopped, StepsTold, ScriptLaws}
+use Rattle.history.specs.ScriptLaws.{goesOn, answersIn, doneIn, LastStops, stepsMade, courseFrom, boardBefore, stepOutput, Stopped, StepsTold, ScriptLaws}
 use Rattle.history.proofs.Told.{run-told}
 use Rattle.history.proofs.Joined.{run-exists, course-joined}
-use Rattle.history.proofs.ScriptSteps.{ownCalls, StepCourse, three-or-six, step-number, step-board, step-output, step-kept, step-course, course-answers, course-done, answers-append, course-goes, course-stops, between-length, put-same, put-length, put-after}
+use Rattle.history.proofs.ScriptSteps.{ownCalls, StepCourse, three-or-six, step-number, step-board, step-output, step-kept, step-none, step-course, course-answers, course-done, answers-append, course-goes, course-stops, between-length, put-same, put-length, put-after, put-at, put-before}
 
 -- what a script that is not refused may rest on
 record ScriptTaken (b : ℕ) (ok : Bool) (a r : ℕ) (ls : List ℕ) (t n d i o : ℕ) : Type 0 where
@@ -133,6 +134,7 @@ module _ (x : Accepted) where
     done-length : length (after k .done) ≡ length d
     answers : take k (after k .answers) ≡ answersIn (course k)
     done : take k (after k .done) ≡ doneIn (course k)
+    output : (j : ℕ) → j < k → between (stepAt s j) (stepLength s j) (after k .output) ≡ stepOutput s b o j
     later-answers : drop k (after k .answers) ≡ drop k n
     later-done : drop k (after k .done) ≡ drop k d
     later-output : drop (stepAt s k) (after k .output) ≡ drop (stepAt s k) o
@@ -221,6 +223,23 @@ module _ (x : Accepted) where
     made-output : length (madeThen .output) ≡ stepLength s k
     made-output = step-output (s .wp) inputAt ticksAt (after k .board) outputAt (own .sound-is) (own .array) (own .rows) same-length ∙ output-is
 
+    -- its output is that of its transaction, and that of the steps before stays
+    step-written : madeThen .output ≡ stepOutput s b o k
+    unfolding made
+    step-written =
+        ap (λ (c : Board). transactedOutput (c .state) (c .array) (c .rows) (s .wp) inputAt outputAt) (g .written .board)
+        ∙ ap (λ (xs : List ℕ). transactedOutput (boardBefore s b k .state) (boardBefore s b k .array) (boardBefore s b k .rows) (s .wp) inputAt (take (stepLength s k) xs)) (g .written .later-output)
+
+    output-as : (j : ℕ) (t : Bool) → leb (suc j) k ≡ t → j < suc k
+        → between (stepAt s j) (stepLength s j) (putBetween (stepAt s k) (stepLength s k) (after k .output) (madeThen .output)) ≡ stepOutput s b o j
+    output-as j true e u =
+        put-before (stepAt s k) (stepLength s k) (after k .output) (madeThen .output) fits-output made-output (stepAt s j) (stepLength s j) (sum-le (s .lengths) (suc j) k (leb-true _ _ e))
+        ∙ g .written .output j (leb-true _ _ e)
+    output-as j false e u =
+        let v : k < suc j = leb-false _ _ e in
+        let same : j ≡ k = omega arith in
+        rw same (put-at (stepAt s k) (stepLength s k) (after k .output) (madeThen .output) fits-output made-output ∙ step-written)
+
     pub in-answers : k < length (after k .answers)
     in-answers = rw (g .written .answers-length, taken .answers) l
 
@@ -255,6 +274,7 @@ module _ (x : Accepted) where
               ∙ ap (λ (ns : List ℕ). ns ++ (madeThen .done ∷ [])) (g .written .done)
               ∙ sym (course-done (course k) course-made)
               ∙ ap doneIn (sym course-next);
+          output = λ j u. ap (λ (w : Scripted). between (stepAt s j) (stepLength s j) (w .output)) after-next ∙ output-as j (leb (suc j) k) refl u;
           later-answers = ap (λ (w : Scripted). drop (suc k) (w .answers)) after-next
               ∙ drop-set-lt (suc k) (after k .answers) k (madeThen .answer) (omega arith)
               ∙ drop-next k (after k .answers) n (g .written .later-answers);
@@ -303,6 +323,13 @@ module _ (x : Accepted) where
           ap (λ (w : Scripted). w .output) after-next
           ∙ rw (step-kept (s .wp) inputAt ticksAt (after k .board) outputAt (own .sound-is) (own .array) (own .rows) same-length e) (put-same (stepAt s k) (stepLength s k) (after k .output))
 
+      none-then : getD (after (suc k) .done) k 0 ≡ 0
+      unfolding stepped
+      none-then =
+          ap (λ (w : Scripted). getD (w .done) k 0) after-next
+          ∙ getD-set-same (after k .done) k (madeThen .done) 0 in-done
+          ∙ step-none (s .wp) inputAt ticksAt (after k .board) outputAt (own .sound-is) (own .array) (own .rows) same-length made-stops
+
       stopped-then : (j : ℕ) → k < j → Stopped s b o j (course (suc k)) (after (suc k))
       stopped-then j below =
           record {
@@ -311,6 +338,7 @@ module _ (x : Accepted) where
             before = ap stop step-then ∙ g .unstopped;
             here = ap stop (ap (λ (i : ℕ). i + 1) step-then ∙ add-one k) ∙ stop-next ∙ sym number-then;
             last = subst⁻¹ (λ (j : ℕ). LastStops j (course (suc k))) number-then (subst⁻¹ (LastStops (madeThen .number)) course-next (last-after (course k) courseThen (g .goes) (course-stops course-made)));
+            none-done = rw (step-then, none-then) refl;
             unwritten = λ e.
                 ap (λ (i : ℕ). drop (stepAt s i) (after (suc k) .output)) step-then
                 ∙ ap (drop (stepAt s k)) (kept-then (sym number-then ∙ e))
@@ -321,7 +349,7 @@ module _ (x : Accepted) where
   -- the start
   going-none : Going 0
   going-none =
-      record { unstopped = refl; number = refl; step = refl; written = record { board = refl; output-length = refl; answers-length = refl; done-length = refl; answers = refl; done = refl; later-answers = refl; later-done = refl; later-output = refl }; goes = refl }
+      record { unstopped = refl; number = refl; step = refl; written = record { board = refl; output-length = refl; answers-length = refl; done-length = refl; answers = refl; done = refl; output = λ j u. absurd (omega arith); later-answers = refl; later-done = refl; later-output = refl }; goes = refl }
 
   -- as long as nothing stops it, it goes on
   pub going : (k : ℕ) → k ≤ steps → stop k ≡ 0 → Going k
@@ -349,6 +377,7 @@ module _ (x : Accepted) where
           run = subst⁻¹ (λ (c : Board). Run (b .state) (b .array) (b .rows) (calls j) (c .state) (c .array) (c .rows)) (w .board) (run-exists (calls j) b);
           answers = ap (λ (i : ℕ). take i (after j .answers)) made-is ∙ w .answers;
           done = ap (λ (i : ℕ). take i (after j .done)) made-is ∙ w .done;
+          output = λ i u. w .output i (rw (← made-is) u);
           later-answers = ap (λ (i : ℕ). drop i (after j .answers)) made-is ∙ w .later-answers ∙ ap (λ (i : ℕ). drop i n) (sym made-is);
           later-done = ap (λ (i : ℕ). drop i (after j .done)) made-is ∙ w .later-done ∙ ap (λ (i : ℕ). drop i d) (sym made-is);
           later-output = ap (λ (i : ℕ). drop (stepAt s i) (after j .output)) made-is ∙ w .later-output ∙ ap (λ (i : ℕ). drop (stepAt s i) o) (sym made-is);

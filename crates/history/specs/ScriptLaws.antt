@@ -5,14 +5,15 @@ use mathlib.Core.Bool.{Bool, true}
 use mathlib.Core.List.{List, [], _∷_, _++_}
 use mathlib.Core.Logic.{_⊎_}
 use lib.Dec.{eqb}
-use lib.ListN.{length, take, drop}
+use lib.ListN.{length, take, drop, getD}
 use Rattle.words.specs.Logic.{whenZero}
-use Rattle.words.specs.Lists.{every}
+use Rattle.words.specs.Lists.{every, between}
 use Rattle.paper.specs.Sizes.{arrayBytes, rowsBytes}
 use Rattle.paper.specs.Soundness.{sound}
+use Rattle.paper.specs.Calls.{transactedOutput}
 use Rattle.paper.specs.History.{Call}
 use Rattle.paper.specs.Board.{Board, afterCalls}
-use Rattle.paper.specs.Script.{Script, Scripted, stopping, stepAt, afterSteps, unstepped, refusalOf, scripted, stopBefore, callsBefore, scriptCalls}
+use Rattle.paper.specs.Script.{Script, Scripted, stopping, stepAt, stepLength, afterSteps, unstepped, refusalOf, scripted, stopBefore, callsBefore, scriptCalls}
 use Rattle.history.specs.Run.{Run}
 use Rattle.history.specs.Course.{Step, sent, waited, courseOf}
 
@@ -59,6 +60,14 @@ stepsMade w = whenZero (w .number) (w .step) (w .step + 1)
 abbrev pub courseFrom : Board → List Call → List Step
 courseFrom b cs = courseOf cs (b .state) (length (b .array)) (length (b .rows))
 
+-- the board that the steps before step j lead to, and what the transaction of step j makes there of its bytes of the output o
+abbrev pub boardBefore : Script → Board → ℕ → Board
+boardBefore s b j = afterCalls (callsBefore s (b .state .part .blocks) j) b
+
+abbrev pub stepOutput : Script → Board → List ℕ → ℕ → List ℕ
+stepOutput s b o j =
+    transactedOutput (boardBefore s b j .state) (boardBefore s b j .array) (boardBefore s b j .rows) (s .wp) (between (stepAt s j) (stepLength s j) (s .input)) (between (stepAt s j) (stepLength s j) o)
+
 -- a script on the board b, with an output o, that left w when it stopped within its first k steps; ss is the course of its calls
 pub record Stopped (s : Script) (b : Board) (o : List ℕ) (k : ℕ) (ss : List Step) (w : Scripted) : Type 0 where
   -- only 3 and 6 stop it
@@ -69,7 +78,8 @@ pub record Stopped (s : Script) (b : Board) (o : List ℕ) (k : ℕ) (ss : List 
   pub here : stopBefore s (b .state .part .blocks) (w .step + 1) ≡ w .number
   -- by its last call, which alone answers 1 to 6
   pub last : LastStops (w .number) ss
-  -- a transaction that stops it writes no output
+  -- with 0 ticks done; and a transaction that stops it writes no output
+  pub none-done : getD (w .done) (w .step) 0 ≡ 0
   pub unwritten : w .number ≡ 3 → drop (stepAt s (w .step)) (w .output) ≡ drop (stepAt s (w .step)) o
 
 -- the first k steps of a script on the board b, with an output and two lists o, n and d, left w; cs are the calls that they made, and number is the one that stopped it, or 0
@@ -82,6 +92,8 @@ pub record StepsTold (s : Script) (b : Board) (o n d : List ℕ) (k : ℕ) (w : 
   -- each step that was made has its transaction's answer, and the ticks done of its tick call, 0 where it had none
   pub answers : take (stepsMade w) (w .answers) ≡ answersIn (courseFrom b cs)
   pub done : take (stepsMade w) (w .done) ≡ doneIn (courseFrom b cs)
+  -- and its transaction's output
+  pub output : (j : ℕ) → j < stepsMade w → between (stepAt s j) (stepLength s j) (w .output) ≡ stepOutput s b o j
   -- entries and output of all other steps are as they were
   pub later-answers : drop (stepsMade w) (w .answers) ≡ drop (stepsMade w) n
   pub later-done : drop (stepsMade w) (w .done) ≡ drop (stepsMade w) d
