@@ -1,4 +1,4 @@
--- Chained calls from C are made of calls: what the contracts of yawlspar_transact, yawlspar_tick and yawlspar_power_up allow are their steps and their start.
+-- Chained calls from C are made of calls: what the contracts of yawlspar_transact, yawlspar_tick, yawlspar_script and yawlspar_power_up allow are their steps and their start.
 use mathlib.Core.Path.{_≡_, refl}
 use mathlib.Core.List.{List, [], _∷_}
 use lib.ListN.{length}
@@ -8,7 +8,8 @@ use Rattle.yawlspar.specs.Face.{asked, powerUpAnswer, powerUpBytes}
 use Rattle.yawlspar.proofs.yawlspar_power_up.Reads as yawlspar-power-up
 use Rattle.yawlspar.proofs.yawlspar_transact.Reads as yawlspar-transact
 use Rattle.yawlspar.proofs.yawlspar_tick.Reads as yawlspar-tick
-use Rattle.from_c.specs.Driven.{Lent, lent, CCall, transact, tick, Driven, calls}
+use Rattle.yawlspar.proofs.yawlspar_script.Reads as yawlspar-script
+use Rattle.from_c.specs.Driven.{Lent, lent, CCall, transact, tick, script, Driven, calls}
 
 -- bytes, array, rows, level, input and output are a call's arguments
 pub transact-drives : Follows yawlspar-transact.Learnt (λ κ a x s.
@@ -25,6 +26,15 @@ pub tick-drives : Follows yawlspar-tick.Learnt (λ κ a x s.
 tick-drives κ a x s l cs m r =
     calls {l = lent (now (a .0)) (now (a .1 .0)) (now (a .1 .1 .0))} {c = tick (a .1 .1 .1 .0)} (record { answer = x; buffers = []; left = lent (now (s .0)) (now (s .1 .0)) (now (s .1 .1 .0)) })
     (rw (l .0, l .1 .0, l .1 .1 .0, l .1 .1 .1) refl) r
+
+-- bytes, array, rows, level, input, lengths, tick counts, output, answers and ticks done are
+pub script-drives : Follows yawlspar-script.Learnt (λ κ a x s.
+    (cs : List CCall) (m : Lent) → Driven (lent (now (s .0)) (now (s .1 .0)) (now (s .1 .1 .0))) cs m
+    → Driven (lent (now (a .0)) (now (a .1 .0)) (now (a .1 .1 .0))) (script (a .1 .1 .1 .0) (now (a .1 .1 .1 .1 .0)) (now (a .1 .1 .1 .1 .1 .0)) (now (a .1 .1 .1 .1 .1 .1 .0)) (now (a .1 .1 .1 .1 .1 .1 .1 .0)) (now (a .1 .1 .1 .1 .1 .1 .1 .1 .0)) (now (a .1 .1 .1 .1 .1 .1 .1 .1 .1 .0)) ∷ cs) m)
+script-drives κ a x s l cs m r =
+    calls {l = lent (now (a .0)) (now (a .1 .0)) (now (a .1 .1 .0))} {c = script (a .1 .1 .1 .0) (now (a .1 .1 .1 .1 .0)) (now (a .1 .1 .1 .1 .1 .0)) (now (a .1 .1 .1 .1 .1 .1 .0)) (now (a .1 .1 .1 .1 .1 .1 .1 .0)) (now (a .1 .1 .1 .1 .1 .1 .1 .1 .0)) (now (a .1 .1 .1 .1 .1 .1 .1 .1 .1 .0))}
+    (record { answer = x; buffers = now (s .1 .1 .1 .1 .1 .1 .1 .0) ∷ now (s .1 .1 .1 .1 .1 .1 .1 .1 .0) ∷ now (s .1 .1 .1 .1 .1 .1 .1 .1 .1 .0) ∷ []; left = lent (now (s .0)) (now (s .1 .0)) (now (s .1 .1 .0)) })
+    (rw (l .0, l .1 .0, l .1 .1 .0, l .1 .1 .1 .0, l .1 .1 .1 .1 .0, l .1 .1 .1 .1 .1 .0, l .1 .1 .1 .1 .1 .1) refl) r
 
 -- bytes, blocks, maker, kind, capacity, device, status, function and extended are
 pub power-up-drives : Follows yawlspar-power-up.Learnt (λ κ a x s.

@@ -20,10 +20,10 @@ use Rattle.record_bytes.specs.Layout.{recordBytes}
 use Rattle.record_bytes.specs.Read.{held, recordIn, onHeld}
 use Rattle.ticks.specs.InBytes.{heldWorked, tickBytes, tickMemory}
 use Rattle.ticks.proofs.InBytes.{unheld-tick-bytes, unheld-memory}
-use Rattle.yawlspar.specs.Face.{packed, transactAnswer, transactBytes, transactOutput, tickAnswer}
+use Rattle.yawlspar.specs.Face.{packed, transactAnswer, transactBytes, transactOutput, tickAnswer, scriptAnswer}
 use Rattle.yawlspar.proofs.Face.{unheld-bytes}
 use Rattle.yawlspar.proofs.Refused.{refused-bytes}
-use Rattle.yawlspar.specs.InBytes.{scriptOf, heldScript, scriptAnswer}
+use Rattle.script.specs.InBytes.{scriptOf, heldScript}
 use Rattle.from_c.specs.Driven.{Lent, lent, CCall, transact, tick, script, gives}
 
 -- the bytes hold the record p

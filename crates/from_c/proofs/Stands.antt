@@ -17,7 +17,7 @@ use Rattle.paper.specs.Script.{Script, Scripted, afterSteps, unstepped, refusal
 use Rattle.history.specs.Run.{Run, done, sends, waits}
 use Rattle.history.specs.Course.{courseOf}
 use Rattle.history.proofs.Scripts.{script-laws}
-use Rattle.yawlspar.specs.InBytes.{scriptOf}
+use Rattle.script.specs.InBytes.{scriptOf}
 use Rattle.from_c.specs.Driven.{Lent, CCall, transact, tick, script, Given, gives, callOf, heardOf, toldBy, InMemory}
 use Rattle.from_c.proofs.Held.{held-answer, held-transacted, held-ticks-answer, held-ticked, held-array, held-rows, came, held-script, no-level}
 use Rattle.from_c.specs.Holding.{Holding}

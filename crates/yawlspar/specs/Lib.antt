@@ -1,3 +1,2 @@
 pub mod Face
 pub mod Version
-pub mod InBytes

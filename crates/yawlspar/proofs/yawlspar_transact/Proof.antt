@@ -4,7 +4,6 @@ use denote.Ref.{now}
 use borrow.Author.Tests.{not-true, not-false}
 use Rattle.record_bytes.specs.declared.Found.{Found}
 use Rattle.record_bytes.specs.Read.{recordIn}
-use Rattle.record_bytes.proofs.Back.{held-length}
 use Rattle.yawlspar.proofs.Face.{unheld-answer, unheld-bytes, unheld-output, told-answer, told-bytes, told-output}
 use Rattle.yawlspar.proofs.FirstPlace.{first-packs}
 use borrow.Author.Needs.{needs}
@@ -31,7 +30,7 @@ returns c =
     (c .pack .ensures ∙ rw l (unheld-answer h n _ _ _ _ _), (unheld-bytes h n _ _ _ _ _ _, unheld-output h n _ _ _ _ _))
 
 identity-in-requires : tie.Need-identity-in-requires
-identity-in-requires c κs = held-length (now (c .before .before .before .before .before .before .before .before .before .before .before .args .bytes)) (ap (λ (x : Found). x .ok) (sym (c .before .before .before .before .read .ensures)) ∙ not-false _ (c .before .before .if1 .left))
+identity-in-requires c κs = search needs
 
 both-requires : tie.Need-both-requires
 both-requires c κs = search needs
