@@ -11,7 +11,8 @@ use Rattle.history.specs.Run.{Run}
 use Rattle.history.proofs.Told.{run-told}
 use Rattle.from_c.specs.Driven.{Lent}
 use Rattle.from_c.specs.Holding.{Page, Holding}
-use Rattle.from_c.proofs.Fitting.{sound-fits, calls-page}
+use Rattle.record_bytes.proofs.Fits.{sound-fits}
+use Rattle.from_c.proofs.Fitting.{calls-page}
 
 -- the record is read back from them
 pub in-bytes : {l : Lent} {p : Record} → Holding l p → recordIn (l .bytes) ≡ held p

@@ -257,6 +257,9 @@ module _ (bs : List ℕ) (l : length bs ≡ recordLength) (low : (j : ℕ) → g
   none-at : (at : ℕ) → byte at ≡ 0 → NoWork ≡ workAt bs at
   none-at at e = no-work (cellsIn (operationAt bs at)) (kind-at at ∙ e)
 
+  pub idle-phase : byte runningAt ≡ 0 → byte haltedAt ≡ 0 → Idle ≡ phaseIn bs
+  idle-phase r h = rw (← none-at runningAt r, ← none-at haltedAt h)
+
   -- bytes in which a mark is none hold no record
   pub unmarked : marksIn bs ≡ false → holds bs ≡ false
   unfolding _and_
@@ -270,9 +273,6 @@ module _ (bs : List ℕ) (l : length bs ≡ recordLength) (low : (j : ℕ) → g
 
     -- of an idle part: that the cells are those of no operation
     module _ (r : byte runningAt ≡ 0) (h : byte haltedAt ≡ 0) where
-      pub idle-phase : Idle ≡ phaseIn bs
-      idle-phase = rw (← none-at runningAt r, ← none-at haltedAt h)
-
       own-none : (at : ℕ) → byte at ≡ 0 → (c : Cells) → c ≡ cellsIn (operationAt bs at) → (t : Bool) → t ≡ sameCells (workCells NoWork) c → ownCells bs at ≡ t
       unfolding ownCells
       own-none at e c ec t et = rw (← none-at at e, ← ec, et)

@@ -6,6 +6,7 @@ use mathlib.Core.List.{List, [], _∷_}
 use lib.Dec.{eqb, leb}
 use lib.ListN.{length, getD, take, drop}
 use Rattle.types.specs.declared.Phase.{Phase}
+use Rattle.types.specs.declared.Phase.the-variants.{Idle}
 use Rattle.types.specs.declared.Work.{Work}
 use Rattle.types.specs.declared.Identity.{Identity}
 use Rattle.types.specs.declared.Stored.{Stored}
@@ -99,6 +100,13 @@ held p = record { ok = true; state = p }
 -- the record that bytes hold, or none
 unfoldable pub recordIn : List ℕ → Held
 recordIn bs = cond (holds bs) (held (fieldsIn bs)) nothing
+
+-- the part and the phase of bytes that were judged before, read again without judging; of bytes of another length those of a refused power-up
+unfoldable pub partAgain : List ℕ → Part
+partAgain bs = cond (eqb (length bs) recordLength) (partIn bs) (zeroRecord .part)
+
+unfoldable pub phaseAgain : List ℕ → Phase
+phaseAgain bs = cond (eqb (length bs) recordLength) (phaseIn bs) Idle
 
 -- what a call makes of bytes that hold a record, and of bytes that hold none
 unfoldable pub onHeld : {A : Type 0} → Held → (Record → A) → A → A

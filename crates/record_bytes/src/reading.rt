@@ -5,7 +5,7 @@ ghost use Rattle.types.specs.declared.Work.the-variants.{NoWork};
 ghost use Rattle.paper.specs.Address.{highFirst};
 ghost use Rattle.cells.specs.Operations.{workCells, sameCells};
 ghost use Rattle.record_bytes.specs.Layout.{operationLength, recordLength};
-ghost use Rattle.record_bytes.specs.Read.{marksIn, cellsIn, storedOf, partIn, identityIn, doingIn, nothing, recordIn, found};
+ghost use Rattle.record_bytes.specs.Read.{marksIn, cellsIn, storedOf, partIn, identityIn, doingIn, nothing, recordIn, found, partAgain, phaseAgain};
 use crate::Doing;
 use crate::Found;
 use crate::places;
@@ -217,4 +217,32 @@ pub fn read(bytes: &[u8]) -> Found
         };
     }
     none_found()
+}
+
+// The part that bytes hold, read again without judging it: of bytes that held a record when they were read, and that only
+// changes were written over since. Bytes of another length give that of a refused power-up.
+pub fn part_again(bytes: &[u8]) -> Part
+    ensures { λ r. ⌜ r ≡ partAgain (now (bytes .entry)) ⌝ }
+{
+    if bytes.len() != places::END {
+        let none = none_found();
+        return none.part;
+    }
+    part_in(bytes)
+}
+
+// The phase that they hold, in the same way. An idle part is told by its two kinds alone.
+pub fn phase_again(bytes: &[u8]) -> Phase
+    ensures { λ r. ⌜ r ≡ phaseAgain (now (bytes .entry)) ⌝ }
+{
+    if bytes.len() != places::END {
+        return Phase::Idle;
+    }
+    let runs = bytes[places::RUNNING] != 0;
+    let stands = bytes[places::HALTED] != 0;
+    if words::both(!runs, !stands) {
+        return Phase::Idle;
+    }
+    let doing = doing_in(bytes);
+    doing.phase
 }

@@ -3,6 +3,7 @@ ghost use mathlib.Core.Path.{_≡_};
 ghost use mathlib.Core.List.{_++_};
 ghost use lib.ListN.{length, drop};
 ghost use Rattle.types.specs.declared.Phase.the-variants.{Idle};
+ghost use Rattle.types.specs.declared.Change.the-variants.{Runs};
 ghost use Rattle.paper.specs.Program.{noData};
 ghost use Rattle.paper.proofs.Soundness.{recordOf};
 ghost use Rattle.address.specs.Bytes.{highFirstBytes};
@@ -181,6 +182,18 @@ pub fn write_page(becomes: Data, input: &[u8], page: &mut [u8])
     }
 }
 
+// A part with other work running, and page data after a call with an input, written over a record's bytes. What is suspended
+// stays. A buffer of another length is left as it is.
+pub fn write_runs(part: Part, becomes: Data, work: Work, input: &[u8], bytes: &mut [u8])
+    ensures { λ _. ⌜ now (bytes .exit) ≡ changeWritten (Runs part becomes work) (now (input .entry)) (now (bytes .entry)) ⌝ }
+{
+    if bytes.len() != places::END {
+        return;
+    }
+    write_running(part, work, bytes);
+    write_page(becomes, input, &mut bytes[places::PAGE..places::END]);
+}
+
 // What a call with an input makes of a record, written over the record's bytes. A buffer of another length is left as it is.
 pub fn write_change(change: Change, input: &[u8], bytes: &mut [u8])
     ensures { λ _. ⌜ now (bytes .exit) ≡ changeWritten change (now (input .entry)) (now (bytes .entry)) ⌝ }
@@ -198,10 +211,7 @@ pub fn write_change(change: Change, input: &[u8], bytes: &mut [u8])
             bytes[places::LIVE] = live;
         }
         Change::Anew(part) => write_part(part, bytes),
-        Change::Runs(part, becomes, work) => {
-            write_running(part, work, bytes);
-            write_page(becomes, input, &mut bytes[places::PAGE..places::END]);
-        }
+        Change::Runs(part, becomes, work) => write_runs(part, becomes, work, input, bytes),
         Change::Halts(part) => write_halted(part, bytes),
         Change::GoesOn(part) => write_resumed(part, bytes),
         Change::Clears(part) => write_cleared(part, bytes),

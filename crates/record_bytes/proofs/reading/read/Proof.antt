@@ -110,7 +110,7 @@ returns-3 c =
     let k = c .before .before .before .before .before .before .is-none2 in
     let i = idle-held bs l low m r h (x .result) (y .result) (x .ensures) (y .ensures) (n .result) (k .result) (n .ensures) (k .ensures) ∙ sym (c .before .before .before .before .before .both2 .ensures) in
     let s = idle-judged _ _ _ _ _ (lent-page bs l low) (c .before .before .zero-from .ensures) (c .is-sound-idle .ensures) in
-    found-some bs _ Idle _ (i ∙ c .before .before .before .before .if4 .taken) (c .before .part-in .ensures) (idle-phase bs l low m r h) s
+    found-some bs _ Idle _ (i ∙ c .before .before .before .before .if4 .taken) (c .before .part-in .ensures) (idle-phase bs l low r h) s
 
 none-found-requires-3 : tie.Need-none-found-requires-3
 none-found-requires-3 c κs = search needs

@@ -1,10 +1,6 @@
--- `record_bytes::writing::write_change` meets its contract: an arm for each change; where other work runs, page data stands behind the header and becomes there what it becomes.
-use Rattle.record_bytes.proofs.Laid.{running-header-length, page-room, page-there, page-laid}
-use Rattle.record_bytes.proofs.Changed.{page-written}
-use Rattle.record_bytes.specs.Layout.{headerRunning, changeWritten}
+-- `record_bytes::writing::write_change` meets its contract: an arm for each change; a buffer of another length is left.
+use Rattle.record_bytes.specs.Layout.{changeWritten}
 use borrow.Author.Tests.{eq-eqb, ne-eqb}
-use denote.Ref.{now}
-use mathlib.Core.Path.{_∙_}
 use borrow.Author.Needs.{needs}
 use Rattle.record_bytes.proofs.writing.write_change.Statement.{statement}
 use Rattle.record_bytes.proofs.writing.write_change.Tie as tie
@@ -43,20 +39,8 @@ write-part-requires c κs = search needs
 enum-known-change-4 : tie.Need-enum-known-change-4
 enum-known-change-4 c = search needs
 
-write-running-requires : tie.Need-write-running-requires
-write-running-requires c κs = search needs
-
-sub-write-page : tie.Need-sub-write-page
-sub-write-page c = search needs
-
-part-write-page-start : tie.Need-part-write-page-start
-part-write-page-start c = search needs
-
-part-write-page-end : tie.Need-part-write-page-end
-part-write-page-end c = search needs
-
-write-page-requires : tie.Need-write-page-requires
-write-page-requires c κs = search needs
+write-runs-requires : tie.Need-write-runs-requires
+write-runs-requires c κs = search needs
 
 enum-known-change-5 : tie.Need-enum-known-change-5
 enum-known-change-5 c = search needs
@@ -105,15 +89,7 @@ same-length-4 : tie.Need-same-length-4
 same-length-4 c = search needs
 
 returns-6 : tie.Need-returns-6
-unfolding changeWritten
-returns-6 c =
-    let bs = now (c .before .before .before .before .before .before .before .before .before .before .before .before .before .before .args .bytes) in
-    let l = c .before .before .before .before .before .before .before .before .before .before .before .if1 .left in
-    let h = c .before .before .before .before .before .before .write-running .ensures in
-    let v = c .before .before .before .before .before .before .before .before .before .change4 .given .0 in
-    let q = headerRunning (v .0) (v .1 .1 .0) bs in
-    let lq = running-header-length bs l (v .0) (v .1 .1 .0) in
-    rw (c .before .before .before .before .before .before .before .before .before .change4 .given .1, eq-eqb _ _ l) (page-laid bs q _ lq l h _ _ (rw (page-there bs q _ lq l h) at (c .before .before .write-page .ensures ∙ page-written _ _ _ (page-room bs q _ lq l h))))
+returns-6 c = rw (c .before .before .before .before .before .change4 .given .1) (c .before .before .write-runs .ensures)
 
 same-length-5 : tie.Need-same-length-5
 same-length-5 c = search needs
@@ -151,11 +127,7 @@ write-change-spec =
     enum-known-change-3
     write-part-requires
     enum-known-change-4
-    write-running-requires
-    sub-write-page
-    part-write-page-start
-    part-write-page-end
-    write-page-requires
+    write-runs-requires
     enum-known-change-5
     write-halted-requires
     enum-known-change-6
