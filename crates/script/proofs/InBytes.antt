@@ -2,25 +2,22 @@
 use Prim.Native.Nat.{ℕ}
 use mathlib.Core.Path.{_≡_, refl, sym, ap, _∙_}
 use mathlib.Core.Bool.{Bool, true, false}
-use mathlib.Core.List.{List, _++_}
+use mathlib.Core.List.{List}
 use borrow.Author.Tests.{eqb-true, eq-eqb, ne-eqb}
 use lib.Dec.{eqb, leb}
-use lib.ListN.{length, take, drop}
-use Rattle.types.specs.declared.Identity.{Identity}
+use lib.ListN.{length}
 use Rattle.types.specs.declared.Record.{Record}
 use Rattle.words.specs.Logic.{_and_, _orElse_}
 use Rattle.words.proofs.Tests.{and-l, and-r, unless-zero, orElse-zero}
-use Rattle.paper.specs.Sizes.{arrayBytes, rowsBytes, pageBytes}
-use Rattle.paper.specs.Soundness.{sound, soundOf}
+use Rattle.paper.specs.Sizes.{arrayBytes}
+use Rattle.paper.specs.Soundness.{sound}
 use Rattle.paper.specs.Numbers.{sizeNumber, rowsNumber, listsNumber, outputNumber, soundNumber, laterScriptRefusal, scriptRefusal}
-use Rattle.paper.specs.Board.{Board, boardOf}
+use Rattle.paper.specs.Board.{boardOf}
 use Rattle.paper.specs.Script.{Script, Scripted, afterSteps, unstepped, scripted}
-use Rattle.paper.proofs.Soundness.{recordOf}
 use Rattle.record_bytes.specs.declared.Found.{Found}
-use Rattle.record_bytes.specs.Layout.{headerLength, recordBytes, phaseWritten}
-use Rattle.record_bytes.specs.Read.{recordIn, identityIn, found}
-use Rattle.record_bytes.proofs.Back.{lent-length, held-bytes, held-page, held-identity, found-sound, on-none, on-held}
-use Rattle.record_bytes.proofs.Changed.{phase-written}
+use Rattle.record_bytes.specs.Layout.{recordBytes}
+use Rattle.record_bytes.specs.Read.{recordIn, found}
+use Rattle.record_bytes.proofs.Back.{held-bytes, found-sound, on-none, on-held}
 use Rattle.script.specs.declared.Ran.{Ran}
 use Rattle.script.specs.declared.State.{State}
 use Rattle.script.specs.Steps.{world, Ready, Fit}
@@ -96,9 +93,6 @@ module _ (bs : List ℕ) (x : Found) (ex : x ≡ found (recordIn bs)) (wp : ℕ)
 
       -- or not: what the steps find
       module _ (z : number ≡ 0) where
-        abbrev lent : List ℕ
-        lent = take pageBytes (drop headerLength bs)
-
         first-zero : sizeNumber (x .part .blocks) (length xs) ≡ 0
         first-zero = orElse-zero _ _ z .0
 
@@ -126,32 +120,22 @@ module _ (bs : List ℕ) (x : Found) (ex : x ≡ found (recordIn bs)) (wp : ℕ)
             let v = and-r _ _ u in
             record { ticks = eqb-true _ _ (and-l _ _ t); answers = eqb-true _ _ (and-l _ _ u); done = eqb-true _ _ (and-l _ _ v); output = eqb-true _ _ (unless-zero _ 3 output-zero); sum = eqb-true _ _ (and-r _ _ v) }
 
-        pub begins-ready : Ready (x .part) (x .phase) lent (length xs) (length rs)
+        pub begins-ready : Ready bs (length xs) (length rs)
         unfolding sizeNumber rowsNumber soundNumber
         begins-ready =
             let fits = sym ef ∙ unless-zero _ 4 sound-zero in
-            record { is-sound = rw (ex, held-page bs e) (sym (found-sound bs e x ex) ∙ and-l _ _ fits); page = lent-length bs e; array = eqb-true _ _ (and-r _ _ (unless-zero _ 0 first-zero)); rows = eqb-true _ _ (unless-zero _ 1 rows-zero) }
+            let size = eqb-true _ _ (and-r _ _ (unless-zero _ 0 first-zero)) in
+            record { ok = e; is-sound = sym (found-sound bs e x ex) ∙ and-l _ _ fits; array = size ∙ ap (λ (y : Found). arrayBytes (y .part .blocks)) ex; rows = eqb-true _ _ (unless-zero _ 1 rows-zero) }
 
-        -- and what they leave, from the state q on to the state r
+        -- and what they leave, from the first state on to the state r
         abbrev start : State
-        start = record { part = x .part; phase = x .phase; number = 0; step = 0; at = 0 }
+        start = record { number = 0; step = 0; at = 0 }
 
-        module _ (id : Identity) (eid : id ≡ identityIn bs) (r : State) (g′ xs′ rs′ o′ n′ d′ : List ℕ) (er : world id r g′ xs′ rs′ o′ n′ d′ ≡ afterSteps s (length (s .lengths)) (world id start lent xs rs o n d)) where
-          own-identity : id ≡ held .identity
-          own-identity = eid ∙ held-identity bs e
-
-          found-is : recordOf id (x .part) (x .phase) lent ≡ held
-          found-is = rw (own-identity, held-page bs e, ex)
-
-          pub ran-given : given ≡ world id r g′ xs′ rs′ o′ n′ d′
+        module _ (r : State) (bs′ xs′ rs′ o′ n′ d′ : List ℕ) (er : world r bs′ xs′ rs′ o′ n′ d′ ≡ afterSteps s (length (s .lengths)) (world start bs xs rs o n d)) where
+          pub ran-given : given ≡ world r bs′ xs′ rs′ o′ n′ d′
           unfolding scripted
-          ran-given =
-              held-given
-              ∙ rw (eq-eqb _ _ (sym refusal-is ∙ z)) (ap (λ (q : Record). afterSteps s (length (s .lengths)) (unstepped 0 (boardOf q xs rs) o n d)) (sym found-is))
-              ∙ sym er
+          ran-given = held-given ∙ rw (eq-eqb _ _ (sym refusal-is ∙ z)) (sym er)
 
-          pub ran-left : length g′ ≡ pageBytes → phaseWritten (r .part) (r .phase) (take headerLength bs ++ (g′ ++ drop pageBytes (drop headerLength bs))) ≡ scriptBytes (recordIn bs) given bs
-          ran-left l =
-              phase-written bs g′ (r .part) (r .phase) e l
-              ∙ ap (λ (i : Identity). recordBytes (recordOf i (r .part) (r .phase) g′)) (sym own-identity)
-              ∙ sym (on-held (recordIn bs) _ bs e ∙ ap (λ (w : Scripted). recordBytes (w .board .state)) ran-given)
+          pub ran-left : recordIn bs′ .ok ≡ true → bs′ ≡ scriptBytes (recordIn bs) given bs
+          ran-left ok =
+              sym (on-held (recordIn bs) _ bs e ∙ ap (λ (w : Scripted). recordBytes (w .board .state)) ran-given ∙ held-bytes bs′ ok)

@@ -13,6 +13,7 @@ use Rattle.words.specs.Logic.{whenZero}
 use Rattle.words.specs.Lists.{sumTo, between, putBetween}
 use Rattle.words.proofs.Sums.{sum-within}
 use Rattle.paper.specs.Script.{Script, Scripted, Made, made, madeAt, stepped, afterSteps}
+use Rattle.record_bytes.specs.Read.{recordIn}
 use Rattle.script.specs.declared.State.{State}
 use Rattle.script.specs.Steps.{world, turned, Ready, Fit}
 
@@ -62,43 +63,44 @@ module _ (s : Script) (w₀ : Scripted) where
   stays k (suc n) h stop = stays-by k n h (λ (l : k ≤ n). stays k n l stop) stop (leb k n) refl
 
 -- what the loop carries after k steps
-pub record Along (id : Identity) (s : Script) (k : ℕ) (w₀ : Scripted) (q : State) (g xs rs o n d : List ℕ) : Type 0 where
-  pub told : world id q g xs rs o n d ≡ afterSteps s k w₀
+pub record Along (id : Identity) (s : Script) (k : ℕ) (w₀ : Scripted) (q : State) (bs xs rs o n d : List ℕ) : Type 0 where
+  pub told : world q bs xs rs o n d ≡ afterSteps s k w₀
   pub within : k ≤ length (s .lengths)
   pub going : q .number ≡ 0
   pub at : q .at ≡ sumTo (s .lengths) k
-  pub ready : Ready (q .part) (q .phase) g (length xs) (length rs)
+  pub ready : Ready bs (length xs) (length rs)
+  pub identity : id ≡ recordIn bs .state .identity
   pub array : length xs ≡ length (w₀ .board .array)
   pub rows : length rs ≡ length (w₀ .board .rows)
   pub output : length o ≡ length (w₀ .output)
   pub answers : length n ≡ length (w₀ .answers)
   pub done : length d ≡ length (w₀ .done)
 
-module _ (id : Identity) (s : Script) (k : ℕ) (w₀ : Scripted) (q : State) (g xs rs o n d : List ℕ) (l : Along id s k w₀ q g xs rs o n d) where
+module _ (id : Identity) (s : Script) (k : ℕ) (w₀ : Scripted) (q : State) (bs xs rs o n d : List ℕ) (l : Along id s k w₀ q bs xs rs o n d) where
   pub fit-along : Fit s (length (w₀ .output)) (length (w₀ .answers)) (length (w₀ .done)) → Fit s (length o) (length n) (length d)
   fit-along f =
       record { ticks = f .ticks; answers = l .answers ∙ f .answers; done = l .done ∙ f .done; output = l .output ∙ f .output; sum = f .sum }
 
   -- after the last step
-  pub all-made : length (s .lengths) ≤ k → world id q g xs rs o n d ≡ afterSteps s (length (s .lengths)) w₀
+  pub all-made : length (s .lengths) ≤ k → world q bs xs rs o n d ≡ afterSteps s (length (s .lengths)) w₀
   all-made h =
       let e : k ≡ length (s .lengths) = omega (arith, l .within) in
       l .told ∙ ap (λ (m : ℕ). afterSteps s m w₀) e
 
   -- after one more
-  module _ (h : k < length (s .lengths)) (q′ : State) (g′ xs′ rs′ o′ n′ d′ : List ℕ) (e : world id q′ g′ xs′ rs′ o′ n′ d′ ≡ turned s k (world id q g xs rs o n d)) where
-    told-on : world id q′ g′ xs′ rs′ o′ n′ d′ ≡ afterSteps s (k + 1) w₀
-    told-on = step-on s w₀ k (world id q g xs rs o n d) (world id q′ g′ xs′ rs′ o′ n′ d′) (l .told) (l .going) e
+  module _ (h : k < length (s .lengths)) (q′ : State) (bs′ xs′ rs′ o′ n′ d′ : List ℕ) (e : world q′ bs′ xs′ rs′ o′ n′ d′ ≡ turned s k (world q bs xs rs o n d)) where
+    told-on : world q′ bs′ xs′ rs′ o′ n′ d′ ≡ afterSteps s (k + 1) w₀
+    told-on = step-on s w₀ k (world q bs xs rs o n d) (world q′ bs′ xs′ rs′ o′ n′ d′) (l .told) (l .going) e
 
     -- which stops the script
-    pub stopped-at : (q′ .number ≡ 0 → ⊥) → world id q′ g′ xs′ rs′ o′ n′ d′ ≡ afterSteps s (length (s .lengths)) w₀
+    pub stopped-at : (q′ .number ≡ 0 → ⊥) → world q′ bs′ xs′ rs′ o′ n′ d′ ≡ afterSteps s (length (s .lengths)) w₀
     stopped-at stop =
         let off : afterSteps s (k + 1) w₀ .number ≡ 0 → ⊥ = λ z. stop (ap (λ (v : Scripted). v .number) told-on ∙ z) in
         told-on ∙ sym (stays s w₀ (k + 1) (length (s .lengths)) (omega arith) off)
 
     -- or does not
-    pub one-more : q′ .number ≡ 0 → q′ .at ≡ sumTo (s .lengths) (k + 1) → Ready (q′ .part) (q′ .phase) g′ (length xs) (length rs)
+    pub one-more : q′ .number ≡ 0 → q′ .at ≡ sumTo (s .lengths) (k + 1) → Ready bs′ (length xs) (length rs) → id ≡ recordIn bs′ .state .identity
         → length xs′ ≡ length xs → length rs′ ≡ length rs → length o′ ≡ length o → length n′ ≡ length n → length d′ ≡ length d
-        → Along id s (k + 1) w₀ q′ g′ xs′ rs′ o′ n′ d′
-    one-more go at ready ex er eo en ed =
-        record { told = told-on; within = omega arith; going = go; at = at; ready = rw (ex, er) ready; array = ex ∙ l .array; rows = er ∙ l .rows; output = eo ∙ l .output; answers = en ∙ l .answers; done = ed ∙ l .done }
+        → Along id s (k + 1) w₀ q′ bs′ xs′ rs′ o′ n′ d′
+    one-more go at ready same ex er eo en ed =
+        record { told = told-on; within = omega arith; going = go; at = at; ready = rw (ex, er) ready; identity = same; array = ex ∙ l .array; rows = er ∙ l .rows; output = eo ∙ l .output; answers = en ∙ l .answers; done = ed ∙ l .done }

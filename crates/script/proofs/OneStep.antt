@@ -1,42 +1,53 @@
--- One step: what its transaction and its ticks make of part and phase, which are carried, and of page data and memory, which are lent, is what the calls make of the record. They leave a sound record and its own memory.
-use Prim.Native.Nat.{ℕ, zero, suc, _≤_}
-use mathlib.Core.Path.{_≡_, refl, sym, ap, _∙_}
+-- One step on a record in its bytes: what its transaction and its ticks write there is what the calls make of the record. They leave the bytes of a sound record, and its own memory.
+use Prim.Native.Nat.{ℕ, zero, suc, _≤_, min}
+use mathlib.Core.Path.{_≡_, refl, sym, ap, subst, _∙_}
 use mathlib.Core.Bool.{Bool, true, false, cond}
 use mathlib.Core.List.{List, []}
 use native.Mathlib.Omega.{arith}
 use borrow.Author.Tests.{eq-eqb, ne-eqb, le-leb}
 use lib.Dec.{eqb}
-use lib.ListN.{length}
+use lib.ListN.{length, take, drop}
+use Rattle.types.specs.declared.Memory.{Memory}
 use Rattle.types.specs.declared.Memory.the-variants.{Array, Rows}
 use Rattle.types.specs.declared.Change.{Change}
+use Rattle.types.specs.declared.Change.the-variants.{Same, Runs}
+use Rattle.types.specs.declared.Data.the-variants.{Kept, Zero}
+use Rattle.types.specs.declared.Operation.{Operation}
+use Rattle.types.specs.declared.Work.{Work}
+use Rattle.types.specs.declared.Work.the-variants.{NoWork, At}
 use Rattle.types.specs.declared.Identity.{Identity}
 use Rattle.types.specs.declared.Part.{Part}
 use Rattle.types.specs.declared.Phase.{Phase}
 use Rattle.types.specs.declared.Record.{Record}
 use Rattle.types.specs.declared.Outcome.{Outcome}
 use Rattle.types.specs.declared.Waited.{Waited}
+use Rattle.types.specs.declared.Worked.{Worked}
 use Rattle.types.specs.declared.Answer.{Answer}
 use Rattle.types.specs.declared.Ticked.{Ticked}
 use Rattle.words.specs.Logic.{unless, _orElse_}
 use Rattle.words.proofs.Tests.{orElse-on, orElse-first}
-use Rattle.paper.specs.Sizes.{pageBytes, arrayBytes}
-use Rattle.paper.specs.Soundness.{sound, soundOf}
-use Rattle.paper.specs.Commands.{partAfter, phaseAfter, dataAfter, changed}
+use Rattle.paper.specs.Sizes.{pageBytes, arrayBytes, rowsBytes, tickLimit}
+use Rattle.paper.specs.Soundness.{sound}
+use Rattle.paper.specs.Phases.{running}
+use Rattle.paper.specs.Operations.{ticksLeft, advancedBy}
+use Rattle.paper.specs.Commands.{changed}
 use Rattle.paper.specs.Numbers.{sizeNumber, rowsNumber, soundNumber, ticksNumber, tickNumber}
-use Rattle.paper.specs.Ticks.{recordAfter, workingTicks}
+use Rattle.paper.specs.Ticks.{finishedPart, recordAfter, workingTicks}
 use Rattle.paper.specs.Calls.{outcomeOf, answered, transacted, outputAfter, transactedOutput, ticked, tickedMemory}
 use Rattle.paper.specs.Board.{Board, boardOf}
 use Rattle.paper.specs.Script.{stopping, made}
-use Rattle.paper.proofs.Soundness.{recordOf}
-use Rattle.paper.proofs.KeptBytes.{after-page}
 use Rattle.paper.proofs.Kept.{run-sound, run-size}
-use Rattle.paper.proofs.TransactionKept.{transaction-sound, transaction-size}
+use Rattle.paper.proofs.TransactionKept.{transaction-sound, transaction-size, transaction-identity}
 use Rattle.paper.proofs.CallKept.{after-tick-call, done-at-most}
-use Rattle.record_bytes.specs.Layout.{pageWritten}
-use Rattle.record_bytes.proofs.Changed.{page-written}
-use Rattle.ticks.specs.Waited.{waitedOf, waitedMemory, tickedBy}
+use Rattle.paper.proofs.Answers.{ticks-run, ticks-memory}
+use Rattle.record_bytes.specs.Layout.{headerLength, recordLength, changeWritten}
+use Rattle.record_bytes.specs.Read.{Held, held, recordIn, partAgain, phaseAgain}
+use Rattle.record_bytes.proofs.Back.{held-page}
+use Rattle.record_bytes.proofs.Again.{again-part, again-phase}
+use Rattle.record_bytes.proofs.Fits.{held-page-length, changed-held}
+use Rattle.ticks.specs.Waited.{tickChange, changeAfter, waitedOf, waitedMemory, tickedBy}
 use Rattle.ticks.proofs.Waited.{ticked-told, memory-told}
-use Rattle.script.specs.Steps.{madeOf, Ready}
+use Rattle.script.specs.Steps.{OnlyRuns, Ready, workedOf, madeOf}
 
 -- ticks can give only 1, 2, 5 and 6, and each of these stops a script
 unless-le : (b : Bool) (n : ℕ) → n ≤ 6 → unless b n ≤ 6
@@ -62,114 +73,217 @@ ticked-number-le : (p : Record) (a r t : ℕ) → ticked p a r t .number ≤ 6
 unfolding ticked
 ticked-number-le p a r t = ticked-number-as p a r t (eqb (tickNumber (p .part .blocks) (sound p) a r t) 0)
 
--- part, phase and page data after a change make the record after it
-module _ (id : Identity) (p : Part) (f : Phase) (g i : List ℕ) (l : length g ≡ pageBytes) where
-  changed-is : (c : Change) (p′ : Part) (f′ : Phase) (g′ : List ℕ) → p′ ≡ partAfter c p → f′ ≡ phaseAfter c f → g′ ≡ pageWritten (dataAfter c) i g → recordOf id p′ f′ g′ ≡ changed c i (recordOf id p f g)
-  changed-is c p′ f′ g′ ep ef eg = rw (ep, ef, eg ∙ page-written (dataAfter c) i g l)
+-- ticks change nothing, or what runs
+runs-as : (k : ℕ) (o : Operation) (p : Part) (f : Phase) (t : Bool)
+    → OnlyRuns (cond {A = Change} t (Runs (finishedPart p f o) Zero NoWork) (Runs p Kept (At (advancedBy k o))))
+runs-as k o p f true = tt
+runs-as k o p f false = tt
 
-  changed-page : (c : Change) (g′ : List ℕ) → g′ ≡ pageWritten (dataAfter c) i g → length g′ ≡ pageBytes
-  changed-page c g′ eg =
-      ap (λ (x : List ℕ). length x) (eg ∙ page-written (dataAfter c) i g l) ∙ after-page (dataAfter c) i g l
+runs-in : (n : ℕ) (w : Work) (p : Part) (f : Phase) → OnlyRuns (tickChange n w p f)
+runs-in n NoWork p f = tt
+runs-in n (At o) p f =
+    let k = min n (ticksLeft o (p .blocks)) in
+    runs-as k o p f (eqb k (ticksLeft o (p .blocks)))
 
-module _ (id : Identity) (p : Part) (f : Phase) (g xs rs : List ℕ) (h : Ready p f g (length xs) (length rs)) (wp : Bool) (i : List ℕ) (t : ℕ) (o : List ℕ) where
+module _ (p : Part) (f : Phase) (s : Bool) (a r n : ℕ) where
+  told-runs : (t : Bool) (d m : ℕ) → OnlyRuns (cond {A = Waited} t (record { change = tickChange n (running f) p f; number = 0; done = d }) (record { change = Same; number = m; done = 0 }) .change)
+  told-runs true d m = runs-in n (running f) p f
+  told-runs false d m = tt
+
+  pub only-runs : (u : Waited) → u ≡ waitedOf p f s a r n → OnlyRuns (u .change)
+  unfolding waitedOf
+  only-runs u e =
+      subst (λ (x : Waited). OnlyRuns (x .change)) (sym e) (told-runs (eqb (tickNumber (p .blocks) s a r n) 0) _ _)
+
+-- they keep the identity
+ticked-identity : (p : Record) (a r t : ℕ) → ticked p a r t .next .identity ≡ p .identity
+ticked-identity p a r t = ap (λ (x : Ticked). x .next .identity) (sym (ticked-told p a r t))
+
+-- a change that is the same leaves the bytes
+same-as : (bs : List ℕ) (t : Bool) → cond t bs bs ≡ bs
+same-as bs true = refl
+same-as bs false = refl
+
+pub same-written : (bs : List ℕ) → bs ≡ changeWritten Same [] bs
+unfolding changeWritten
+same-written bs = sym (same-as bs (eqb (length bs) recordLength))
+
+-- bytes that hold a sound record: its part and its phase, read again, and its page data as it is lent
+module _ (bs xs rs : List ℕ) (h : Ready bs (length xs) (length rs)) where
   abbrev before : Record
-  before = recordOf id p f g
+  before = recordIn bs .state
 
-  abbrev board : Board
-  board = boardOf before xs rs
+  abbrev lent : List ℕ
+  lent = take pageBytes (drop headerLength bs)
 
-  abbrev sent : Answer
-  sent = transacted before (length xs) (length rs) wp i (length o)
+  module _ (p : Part) (f : Phase) (ep : p ≡ partAgain bs) (ef : f ≡ phaseAgain bs) where
+    part-is : p ≡ before .part
+    part-is = ep ∙ again-part bs (h .ok)
 
-  -- the transaction
-  module _ (u : Outcome) (eu : u ≡ outcomeOf p f true (length xs) (length rs) wp i (length o)) where
-    answer-is : answered u i before ≡ sent
-    unfolding transacted
-    answer-is =
-        ap (λ (x : Outcome). answered x i before) (eu ∙ ap (λ (s : Bool). outcomeOf p f s (length xs) (length rs) wp i (length o)) (sym (h .is-sound)))
+    phase-is : f ≡ before .phase
+    phase-is = ef ∙ again-phase bs (h .ok)
 
-    number-is : u .number ≡ sent .number
-    number-is = ap (λ (x : Answer). x .number) answer-is
+    -- ticks
+    module _ (t : ℕ) where
+      abbrev waits : Ticked
+      waits = ticked before (length xs) (length rs) t
 
-    module _ (p′ : Part) (f′ : Phase) (g′ o′ : List ℕ) (ep : p′ ≡ partAfter (u .change) p) (ef : f′ ≡ phaseAfter (u .change) f) (eg : g′ ≡ pageWritten (dataAfter (u .change)) i g) (eo : o′ ≡ outputAfter id p f true xs rs wp i o) where
-      next-is : recordOf id p′ f′ g′ ≡ sent .next
-      next-is = changed-is id p f g i (h .page) (u .change) p′ f′ g′ ep ef eg ∙ ap (λ (x : Answer). x .next) answer-is
-
-      output-is : o′ ≡ transactedOutput before xs rs wp i o
-      output-is = eo ∙ ap (λ (s : Bool). outputAfter id p f s xs rs wp i o) (sym (h .is-sound))
-
-      pub sent-ready : Ready p′ f′ g′ (length xs) (length rs)
-      sent-ready =
-          record {
-            is-sound = ap sound next-is ∙ transaction-sound before (length xs) (length rs) wp i (length o) (h .is-sound);
-            page = changed-page id p f g i (h .page) (u .change) g′ eg;
-            array = h .array ∙ ap arrayBytes (sym (ap (λ (q : Record). q .part .blocks) next-is ∙ transaction-size before i (length xs) (length rs) wp (length o)));
-            rows = h .rows;
-          }
-
-      -- it stops the script
-      pub stopped-made : (k : ℕ) → k ≡ stopping (u .number) → (k ≡ 0 → ⊥) → madeOf id (record { part = p′; phase = f′; answer = u .number; done = 0; number = k }) g′ xs rs o′ ≡ made wp i t board o
-      unfolding made
-      stopped-made k ek stop =
-          let e : k ≡ stopping (sent .number) = ek ∙ ap stopping number-is in
-          let off : stopping (sent .number) ≡ 0 → ⊥ = λ z. stop (e ∙ z) in
-          rw (next-is, output-is, number-is, e, ne-eqb _ _ off, orElse-first _ (stopping (ticked (sent .next) (length xs) (length rs) t .number)) off)
-
-      -- it does not, and the ticks run
-      module _ (v : Waited) (ev : v ≡ waitedOf p′ f′ true (length xs) (length rs) t) where
-        abbrev after : Record
-        after = recordOf id p′ f′ g′
-
-        abbrev waits : Ticked
-        waits = ticked (sent .next) (length xs) (length rs) t
-
-        waited-is : tickedBy v after ≡ waits
+      module _ (u : Waited) (eu : u ≡ waitedOf p f true (length xs) (length rs) t) where
+        waited-is : tickedBy u before ≡ waits
         waited-is =
-            ap (λ (x : Waited). tickedBy x after) (ev ∙ ap (λ (s : Bool). waitedOf p′ f′ s (length xs) (length rs) t) (sym (sent-ready .is-sound)))
-            ∙ ticked-told after (length xs) (length rs) t
-            ∙ ap (λ (q : Record). ticked q (length xs) (length rs) t) next-is
+            ap (λ (x : Waited). tickedBy x before)
+            (eu
+            ∙ ap (λ (q : Part). waitedOf q f true (length xs) (length rs) t) part-is
+            ∙ ap (λ (g : Phase). waitedOf (before .part) g true (length xs) (length rs) t) phase-is
+            ∙ ap (λ (s : Bool). waitedOf (before .part) (before .phase) s (length xs) (length rs) t) (sym (h .is-sound)))
+            ∙ ticked-told before (length xs) (length rs) t
 
-        pub ran-done : v .done ≤ t
-        ran-done =
-            omega (arith, ap (λ (x : Ticked). x .done) waited-is, done-at-most (sent .next) (length xs) (length rs) t .0)
+        pub waits-told : _≡_ {A = Worked} record { number = u .number; done = u .done } (workedOf before (length xs) (length rs) t)
+        waits-told = ap (λ (x : Ticked). record { number = x .number; done = x .done }) waited-is
 
-        module _ (p″ : Part) (f″ : Phase) (g″ xs′ rs′ : List ℕ) (ep′ : p″ ≡ partAfter (v .change) p′) (ef′ : f″ ≡ phaseAfter (v .change) f′) (eg′ : g″ ≡ pageWritten (dataAfter (v .change)) [] g′)
-            (ex : xs′ ≡ waitedMemory Array p′ f′ true g′ (length xs) (length rs) t xs) (er : rs′ ≡ waitedMemory Rows p′ f′ true g′ (length xs) (length rs) t rs) where
-          last-is : recordOf id p″ f″ g″ ≡ waits .next
-          last-is =
-              changed-is id p′ f′ g′ [] (sent-ready .page) (v .change) p″ f″ g″ ep′ ef′ eg′ ∙ ap (λ (x : Ticked). x .next) waited-is
+        pub waits-held : (bs′ : List ℕ) → bs′ ≡ changeWritten (u .change) [] bs → recordIn bs′ ≡ held (waits .next)
+        waits-held bs′ eb =
+            let e : changed (u .change) [] before ≡ waits .next = ap (λ (x : Ticked). x .next) waited-is in
+            let s : sound (waits .next) ≡ true = after-tick-call (λ (x : Record). sound x ≡ true) before t (h .is-sound) (run-sound t before (h .is-sound)) (length xs) (length rs) in
+            ap recordIn eb ∙ changed-held (u .change) [] bs (h .ok) (ap sound e ∙ s) ∙ ap held e
 
-          array-is : xs′ ≡ tickedMemory Array (sent .next) (length xs) (length rs) t xs
-          array-is =
-              ex
-              ∙ ap (λ (s : Bool). waitedMemory Array p′ f′ s g′ (length xs) (length rs) t xs) (sym (sent-ready .is-sound))
-              ∙ memory-told after (length xs) (length rs) t Array xs (sent-ready .page)
-              ∙ ap (λ (q : Record). tickedMemory Array q (length xs) (length rs) t xs) next-is
+      pub waits-memory : (m : Memory) (ys zs : List ℕ) → zs ≡ waitedMemory m p f true lent (length xs) (length rs) t ys → zs ≡ tickedMemory m before (length xs) (length rs) t ys
+      waits-memory m ys zs e =
+          let l = held-page-length bs (h .ok) in
+          e
+          ∙ ap (λ (q : Part). waitedMemory m q f true lent (length xs) (length rs) t ys) part-is
+          ∙ ap (λ (g : Phase). waitedMemory m (before .part) g true lent (length xs) (length rs) t ys) phase-is
+          ∙ ap (λ (s : Bool). waitedMemory m (before .part) (before .phase) s lent (length xs) (length rs) t ys) (sym (h .is-sound))
+          ∙ ap (λ (g : List ℕ). waitedMemory m (before .part) (before .phase) (sound before) g (length xs) (length rs) t ys) (held-page bs (h .ok))
+          ∙ memory-told before (length xs) (length rs) t m ys l
 
-          rows-is : rs′ ≡ tickedMemory Rows (sent .next) (length xs) (length rs) t rs
-          rows-is =
-              er
-              ∙ ap (λ (s : Bool). waitedMemory Rows p′ f′ s g′ (length xs) (length rs) t rs) (sym (sent-ready .is-sound))
-              ∙ memory-told after (length xs) (length rs) t Rows rs (sent-ready .page)
-              ∙ ap (λ (q : Record). tickedMemory Rows q (length xs) (length rs) t rs) next-is
+    -- a transaction
+    module _ (id : Identity) (eid : id ≡ before .identity) (wp : Bool) (i : List ℕ) (t : ℕ) (o : List ℕ) where
+      abbrev board : Board
+      board = boardOf before xs rs
 
-          pub ran-ready : Ready p″ f″ g″ (length xs) (length rs)
-          ran-ready =
-              let q = sent .next in
-              let s : sound q ≡ true = transaction-sound before (length xs) (length rs) wp i (length o) (h .is-sound) in
-              record {
-                is-sound = ap sound last-is ∙ after-tick-call (λ (x : Record). sound x ≡ true) q t s (run-sound t q s) (length xs) (length rs);
-                page = changed-page id p′ f′ g′ [] (sent-ready .page) (v .change) g″ eg′;
-                array = h .array
-                    ∙ ap arrayBytes (sym (ap (λ (x : Record). x .part .blocks) last-is ∙ after-tick-call (λ (x : Record). x .part .blocks ≡ q .part .blocks) q t refl (run-size t q) (length xs) (length rs) ∙ transaction-size before i (length xs) (length rs) wp (length o)));
-                rows = h .rows;
-              }
+      abbrev sent : Answer
+      sent = transacted before (length xs) (length rs) wp i (length o)
 
-          pub ran-made : stopping (u .number) ≡ 0 → madeOf id (record { part = p″; phase = f″; answer = u .number; done = v .done; number = v .number }) g″ xs′ rs′ o′ ≡ made wp i t board o
+      module _ (u : Outcome) (eu : u ≡ outcomeOf p f true (length xs) (length rs) wp i (length o)) where
+        answer-is : answered u i before ≡ sent
+        unfolding transacted
+        answer-is =
+            ap (λ (x : Outcome). answered x i before)
+            (eu
+            ∙ ap (λ (q : Part). outcomeOf q f true (length xs) (length rs) wp i (length o)) part-is
+            ∙ ap (λ (g : Phase). outcomeOf (before .part) g true (length xs) (length rs) wp i (length o)) phase-is
+            ∙ ap (λ (s : Bool). outcomeOf (before .part) (before .phase) s (length xs) (length rs) wp i (length o)) (sym (h .is-sound)))
+
+        number-is : u .number ≡ sent .number
+        number-is = ap (λ (x : Answer). x .number) answer-is
+
+        module _ (bs′ o′ : List ℕ) (eb : bs′ ≡ changeWritten (u .change) i bs) (eo : o′ ≡ outputAfter id p f true xs rs wp i o) where
+          sent-sound : sound (sent .next) ≡ true
+          sent-sound = transaction-sound before (length xs) (length rs) wp i (length o) (h .is-sound)
+
+          sent-held : recordIn bs′ ≡ held (sent .next)
+          sent-held =
+              let e : changed (u .change) i before ≡ sent .next = ap (λ (x : Answer). x .next) answer-is in
+              ap recordIn eb ∙ changed-held (u .change) i bs (h .ok) (ap sound e ∙ sent-sound) ∙ ap held e
+
+          sent-is : recordIn bs′ .state ≡ sent .next
+          sent-is = ap (λ (x : Held). x .state) sent-held
+
+          own-array : length xs ≡ arrayBytes (sent .next .part .blocks)
+          own-array = h .array ∙ ap arrayBytes (sym (transaction-size before i (length xs) (length rs) wp (length o)))
+
+          output-is : o′ ≡ transactedOutput before xs rs wp i o
+          output-is =
+              eo
+              ∙ ap (λ (d : Identity). outputAfter d p f true xs rs wp i o) eid
+              ∙ ap (λ (q : Part). outputAfter (before .identity) q f true xs rs wp i o) part-is
+              ∙ ap (λ (g : Phase). outputAfter (before .identity) (before .part) g true xs rs wp i o) phase-is
+              ∙ ap (λ (s : Bool). outputAfter (before .identity) (before .part) (before .phase) s xs rs wp i o) (sym (h .is-sound))
+
+          pub sent-ready : Ready bs′ (length xs) (length rs)
+          sent-ready =
+              record { ok = ap (λ (x : Held). x .ok) sent-held; is-sound = ap sound sent-is ∙ sent-sound; array = own-array ∙ ap (λ (q : Record). arrayBytes (q .part .blocks)) (sym sent-is); rows = h .rows }
+
+          pub sent-identity : id ≡ recordIn bs′ .state .identity
+          sent-identity =
+              eid ∙ sym (ap (λ (q : Record). q .identity) sent-is ∙ transaction-identity before i (length xs) (length rs) wp (length o))
+
+          -- it stops the script
+          pub stopped-made : (k : ℕ) → k ≡ stopping (u .number) → (k ≡ 0 → ⊥) → madeOf (record { answer = u .number; done = 0; number = k }) bs′ xs rs o′ ≡ made wp i t board o
           unfolding made
-          ran-made go =
-              let z : stopping (sent .number) ≡ 0 = ap stopping (sym number-is) ∙ go in
-              let done : v .done ≡ waits .done = ap (λ (x : Ticked). x .done) waited-is in
-              let number : v .number ≡ waits .number = ap (λ (x : Ticked). x .number) waited-is in
-              let stops : stopping (waits .number) ≡ waits .number = rw (le-leb _ _ (ticked-number-le (sent .next) (length xs) (length rs) t)) refl in
-              rw (last-is, array-is, rows-is, output-is, number-is, done, number, eq-eqb _ _ z, orElse-on _ (stopping (waits .number)) z, stops)
+          stopped-made k ek stop =
+              let e : k ≡ stopping (sent .number) = ek ∙ ap stopping number-is in
+              let off : stopping (sent .number) ≡ 0 → ⊥ = λ z. stop (e ∙ z) in
+              rw (sent-is, output-is, number-is, e, ne-eqb _ _ off, orElse-first _ (stopping (ticked (sent .next) (length xs) (length rs) t .number)) off)
+
+          -- it does not: then what its ticks give is the step's
+          module _ (go : stopping (u .number) ≡ 0) (w : Worked) (bs″ xs′ rs′ : List ℕ) (ew : w ≡ workedOf (recordIn bs′ .state) (length xs) (length rs) t) (eh : recordIn bs″ ≡ held (ticked (recordIn bs′ .state) (length xs) (length rs) t .next))
+              (ex : xs′ ≡ tickedMemory Array (recordIn bs′ .state) (length xs) (length rs) t xs) (er : rs′ ≡ tickedMemory Rows (recordIn bs′ .state) (length xs) (length rs) t rs) where
+            abbrev last : Ticked
+            last = ticked (sent .next) (length xs) (length rs) t
+
+            last-held : recordIn bs″ ≡ held (last .next)
+            last-held = eh ∙ ap (λ (q : Record). held (ticked q (length xs) (length rs) t .next)) sent-is
+
+            last-is : recordIn bs″ .state ≡ last .next
+            last-is = ap (λ (x : Held). x .state) last-held
+
+            worked-is : w ≡ workedOf (sent .next) (length xs) (length rs) t
+            worked-is = ew ∙ ap (λ (q : Record). workedOf q (length xs) (length rs) t) sent-is
+
+            array-is : xs′ ≡ tickedMemory Array (sent .next) (length xs) (length rs) t xs
+            array-is = ex ∙ ap (λ (q : Record). tickedMemory Array q (length xs) (length rs) t xs) sent-is
+
+            rows-is : rs′ ≡ tickedMemory Rows (sent .next) (length xs) (length rs) t rs
+            rows-is = er ∙ ap (λ (q : Record). tickedMemory Rows q (length xs) (length rs) t rs) sent-is
+
+            pub ran-made : madeOf (record { answer = u .number; done = w .done; number = w .number }) bs″ xs′ rs′ o′ ≡ made wp i t board o
+            unfolding made
+            ran-made =
+                let z : stopping (sent .number) ≡ 0 = ap stopping (sym number-is) ∙ go in
+                let done : w .done ≡ last .done = ap (λ (x : Worked). x .done) worked-is in
+                let number : w .number ≡ last .number = ap (λ (x : Worked). x .number) worked-is in
+                let stops : stopping (last .number) ≡ last .number = rw (le-leb _ _ (ticked-number-le (sent .next) (length xs) (length rs) t)) refl in
+                rw (last-is, array-is, rows-is, output-is, number-is, done, number, eq-eqb _ _ z, orElse-on _ (stopping (last .number)) z, stops)
+
+            pub ran-ready : Ready bs″ (length xs) (length rs)
+            ran-ready =
+                let q = sent .next in
+                record {
+                  ok = ap (λ (x : Held). x .ok) last-held;
+                  is-sound = ap sound last-is ∙ after-tick-call (λ (x : Record). sound x ≡ true) q t sent-sound (run-sound t q sent-sound) (length xs) (length rs);
+                  array = own-array ∙ ap arrayBytes (sym (ap (λ (x : Record). x .part .blocks) last-is ∙ after-tick-call (λ (x : Record). x .part .blocks ≡ q .part .blocks) q t refl (run-size t q) (length xs) (length rs)));
+                  rows = h .rows;
+                }
+
+            pub ran-identity : id ≡ recordIn bs″ .state .identity
+            ran-identity =
+                let q = sent .next in
+                eid ∙ sym (ap (λ (x : Record). x .identity) last-is ∙ ticked-identity q (length xs) (length rs) t ∙ transaction-identity before i (length xs) (length rs) wp (length o))
+
+            pub ran-done : w .done ≤ t
+            ran-done = omega (arith, ap (λ (x : Worked). x .done) worked-is, done-at-most (sent .next) (length xs) (length rs) t .0)
+
+          -- where it asks for no ticks, none are the same as a call of 0
+          module _ (go : stopping (u .number) ≡ 0) (ez : t ≡ 0) where
+            none : ticked (recordIn bs′ .state) (length xs) (length rs) t ≡ record { next = recordIn bs′ .state; number = 0; done = 0 }
+            none =
+                let q = recordIn bs′ .state in
+                ap (λ (a : ℕ). ticked q a (length rs) t) (sent-ready .array)
+                ∙ ap (λ (r : ℕ). ticked q (arrayBytes (q .part .blocks)) r t) (sent-ready .rows)
+                ∙ ap (ticked q (arrayBytes (q .part .blocks)) rowsBytes) ez
+                ∙ ticks-run q (sent-ready .is-sound) 0 (omega arith)
+
+            none-memory : (m : Memory) (ys : List ℕ) → tickedMemory m (recordIn bs′ .state) (length xs) (length rs) t ys ≡ ys
+            none-memory m ys =
+                let q = recordIn bs′ .state in
+                ap (λ (r : ℕ). tickedMemory m q (length xs) r t ys) (sent-ready .rows)
+                ∙ ap (λ (k : ℕ). tickedMemory m q (length xs) rowsBytes k ys) ez
+                ∙ ticks-memory q (sent-ready .is-sound) m (length xs) 0 ys (sent-ready .array) (omega arith)
+
+            pub none-made : madeOf (record { answer = u .number; done = 0; number = 0 }) bs′ xs rs o′ ≡ made wp i t board o
+            none-made =
+                let e : _≡_ {A = Worked} record { number = 0; done = 0 } (workedOf (recordIn bs′ .state) (length xs) (length rs) t) = ap (λ (x : Ticked). record { number = x .number; done = x .done }) (sym none) in
+                let f : recordIn bs′ ≡ held (ticked (recordIn bs′ .state) (length xs) (length rs) t .next) = sent-held ∙ ap held (sym sent-is ∙ sym (ap (λ (x : Ticked). x .next) none)) in
+                ran-made go (record { number = 0; done = 0 }) bs′ xs rs e f (sym (none-memory Array xs)) (sym (none-memory Rows rs))

@@ -1,41 +1,58 @@
--- The steps of a script in code: what is carried by value and what is lent make the script's own values, and what steps must find.
+-- The steps of a script in code: the record stays in its bytes. What steps must find, and what they carry and are lent, as the script's own values.
 use Prim.Native.Nat.{ℕ}
 use mathlib.Core.Path.{_≡_}
 use mathlib.Core.Bool.{true}
 use mathlib.Core.List.{List}
 use lib.ListN.{length}
-use Rattle.types.specs.declared.Identity.{Identity}
-use Rattle.types.specs.declared.Part.{Part}
-use Rattle.types.specs.declared.Phase.{Phase}
+use Rattle.types.specs.declared.Change.{Change}
+use Rattle.types.specs.declared.Change.the-variants.{Same, Marked, Live, Anew, Runs, Halts, GoesOn, Clears}
+use Rattle.types.specs.declared.Record.{Record}
+use Rattle.types.specs.declared.Worked.{Worked}
 use Rattle.words.specs.Lists.{sumTo}
-use Rattle.paper.specs.Sizes.{arrayBytes, rowsBytes, pageBytes}
-use Rattle.paper.specs.Soundness.{soundOf}
+use Rattle.paper.specs.Sizes.{arrayBytes, rowsBytes}
+use Rattle.paper.specs.Soundness.{sound}
+use Rattle.paper.specs.Calls.{ticked}
 use Rattle.paper.specs.Board.{boardOf}
 use Rattle.paper.specs.Script.{Script, Scripted, Made, madeAt, stepped}
-use Rattle.paper.proofs.Soundness.{recordOf}
+use Rattle.record_bytes.specs.Read.{recordIn}
 use Rattle.script.specs.declared.Stepped.{Stepped}
 use Rattle.script.specs.declared.State.{State}
 
--- what a step gives, with the identity, page data, the memory and its output
-abbrev pub madeOf : Identity → Stepped → List ℕ → List ℕ → List ℕ → List ℕ → Made
-madeOf id q g xs rs o =
-    record { board = boardOf (recordOf id (q .part) (q .phase) g) xs rs; output = o; answer = q .answer; done = q .done; number = q .number }
+-- bytes that hold a sound record, with an array of a and rows of r bytes, which are its own
+pub record Ready (bs : List ℕ) (a r : ℕ) : Type 0 where
+  pub ok : recordIn bs .ok ≡ true
+  pub is-sound : sound (recordIn bs .state) ≡ true
+  pub array : a ≡ arrayBytes (recordIn bs .state .part .blocks)
+  pub rows : r ≡ rowsBytes
+
+-- what ticks change: nothing, or what runs
+abbrev pub OnlyRuns : Change → Type 0
+OnlyRuns Same = Unit {0}
+OnlyRuns (Marked armed) = ⊥
+OnlyRuns (Live v) = ⊥
+OnlyRuns (Anew q) = ⊥
+OnlyRuns (Runs q d w) = Unit {0}
+OnlyRuns (Halts q) = ⊥
+OnlyRuns (GoesOn q) = ⊥
+OnlyRuns (Clears q) = ⊥
+
+-- what t ticks of a record answer, for an array of a and rows of r bytes
+abbrev pub workedOf : Record → ℕ → ℕ → ℕ → Worked
+workedOf p a r t = record { number = ticked p a r t .number; done = ticked p a r t .done }
+
+-- what a step gives, with the record in its bytes, the memory and its output
+abbrev pub madeOf : Stepped → List ℕ → List ℕ → List ℕ → List ℕ → Made
+madeOf q bs xs rs o =
+    record { board = boardOf (recordIn bs .state) xs rs; output = o; answer = q .answer; done = q .done; number = q .number }
 
 -- where a script is, with these, the output and the two lists
-abbrev pub world : Identity → State → List ℕ → List ℕ → List ℕ → List ℕ → List ℕ → List ℕ → Scripted
-world id q g xs rs o n d =
-    record { board = boardOf (recordOf id (q .part) (q .phase) g) xs rs; output = o; answers = n; done = d; number = q .number; step = q .step }
+abbrev pub world : State → List ℕ → List ℕ → List ℕ → List ℕ → List ℕ → List ℕ → Scripted
+world q bs xs rs o n d =
+    record { board = boardOf (recordIn bs .state) xs rs; output = o; answers = n; done = d; number = q .number; step = q .step }
 
 -- the same after step k
 abbrev pub turned : Script → ℕ → Scripted → Scripted
 turned s k w = stepped s k w (madeAt s k w)
-
--- a sound part with page data of its length, an array of a and rows of r bytes, which are its own
-pub record Ready (p : Part) (f : Phase) (g : List ℕ) (a r : ℕ) : Type 0 where
-  pub is-sound : soundOf p f g ≡ true
-  pub page : length g ≡ pageBytes
-  pub array : a ≡ arrayBytes (p .blocks)
-  pub rows : r ≡ rowsBytes
 
 -- a script whose lists are as long as each other, and whose lengths add up to input and output: of o, n and d bytes or entries
 pub record Fit (s : Script) (o n d : ℕ) : Type 0 where

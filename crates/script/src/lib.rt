@@ -1,24 +1,26 @@
-// A whole script in one call: transactions, and ticks after each, on the record that bytes hold. The record is read and judged once;
-// part and phase are carried from step to step and written once, and page data stays where it is.
+// A whole script in one call: transactions, and ticks after each, on the record that bytes hold. It is judged once, before
+// the first step. The steps leave it in its bytes: each reads what it needs there, and writes what it changes.
 ghost use mathlib.Core.Path.{_≡_};
 ghost use mathlib.Core.Bool.{true};
+ghost use mathlib.Core.List.{[]};
 ghost use Prim.Native.Nat.{_+_, _≤_, _<_};
-ghost use lib.Dec.{eqb, leb};
+ghost use lib.Dec.{eqb};
 ghost use lib.ListN.{length};
+ghost use Rattle.types.specs.declared.Memory.the-variants.{Array, Rows};
 ghost use Rattle.words.specs.Logic.{whenZero};
 ghost use Rattle.words.specs.Lists.{sumTo};
-ghost use Rattle.paper.specs.Soundness.{soundOf};
 ghost use Rattle.paper.specs.Numbers.{laterScriptRefusal};
+ghost use Rattle.paper.specs.Calls.{ticked, tickedMemory};
 ghost use Rattle.paper.specs.Board.{boardOf};
 ghost use Rattle.paper.specs.Script.{stopping, made, afterSteps};
-ghost use Rattle.paper.proofs.Soundness.{recordOf};
-ghost use Rattle.record_bytes.specs.Read.{recordIn};
-ghost use Rattle.script.specs.Steps.{madeOf, world, turned, Ready, Fit};
+ghost use Rattle.record_bytes.specs.Layout.{changeWritten};
+ghost use Rattle.record_bytes.specs.Read.{held, recordIn};
+ghost use Rattle.script.specs.Steps.{OnlyRuns, Ready, workedOf, madeOf, world, turned, Fit};
 ghost use Rattle.script.specs.InBytes.{scriptOf, heldScript, ranOf, scriptBytes};
 use record_bytes::places;
+use types::Change;
 use types::Identity;
-use types::Part;
-use types::Phase;
+use types::Worked;
 
 // What a script answers: the number that refuses or stops it, 0 where none does, and the step.
 pub struct Ran {
@@ -26,19 +28,15 @@ pub struct Ran {
     pub step: usize,
 }
 
-// What a step makes of part and phase, its transaction's answer, its ticks done, and the number that stops the script, or 0.
+// What a step gives: its transaction's answer, its ticks done, and the number that stops the script, or 0.
 struct Stepped {
-    part: Part,
-    phase: Phase,
     answer: u8,
     done: usize,
     number: u8,
 }
 
-// What steps carry: part and phase, the number that stops the script, or 0, the step, and where the next one begins.
+// What steps carry: the number that stops the script, or 0, the step, and where the next one begins.
 struct State {
-    part: Part,
-    phase: Phase,
     number: u8,
     step: usize,
     at: usize,
@@ -51,12 +49,51 @@ fn stopping(number: u8) -> u8
     if number <= 6 { number } else { 0 }
 }
 
-// A step on a sound part and its own memory: a transaction, and its ticks after it where it does not stop the script.
+// What ticks make of a record, written over its bytes: it stays the same, or something else runs.
+fn write_ran(change: Change, bytes: &mut [u8])
+    requires { ⌜ OnlyRuns change ⌝ }
+    ensures { λ _. ⌜ now (bytes .exit) ≡ changeWritten change [] (now (bytes .entry)) ⌝ }
+{
+    match change {
+        Change::Same => {}
+        Change::Marked(_) => {}
+        Change::Live(_) => {}
+        Change::Anew(_) => {}
+        Change::Runs(part, becomes, work) => {
+            let none_sent = [0u8; 0];
+            record_bytes::writing::write_runs(part, becomes, work, &none_sent, bytes);
+        }
+        Change::Halts(_) => {}
+        Change::GoesOn(_) => {}
+        Change::Clears(_) => {}
+    }
+}
+
+// So many ticks of a sound record in its bytes, on its own memory.
+fn wait(bytes: &mut [u8], array: &mut [u8], rows: &mut [u8], ticks: usize) -> Worked
+    requires { ⌜ Ready (now bytes) (length (now array)) (length (now rows)) ⌝ }
+    ensures waits { λ r. ⌜ r ≡ workedOf (recordIn (now (bytes .entry)) .state) (length (now (array .entry))) (length (now (rows .entry))) ticks ⌝ }
+    ensures held { λ _. ⌜ recordIn (now (bytes .exit)) ≡ held (ticked (recordIn (now (bytes .entry)) .state) (length (now (array .entry))) (length (now (rows .entry))) ticks .next) ⌝ }
+    ensures array { λ _. ⌜ now (array .exit) ≡ tickedMemory Array (recordIn (now (bytes .entry)) .state) (length (now (array .entry))) (length (now (rows .entry))) ticks (now (array .entry)) ⌝ }
+    ensures rows { λ _. ⌜ now (rows .exit) ≡ tickedMemory Rows (recordIn (now (bytes .entry)) .state) (length (now (array .entry))) (length (now (rows .entry))) ticks (now (rows .entry)) ⌝ }
+{
+    let part = record_bytes::reading::part_again(bytes);
+    let phase = record_bytes::reading::phase_again(bytes);
+    let page = &bytes[places::PAGE..places::END];
+    let told = ticks::tick_part(part, phase, true, page, array, rows, ticks);
+    let change = told.change;
+    write_ran(change, bytes);
+    Worked {
+        number: told.number,
+        done: told.done,
+    }
+}
+
+// A step of a sound record in its bytes, on its own memory: a transaction, and its ticks after it where it does not stop the
+// script. Where it asks for none, none are run.
 fn step(
-    part: Part,
-    phase: Phase,
     identity: Identity,
-    page: &mut [u8],
+    bytes: &mut [u8],
     array: &mut [u8],
     rows: &mut [u8],
     wp: bool,
@@ -64,32 +101,32 @@ fn step(
     ticks: usize,
     output: &mut [u8],
 ) -> Stepped
-    requires { ⌜ Ready part phase (now page) (length (now array)) (length (now rows)) ⌝ }
-    ensures made { λ r. ⌜ madeOf identity r (now (page .exit)) (now (array .exit)) (now (rows .exit)) (now (output .exit)) ≡ made wp (now (input .entry)) ticks (boardOf (recordOf identity part phase (now (page .entry))) (now (array .entry)) (now (rows .entry))) (now (output .entry)) ⌝ }
-    ensures ready { λ r. ⌜ Ready (r .part) (r .phase) (now (page .exit)) (length (now (array .entry))) (length (now (rows .entry))) × (r .done ≤ ticks) ⌝ }
+    requires { ⌜ Ready (now bytes) (length (now array)) (length (now rows)) × (identity ≡ recordIn (now bytes) .state .identity) ⌝ }
+    ensures made { λ r. ⌜ madeOf r (now (bytes .exit)) (now (array .exit)) (now (rows .exit)) (now (output .exit)) ≡ made wp (now (input .entry)) ticks (boardOf (recordIn (now (bytes .entry)) .state) (now (array .entry)) (now (rows .entry))) (now (output .entry)) ⌝ }
+    ensures ready { λ r. ⌜ Ready (now (bytes .exit)) (length (now (array .entry))) (length (now (rows .entry))) × (identity ≡ recordIn (now (bytes .exit)) .state .identity) × (r .done ≤ ticks) ⌝ }
 {
+    let part = record_bytes::reading::part_again(bytes);
+    let phase = record_bytes::reading::phase_again(bytes);
     let sent = transact::transact_part(identity, part, phase, true, array, rows, wp, input, output);
     let change = sent.change;
-    let next = effects::part_after(change, part);
-    let then = effects::phase_after(change, phase);
-    record_bytes::writing::write_page(effects::data_after(change), input, page);
+    record_bytes::writing::write_change(change, input, bytes);
     let stop = stopping(sent.number);
     if stop != 0 {
         return Stepped {
-            part: next,
-            phase: then,
             answer: sent.number,
             done: 0,
             number: stop,
         };
     }
-    let waited = ticks::tick_part(next, then, true, page, array, rows, ticks);
-    let change = waited.change;
-    let none_sent = [0u8; 0];
-    record_bytes::writing::write_page(effects::data_after(change), &none_sent, page);
+    if ticks == 0 {
+        return Stepped {
+            answer: sent.number,
+            done: 0,
+            number: 0,
+        };
+    }
+    let waited = wait(bytes, array, rows, ticks);
     Stepped {
-        part: effects::part_after(change, next),
-        phase: effects::phase_after(change, then),
         answer: sent.number,
         done: waited.done,
         number: waited.number,
@@ -108,7 +145,7 @@ fn step_after(number: u8, k: usize) -> usize
 fn turn(
     state: State,
     identity: Identity,
-    page: &mut [u8],
+    bytes: &mut [u8],
     array: &mut [u8],
     rows: &mut [u8],
     wp: bool,
@@ -122,20 +159,16 @@ fn turn(
 ) -> State
     requires { ⌜ Fit (record { wp = wp; input = now input; lengths = now lengths; ticks = now ticks }) (length (now output)) (length (now answers)) (length (now done)) ⌝ }
     requires { ⌜ (k < length (now lengths)) × (state .at ≡ sumTo (now lengths) k) ⌝ }
-    requires { ⌜ Ready (state .part) (state .phase) (now page) (length (now array)) (length (now rows)) ⌝ }
-    ensures stepped { λ r. ⌜ world identity r (now (page .exit)) (now (array .exit)) (now (rows .exit)) (now (output .exit)) (now (answers .exit)) (now (done .exit)) ≡ turned (record { wp = wp; input = now (input .entry); lengths = now (lengths .entry); ticks = now (ticks .entry) }) k (world identity state (now (page .entry)) (now (array .entry)) (now (rows .entry)) (now (output .entry)) (now (answers .entry)) (now (done .entry))) ⌝ }
+    requires { ⌜ Ready (now bytes) (length (now array)) (length (now rows)) × (identity ≡ recordIn (now bytes) .state .identity) ⌝ }
+    ensures stepped { λ r. ⌜ world r (now (bytes .exit)) (now (array .exit)) (now (rows .exit)) (now (output .exit)) (now (answers .exit)) (now (done .exit)) ≡ turned (record { wp = wp; input = now (input .entry); lengths = now (lengths .entry); ticks = now (ticks .entry) }) k (world state (now (bytes .entry)) (now (array .entry)) (now (rows .entry)) (now (output .entry)) (now (answers .entry)) (now (done .entry))) ⌝ }
     ensures at { λ r. ⌜ r .at ≡ sumTo (now (lengths .entry)) (k + 1) ⌝ }
-    ensures ready { λ r. ⌜ Ready (r .part) (r .phase) (now (page .exit)) (length (now (array .entry))) (length (now (rows .entry))) ⌝ }
+    ensures ready { λ _. ⌜ Ready (now (bytes .exit)) (length (now (array .entry))) (length (now (rows .entry))) × (identity ≡ recordIn (now (bytes .exit)) .state .identity) ⌝ }
 {
-    let part = state.part;
-    let phase = state.phase;
     let at = state.at;
     let end = at + (lengths[k] as usize);
     let stepped = step(
-        part,
-        phase,
         identity,
-        page,
+        bytes,
         array,
         rows,
         wp,
@@ -145,12 +178,8 @@ fn turn(
     );
     answers[k] = stepped.answer;
     done[k] = stepped.done as u16;
-    let next = stepped.part;
-    let then = stepped.phase;
     let number = stepped.number;
     State {
-        part: next,
-        phase: then,
         number: number,
         step: step_after(number, k),
         at: end,
@@ -161,7 +190,7 @@ fn turn(
 fn steps(
     start: State,
     identity: Identity,
-    page: &mut [u8],
+    bytes: &mut [u8],
     array: &mut [u8],
     rows: &mut [u8],
     wp: bool,
@@ -174,8 +203,9 @@ fn steps(
 ) -> State
     requires { ⌜ Fit (record { wp = wp; input = now input; lengths = now lengths; ticks = now ticks }) (length (now output)) (length (now answers)) (length (now done)) ⌝ }
     requires { ⌜ (start .at ≡ 0) × (start .number ≡ 0) ⌝ }
-    requires { ⌜ Ready (start .part) (start .phase) (now page) (length (now array)) (length (now rows)) ⌝ }
-    ensures { λ r. ⌜ world identity r (now (page .exit)) (now (array .exit)) (now (rows .exit)) (now (output .exit)) (now (answers .exit)) (now (done .exit)) ≡ afterSteps (record { wp = wp; input = now (input .entry); lengths = now (lengths .entry); ticks = now (ticks .entry) }) (length (now (lengths .entry))) (world identity start (now (page .entry)) (now (array .entry)) (now (rows .entry)) (now (output .entry)) (now (answers .entry)) (now (done .entry))) ⌝ }
+    requires { ⌜ Ready (now bytes) (length (now array)) (length (now rows)) × (identity ≡ recordIn (now bytes) .state .identity) ⌝ }
+    ensures made { λ r. ⌜ world r (now (bytes .exit)) (now (array .exit)) (now (rows .exit)) (now (output .exit)) (now (answers .exit)) (now (done .exit)) ≡ afterSteps (record { wp = wp; input = now (input .entry); lengths = now (lengths .entry); ticks = now (ticks .entry) }) (length (now (lengths .entry))) (world start (now (bytes .entry)) (now (array .entry)) (now (rows .entry)) (now (output .entry)) (now (answers .entry)) (now (done .entry))) ⌝ }
+    ensures held { λ _. ⌜ recordIn (now (bytes .exit)) .ok ≡ true ⌝ }
 {
     let mut state = start;
     let mut k = 0;
@@ -183,7 +213,7 @@ fn steps(
         state = turn(
             state,
             identity,
-            page,
+            bytes,
             array,
             rows,
             wp,
@@ -288,7 +318,6 @@ pub fn run(
         };
     }
     let part = found.part;
-    let phase = found.phase;
     let number = refusals::size_number_or(part.blocks, array.len(), later);
     if number != 0 {
         return Ran {
@@ -298,8 +327,6 @@ pub fn run(
     }
     let identity = record_bytes::reading::identity_in(bytes);
     let start = State {
-        part: part,
-        phase: phase,
         number: 0,
         step: 0,
         at: 0,
@@ -308,7 +335,7 @@ pub fn run(
     let end = steps(
         start,
         identity,
-        &mut bytes[places::PAGE..places::END],
+        bytes,
         array,
         rows,
         high,
@@ -319,9 +346,6 @@ pub fn run(
         answers,
         done,
     );
-    let part = end.part;
-    let phase = end.phase;
-    record_bytes::writing::write_phase(part, phase, bytes);
     Ran {
         number: end.number,
         step: end.step,

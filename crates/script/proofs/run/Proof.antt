@@ -1,4 +1,4 @@
--- `script::run` meets its contract: no record held, a script that is refused, and one whose steps are made and whose last record is written.
+-- `script::run` meets its contract: no record held, a script that is refused, and one whose steps are made.
 use mathlib.Core.Path.{refl, sym, ap, _∙_}
 use Prim.Native.Nat.{ℕ}
 use lib.ListN.{length}
@@ -6,7 +6,7 @@ use denote.Ref.{now}
 use borrow.Author.Tests.{not-true, not-false}
 use Rattle.paper.specs.Numbers.{sizeNumber}
 use Rattle.words.specs.Logic.{_orElse_}
-use Rattle.record_bytes.proofs.Back.{held-length, lent-length}
+use Rattle.record_bytes.proofs.Back.{held-identity}
 use Rattle.record_bytes.specs.declared.Found.{Found}
 use Rattle.script.specs.InBytes.{scriptOf}
 use Rattle.script.proofs.InBytes.{gives, unheld-given, unheld-left, refused-given, refused-left, begins-fit, begins-ready, ran-given, ran-left}
@@ -18,7 +18,6 @@ use Rattle.script.proofs.run.Reads as reads
 use Rattle.script.proofs.run.Lts as lts
 use Rattle.record_bytes.proofs.reading.identity_in.Reads as identity-in-reads
 use Rattle.record_bytes.proofs.reading.read.Reads as read-reads
-use Rattle.record_bytes.proofs.writing.write_phase.Reads as write-phase-reads
 use Rattle.refusals.proofs.size_number_or.Reads as size-number-or-reads
 use Rattle.script.proofs.later_refusal.Reads as later-refusal-reads
 use Rattle.script.proofs.steps.Reads as steps-reads
@@ -42,8 +41,7 @@ returns c = let a = c .before .before .before .before .before .before .before .b
     let e = ap (λ (f : Found). f .ok) (sym (x .ensures)) ∙ not-true _ (c .if1 .taken) in
     let s = scriptOf (a .wp) (now (a .input)) (now (a .lengths)) (now (a .ticks)) in
     let fit = c .before .before .before .both in
-    let w = unheld-given (now (a .bytes)) (x .result) (x .ensures) (a .wp) s (now (a .array)) (now (a .rows)) (now (a .output)) (now (a .answers)) (now (a .done)) (fit .result) (fit .ensures) e _ (c .before .before .later-refusal .ensures) in
-    let g = gives _ _ w in
+    let g = gives _ _ (unheld-given (now (a .bytes)) (x .result) (x .ensures) (a .wp) s (now (a .array)) (now (a .rows)) (now (a .output)) (now (a .answers)) (now (a .done)) (fit .result) (fit .ensures) e _ (c .before .before .later-refusal .ensures)) in
     (g .answer, (unheld-left (now (a .bytes)) (x .result) (x .ensures) (a .wp) s (now (a .array)) (now (a .rows)) (now (a .output)) (now (a .answers)) (now (a .done)) (fit .result) (fit .ensures) e, (g .array, (g .rows, (g .output, (g .answers, g .done))))))
 
 size-number-or-requires : tie.Need-size-number-or-requires
@@ -65,15 +63,6 @@ returns-2 c = let a = c .before .before .before .before .before .before .before 
 identity-in-requires : tie.Need-identity-in-requires
 identity-in-requires c κs = search needs
 
-sub-steps : tie.Need-sub-steps
-sub-steps c = search needs
-
-part-steps-start : tie.Need-part-steps-start
-part-steps-start c = search needs
-
-part-steps-end : tie.Need-part-steps-end
-part-steps-end c = omega (arith, held-length (now (c .before .before .before .before .before .before .before .before .before .before .before .before .before .before .before .before .before .before .before .before .args .bytes)) (ap (λ (f : Found). f .ok) (sym (c .before .before .before .before .before .before .before .before .before .read .ensures)) ∙ not-false _ (c .before .before .before .before .before .if1 .left)))
-
 steps-requires : tie.Need-steps-requires
 steps-requires c κs = let a = c .before .before .before .before .before .before .before .before .before .before .before .before .before .before .before .before .before .before .before .before .before .before .before .before .before .before .args in
     let x = c .before .before .before .before .before .before .before .before .before .before .before .before .before .before .before .read in
@@ -81,10 +70,7 @@ steps-requires c κs = let a = c .before .before .before .before .before .before
     let s = scriptOf (a .wp) (now (a .input)) (now (a .lengths)) (now (a .ticks)) in
     let fit = c .before .before .before .before .before .before .before .before .before .before .before .before .before .before .both in
     let z = sym (c .before .before .before .before .before .before .before .before .before .size-number-or .ensures ∙ ap (λ (j : ℕ). sizeNumber (x .result .part .blocks) (length (now (a .array))) orElse j) (c .before .before .before .before .before .before .before .before .before .before .before .before .before .later-refusal .ensures)) ∙ c .before .before .before .before .before .before .before .before .if2 .left in
-    (begins-fit (now (a .bytes)) (x .result) (x .ensures) (a .wp) s (now (a .array)) (now (a .rows)) (now (a .output)) (now (a .answers)) (now (a .done)) (fit .result) (fit .ensures) e z, ((refl, refl), begins-ready (now (a .bytes)) (x .result) (x .ensures) (a .wp) s (now (a .array)) (now (a .rows)) (now (a .output)) (now (a .answers)) (now (a .done)) (fit .result) (fit .ensures) e z))
-
-write-phase-requires : tie.Need-write-phase-requires
-write-phase-requires c κs = search needs
+    (begins-fit (now (a .bytes)) (x .result) (x .ensures) (a .wp) s (now (a .array)) (now (a .rows)) (now (a .output)) (now (a .answers)) (now (a .done)) (fit .result) (fit .ensures) e z, ((refl, refl), (begins-ready (now (a .bytes)) (x .result) (x .ensures) (a .wp) s (now (a .array)) (now (a .rows)) (now (a .output)) (now (a .answers)) (now (a .done)) (fit .result) (fit .ensures) e z, c .before .before .before .before .before .before .identity-in .ensures ∙ held-identity (now (a .bytes)) e)))
 
 same-length-3 : tie.Need-same-length-3
 same-length-3 c = search needs
@@ -105,16 +91,15 @@ same-length-8 : tie.Need-same-length-8
 same-length-8 c = search needs
 
 returns-3 : tie.Need-returns-3
-returns-3 c = let a = c .before .before .before .before .before .before .before .before .before .before .before .before .before .before .before .before .before .before .before .before .before .before .before .before .before .before .before .before .before .before .before .before .before .before .before .before .before .before .before .before .before .before .before .before .args in
-    let x = c .before .before .before .before .before .before .before .before .before .before .before .before .before .before .before .before .before .before .before .before .before .before .before .before .before .before .before .before .before .before .before .before .before .read in
-    let e = ap (λ (f : Found). f .ok) (sym (x .ensures)) ∙ not-false _ (c .before .before .before .before .before .before .before .before .before .before .before .before .before .before .before .before .before .before .before .before .before .before .before .before .before .before .before .before .before .if1 .left) in
+returns-3 c = let a = c .before .before .before .before .before .before .before .before .before .before .before .before .before .before .before .before .before .before .before .before .before .before .before .before .before .before .before .before .before .before .before .before .before .before .before .before .before .before .before .args in
+    let x = c .before .before .before .before .before .before .before .before .before .before .before .before .before .before .before .before .before .before .before .before .before .before .before .before .before .before .before .before .read in
+    let e = ap (λ (f : Found). f .ok) (sym (x .ensures)) ∙ not-false _ (c .before .before .before .before .before .before .before .before .before .before .before .before .before .before .before .before .before .before .before .before .before .before .before .before .if1 .left) in
     let s = scriptOf (a .wp) (now (a .input)) (now (a .lengths)) (now (a .ticks)) in
-    let fit = c .before .before .before .before .before .before .before .before .before .before .before .before .before .before .before .before .before .before .before .before .before .before .before .before .before .before .before .before .before .before .before .before .both in
-    let z = sym (c .before .before .before .before .before .before .before .before .before .before .before .before .before .before .before .before .before .before .before .before .before .before .before .before .before .before .before .size-number-or .ensures ∙ ap (λ (j : ℕ). sizeNumber (x .result .part .blocks) (length (now (a .array))) orElse j) (c .before .before .before .before .before .before .before .before .before .before .before .before .before .before .before .before .before .before .before .before .before .before .before .before .before .before .before .before .before .before .before .later-refusal .ensures)) ∙ c .before .before .before .before .before .before .before .before .before .before .before .before .before .before .before .before .before .before .before .before .before .before .before .before .before .before .if2 .left in
-    let id = c .before .before .before .before .before .before .before .before .before .before .before .before .before .before .before .before .before .before .before .before .before .before .before .before .identity-in in
-    let t = c .before .before .before .before .before .before .before .before .before .before .before .before .before .before .before .before .before .steps in
-    let g = gives _ _ (ran-given (now (a .bytes)) (x .result) (x .ensures) (a .wp) s (now (a .array)) (now (a .rows)) (now (a .output)) (now (a .answers)) (now (a .done)) (fit .result) (fit .ensures) e z (id .result) (id .ensures) (t .result) _ _ _ _ _ _ (t .ensures)) in
-    (g .answer, (c .before .before .write-phase .ensures ∙ ran-left (now (a .bytes)) (x .result) (x .ensures) (a .wp) s (now (a .array)) (now (a .rows)) (now (a .output)) (now (a .answers)) (now (a .done)) (fit .result) (fit .ensures) e z (id .result) (id .ensures) (t .result) _ _ _ _ _ _ (t .ensures) (t .kept .1 .1 .0 ∙ lent-length (now (a .bytes)) e), (g .array, (g .rows, (g .output, (g .answers, g .done))))))
+    let fit = c .before .before .before .before .before .before .before .before .before .before .before .before .before .before .before .before .before .before .before .before .before .before .before .before .before .before .before .both in
+    let z = sym (c .before .before .before .before .before .before .before .before .before .before .before .before .before .before .before .before .before .before .before .before .before .before .size-number-or .ensures ∙ ap (λ (j : ℕ). sizeNumber (x .result .part .blocks) (length (now (a .array))) orElse j) (c .before .before .before .before .before .before .before .before .before .before .before .before .before .before .before .before .before .before .before .before .before .before .before .before .before .before .later-refusal .ensures)) ∙ c .before .before .before .before .before .before .before .before .before .before .before .before .before .before .before .before .before .before .before .before .before .if2 .left in
+    let t = c .before .before .before .before .before .before .before .before .before .before .before .before .steps in
+    let g = gives _ _ (ran-given (now (a .bytes)) (x .result) (x .ensures) (a .wp) s (now (a .array)) (now (a .rows)) (now (a .output)) (now (a .answers)) (now (a .done)) (fit .result) (fit .ensures) e z (t .result) _ _ _ _ _ _ (t .ensures .0)) in
+    (g .answer, (ran-left (now (a .bytes)) (x .result) (x .ensures) (a .wp) s (now (a .array)) (now (a .rows)) (now (a .output)) (now (a .answers)) (now (a .done)) (fit .result) (fit .ensures) e z (t .result) _ _ _ _ _ _ (t .ensures .0) (t .ensures .1), (g .array, (g .rows, (g .output, (g .answers, g .done))))))
 
 pub run-spec : {M : Type 1} → statement M
 run-spec =
@@ -129,11 +114,7 @@ run-spec =
     same-length-2
     returns-2
     identity-in-requires
-    sub-steps
-    part-steps-start
-    part-steps-end
     steps-requires
-    write-phase-requires
     same-length-3
     same-length-4
     same-length-5

@@ -3,6 +3,7 @@ use mathlib.Core.Path.{refl, sym, _∙_}
 use Prim.Native.Nat.{_-_}
 use lib.ListN.{length}
 use denote.Ref.{now}
+use Rattle.record_bytes.proofs.Back.{held-length}
 use Rattle.script.specs.Steps.{world}
 use Rattle.script.proofs.OneByOne.{Along, fit-along, all-made, stopped-at, one-more}
 use borrow.Author.Needs.{needs}
@@ -14,21 +15,21 @@ use Rattle.script.proofs.steps.Lts as lts
 use Rattle.script.proofs.turn.Reads as turn-reads
 
 abbrev Inv-loop : tie.InvT-loop
-Inv-loop identity page₀ array₀ rows₀ wp input lengths ticks output₀ answers₀ done₀ state₀ k₀ page array rows output answers done state k =
-    Along identity (record { wp = wp; input = input; lengths = lengths; ticks = ticks }) k (world identity state₀ page₀ array₀ rows₀ output₀ answers₀ done₀) state page array rows output answers done
+Inv-loop identity bytes₀ array₀ rows₀ wp input lengths ticks output₀ answers₀ done₀ state₀ k₀ bytes array rows output answers done state k =
+    Along identity (record { wp = wp; input = input; lengths = lengths; ticks = ticks }) k (world state₀ bytes₀ array₀ rows₀ output₀ answers₀ done₀) state bytes array rows output answers done
 
 abbrev μ-loop : tie.MeasureT-loop
-μ-loop identity page₀ array₀ rows₀ wp input lengths ticks output₀ answers₀ done₀ state₀ k₀ page array rows output answers done state k =
+μ-loop identity bytes₀ array₀ rows₀ wp input lengths ticks output₀ answers₀ done₀ state₀ k₀ bytes array rows output answers done state k =
     length lengths - k
 
 loop-holds : tie.Need-loop-holds Inv-loop μ-loop
-loop-holds c = let s = c .before .before .before .before .before .before .before .before .before in record { told = refl; within = omega arith; going = s .pre .1 .0 .1; at = s .pre .1 .0 .0; ready = s .pre .1 .1; array = refl; rows = refl; output = refl; answers = refl; done = refl }
+loop-holds c = let s = c .before .before .before .before .before .before .before .before .before in record { told = refl; within = omega arith; going = s .pre .1 .0 .1; at = s .pre .1 .0 .0; ready = s .pre .1 .1 .0; identity = s .pre .1 .1 .1; array = refl; rows = refl; output = refl; answers = refl; done = refl }
 
 turn-requires : tie.Need-turn-requires Inv-loop μ-loop
-turn-requires c κs = let l = c .before .before .before .before .before .before .before .loop .inv in (fit-along _ _ _ _ _ _ _ _ _ _ _ l (c .before .before .before .before .before .before .before .before .before .before .before .before .before .before .before .before .before .pre .0), ((c .before .before .before .before .before .before .loop-test .taken, l .at), l .ready))
+turn-requires c κs = let l = c .before .before .before .before .before .before .before .loop .inv in (fit-along _ _ _ _ _ _ _ _ _ _ _ l (c .before .before .before .before .before .before .before .before .before .before .before .before .before .before .before .before .before .pre .0), ((c .before .before .before .before .before .before .loop-test .taken, l .at), (l .ready, l .identity)))
 
 same-length : tie.Need-same-length Inv-loop μ-loop
-same-length c = c .before .before .before .before .before .before .before .before .before .before .before .before .before .before .turn .ensures .1 .1 .page ∙ sym (c .before .before .before .before .before .before .before .before .before .before .before .before .before .before .before .before .before .before .before .before .before .before .before .before .before .before .before .before .before .before .before .before .pre .1 .1 .page)
+same-length c = held-length _ (c .before .before .before .before .before .before .before .before .before .before .before .before .before .before .turn .ensures .1 .1 .0 .ok) ∙ sym (held-length _ (c .before .before .before .before .before .before .before .before .before .before .before .before .before .before .before .before .before .before .before .before .before .before .before .before .before .before .before .before .before .before .before .before .pre .1 .1 .0 .ok))
 
 same-length-2 : tie.Need-same-length-2 Inv-loop μ-loop
 same-length-2 c = c .before .before .before .before .before .before .before .before .before .before .before .before .before .before .turn .kept .1 .1 .1 .0 ∙ c .before .before .before .before .before .before .before .before .before .before .before .before .before .before .before .before .before .before .before .before .before .before .loop .inv .array
@@ -46,9 +47,8 @@ same-length-6 : tie.Need-same-length-6 Inv-loop μ-loop
 same-length-6 c = c .before .before .before .before .before .before .before .before .before .before .before .before .before .before .turn .kept .1 .1 .1 .1 .1 .1 .1 .1 .1 .1 .1 .0 ∙ c .before .before .before .before .before .before .before .before .before .before .before .before .before .before .before .before .before .before .before .before .before .before .loop .inv .done
 
 returns : tie.Need-returns Inv-loop μ-loop
-returns c =
-    let t = c .before .before .before .before .before .before .before .before .before .before .before .before .before .before .turn in
-    stopped-at _ _ _ _ _ _ _ _ _ _ _ (c .before .before .before .before .before .before .before .before .before .before .before .before .before .before .before .before .before .before .before .before .before .before .loop .inv) (c .before .before .before .before .before .before .before .before .before .before .before .before .before .before .before .before .before .before .before .before .before .loop-test .taken) (t .result) _ _ _ _ _ _ (t .ensures .0) (c .if1 .taken)
+returns c = let t = c .before .before .before .before .before .before .before .before .before .before .before .before .before .before .turn in
+    (stopped-at _ _ _ _ _ _ _ _ _ _ _ (c .before .before .before .before .before .before .before .before .before .before .before .before .before .before .before .before .before .before .before .before .before .before .loop .inv) (c .before .before .before .before .before .before .before .before .before .before .before .before .before .before .before .before .before .before .before .before .before .loop-test .taken) (t .result) _ _ _ _ _ _ (t .ensures .0) (c .if1 .taken), t .ensures .1 .1 .0 .ok)
 
 add-k : tie.Need-add-k Inv-loop μ-loop
 add-k c = omega (arith, c .before .before .before .before .before .before .before .before .before .before .before .before .before .before .before .before .before .before .before .before .before .loop-test .taken, c .before .before .before .before .before .before .before .before .before .before .before .before .before .before .before .before .before .before .before .before .before .before .before .before .before .before .before .before .before .before .before .before .good .1 .1 .1 .1 .1 .1 .1 .0 .0)
@@ -57,12 +57,11 @@ loop-less : tie.Need-loop-less Inv-loop μ-loop
 loop-less c = omega (arith, c .before .before .before .before .before .before .before .before .before .before .before .before .before .before .before .before .before .before .before .before .before .loop-test .taken)
 
 loop-again : tie.Need-loop-again Inv-loop μ-loop
-loop-again c =
-    let t = c .before .before .before .before .before .before .before .before .before .before .before .before .before .before .turn in
-    one-more _ _ _ _ _ _ _ _ _ _ _ (c .before .before .before .before .before .before .before .before .before .before .before .before .before .before .before .before .before .before .before .before .before .before .loop .inv) (c .before .before .before .before .before .before .before .before .before .before .before .before .before .before .before .before .before .before .before .before .before .loop-test .taken) _ _ _ _ _ _ _ (t .ensures .0) (c .if1 .left) (t .ensures .1 .0) (t .ensures .1 .1) (t .kept .1 .1 .1 .0) (t .kept .1 .1 .1 .1 .0) (t .kept .1 .1 .1 .1 .1 .1 .1 .1 .1 .0) (t .kept .1 .1 .1 .1 .1 .1 .1 .1 .1 .1 .0) (t .kept .1 .1 .1 .1 .1 .1 .1 .1 .1 .1 .1 .0)
+loop-again c = let t = c .before .before .before .before .before .before .before .before .before .before .before .before .before .before .turn in
+    one-more _ _ _ _ _ _ _ _ _ _ _ (c .before .before .before .before .before .before .before .before .before .before .before .before .before .before .before .before .before .before .before .before .before .before .loop .inv) (c .before .before .before .before .before .before .before .before .before .before .before .before .before .before .before .before .before .before .before .before .before .loop-test .taken) _ _ _ _ _ _ _ (t .ensures .0) (c .if1 .left) (t .ensures .1 .0) (t .ensures .1 .1 .0) (t .ensures .1 .1 .1) (t .kept .1 .1 .1 .0) (t .kept .1 .1 .1 .1 .0) (t .kept .1 .1 .1 .1 .1 .1 .1 .1 .1 .0) (t .kept .1 .1 .1 .1 .1 .1 .1 .1 .1 .1 .0) (t .kept .1 .1 .1 .1 .1 .1 .1 .1 .1 .1 .1 .0)
 
 same-length-7 : tie.Need-same-length-7 Inv-loop μ-loop
-same-length-7 c = c .before .loop .inv .ready .page ∙ sym (c .before .before .before .before .before .before .before .before .before .before .before .pre .1 .1 .page)
+same-length-7 c = held-length _ (c .before .loop .inv .ready .ok) ∙ sym (held-length _ (c .before .before .before .before .before .before .before .before .before .before .before .pre .1 .1 .0 .ok))
 
 same-length-8 : tie.Need-same-length-8 Inv-loop μ-loop
 same-length-8 c = c .before .loop .inv .array
@@ -80,7 +79,7 @@ same-length-12 : tie.Need-same-length-12 Inv-loop μ-loop
 same-length-12 c = c .before .loop .inv .done
 
 returns-2 : tie.Need-returns-2 Inv-loop μ-loop
-returns-2 c = all-made _ _ _ _ _ _ _ _ _ _ _ (c .before .loop .inv) (c .loop-test .left)
+returns-2 c = (all-made _ _ _ _ _ _ _ _ _ _ _ (c .before .loop .inv) (c .loop-test .left), c .before .loop .inv .ready .ok)
 
 pub steps-spec : {M : Type 1} → statement M
 steps-spec =
