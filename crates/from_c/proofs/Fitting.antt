@@ -20,7 +20,7 @@ use Rattle.paper.proofs.KeptBytes.{none-page, after-page}
 use Rattle.paper.proofs.CallKept.{after-tick-call}
 use Rattle.from_c.specs.Holding.{Page}
 
--- what a transaction changes
+-- what a transaction changes keeps it a page
 changed-page : (c : Change) (i : List ℕ) (p : Record) → Page p → Page (changed c i p)
 changed-page c i p h = after-page (dataAfter c) i (p .page) h
 

@@ -7,11 +7,11 @@ use Rattle.paper.specs.History.{Call}
 use Rattle.record_bytes.specs.Layout.{recordBytes}
 use Rattle.record_bytes.specs.Read.{held, recordIn}
 use Rattle.record_bytes.proofs.Back.{read-back}
+use Rattle.record_bytes.proofs.Fits.{sound-fits}
 use Rattle.history.specs.Run.{Run}
 use Rattle.history.proofs.Told.{run-told}
 use Rattle.from_c.specs.Driven.{Lent}
 use Rattle.from_c.specs.Holding.{Page, Holding}
-use Rattle.record_bytes.proofs.Fits.{sound-fits}
 use Rattle.from_c.proofs.Fitting.{calls-page}
 
 -- the record is read back from them

@@ -224,23 +224,24 @@ pub fn read(bytes: &[u8]) -> Found
 pub fn part_again(bytes: &[u8]) -> Part
     ensures { λ r. ⌜ r ≡ partAgain (now (bytes .entry)) ⌝ }
 {
-    if bytes.len() != places::END {
-        let none = none_found();
-        return none.part;
+    if bytes.len() == places::END {
+        return part_in(bytes);
     }
-    part_in(bytes)
+    let none = none_found();
+    none.part
 }
 
-// The phase that they hold, in the same way. An idle part is told by its two kinds alone.
+// The phase that they hold, in the same way. An idle part is told by its two kinds alone. Bytes of another length give that of
+// an idle part.
 pub fn phase_again(bytes: &[u8]) -> Phase
     ensures { λ r. ⌜ r ≡ phaseAgain (now (bytes .entry)) ⌝ }
 {
     if bytes.len() != places::END {
         return Phase::Idle;
     }
-    let runs = bytes[places::RUNNING] != 0;
-    let stands = bytes[places::HALTED] != 0;
-    if words::both(!runs, !stands) {
+    let rests = bytes[places::RUNNING] == 0;
+    let alone = bytes[places::HALTED] == 0;
+    if words::both(rests, alone) {
         return Phase::Idle;
     }
     let doing = doing_in(bytes);

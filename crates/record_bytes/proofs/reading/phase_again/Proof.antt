@@ -3,11 +3,11 @@ use Prim.Native.Nat.{ℕ, _<_}
 use mathlib.Core.Path.{sym, _∙_}
 use lib.ListN.{getD}
 use denote.Ref.{now}
-use borrow.Author.Tests.{eq-eqb, ne-eqb}
+use borrow.Author.Tests.{eq-eqb, ne-eqb, eqb-true}
 use Rattle.words.proofs.Tests.{and-l, and-r}
 use Rattle.record_bytes.specs.Layout.{runningAt, haltedAt}
 use Rattle.record_bytes.specs.Read.{phaseAgain}
-use Rattle.record_bytes.proofs.Parts.{none-there, idle-phase, doing-phase}
+use Rattle.record_bytes.proofs.Parts.{idle-phase, doing-phase}
 use borrow.Author.Needs.{needs}
 use native.Mathlib.Omega.{arith}
 use Rattle.record_bytes.proofs.reading.phase_again.Statement.{statement}
@@ -17,11 +17,11 @@ returns : tie.Need-returns
 unfolding phaseAgain
 returns c = rw (ne-eqb _ _ (c .if1 .taken))
 
-shared-slice-read-runs : tie.Need-shared-slice-read-runs
-shared-slice-read-runs c = search needs
+shared-slice-read-rests : tie.Need-shared-slice-read-rests
+shared-slice-read-rests c = search needs
 
-shared-slice-read-stands : tie.Need-shared-slice-read-stands
-shared-slice-read-stands c = search needs
+shared-slice-read-alone : tie.Need-shared-slice-read-alone
+shared-slice-read-alone c = search needs
 
 both-requires : tie.Need-both-requires
 both-requires c κs = search needs
@@ -33,8 +33,8 @@ returns-2 c =
     let l = c .before .before .before .before .if1 .left in
     let low : (j : ℕ) → getD bs j 0 < 256 = λ j. omega (arith, c .before .before .before .before .before .shared-slice-known .given j) in
     let t = sym (c .before .both .ensures) ∙ c .if2 .taken in
-    let r = none-there (getD bs runningAt 0) (and-l _ _ t) in
-    let h = none-there (getD bs haltedAt 0) (and-r _ _ t) in
+    let r = eqb-true (getD bs runningAt 0) 0 (and-l _ _ t) in
+    let h = eqb-true (getD bs haltedAt 0) 0 (and-r _ _ t) in
     rw (eq-eqb _ _ l) (idle-phase bs l low r h)
 
 doing-in-requires : tie.Need-doing-in-requires
@@ -53,8 +53,8 @@ phase-again-spec =
     tie.close
     (tie.spec
     returns
-    shared-slice-read-runs
-    shared-slice-read-stands
+    shared-slice-read-rests
+    shared-slice-read-alone
     both-requires
     returns-2
     doing-in-requires
