@@ -228,7 +228,7 @@ uint64_t yawlspar_tick(uint8_t *record, size_t record_len, uint8_t *array, size_
 /*
  * A script: a list of transactions, each with ticks after it, in one call. Step k is yawlspar_transact and then
  * yawlspar_tick, and what a script leaves is what these calls leave when they are made one by one. It saves their
- * fixed cost: the record is read and judged once for all steps, not twice for each.
+ * fixed cost: the record is judged once, before the first step, and not by each call.
  *
  *   record   the part's record; the next one is written over it
  *   array    the part's array, which an operation may write
