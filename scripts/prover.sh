@@ -6,13 +6,14 @@
 #   drop_lock                    let others use it
 #   in_group COMMAND..           run a command with all that it starts in a process group, which is ended when this script
 #                                is. rt starts provers in the background, where a shell lets nothing hear Ctrl-C
-#   prove NAME COMMAND CRATE     `rt COMMAND CRATE`, with a line on standard error for each crate as it is proved. All that rt
-#                                says goes to target/rt.log, and where it fails to standard error
-#   make_archive NAME            the archive that C links, `$archive`, of these sources: rt proves yawlspar anew each time that
-#                                it makes one, so none is made where nothing has changed
+#   prove NAME COMMAND CRATE..   `rt COMMAND CRATE` for each crate, with a line on standard error for each one as it is
+#                                proved. All that rt says goes to target/rt.log, and where it fails to standard error
+#   make_archive NAME            the archive that C links, `$archive`, of these sources: rt proves yawlspar and yawlspar_script
+#                                anew each time that it makes one, so none is made where nothing has changed
 #
 # NAME is that of the script, for what it says. The lock is one on the file .lock, which stays; what a script calls has
 # it too.
+. scripts/kit.sh
 
 take_lock() { # NAME
     local fd=${YAWLSPAR_LOCK-} status=0
@@ -60,7 +61,7 @@ end_group() { # SIGNAL
     kill -s "$1" $$
 }
 
-prove() { # NAME COMMAND CRATE
+prove() { # NAME COMMAND CRATE..
     local said=target/rt.log
     take_lock "$1"
     mkdir -p target
@@ -71,17 +72,17 @@ prove() { # NAME COMMAND CRATE
 }
 
 # Prints all that rt says, and on standard error a line for each crate that it proves.
-follow() { # NAME COMMAND CRATE
-    local name=$1 line made=target/bin/$3 told='' proved='^rt: ([a-z_]+) proved (\([0-9]+ s\))$'
-    shift
-    [ "$1" = check ] || made=$archive
-    if [ ! -f "$made" ] && [ ! -f "target/stamp/$2" ]; then
-        told="proving $2 and what it rests on: about 5 minutes on two cores the first time"
-    elif [ "$1" != check ]; then
+follow() { # NAME COMMAND CRATE..
+    local name=$1 command=$2 crate line made=target/bin/$3 told='' proved='^rt: ([a-z_]+) proved (\([0-9]+ s\))$'
+    shift 2
+    [ "$command" = check ] || made=$archive
+    if [ ! -f "$made" ] && [ ! -f "target/stamp/$1" ]; then
+        told="proving $1 and what it rests on: about 5 minutes on two cores the first time"
+    elif [ "$command" != check ]; then
         told='proving what is new since the last time'
     fi
     [ -z "$told" ] || printf '%s: %s\n' "$name" "$told" >&2
-    rt "$@" 2>&1 | while IFS= read -r line; do
+    for crate; do rt "$command" "$crate" || exit; done 2>&1 | while IFS= read -r line; do
         printf '%s\n' "$line"
         [[ $line =~ $proved ]] || continue
         if [ -z "$told" ]; then
@@ -92,13 +93,18 @@ follow() { # NAME COMMAND CRATE
     done
 }
 
-# Makes the archive, where it is not the one of these sources and this kit.
-archive=target/staticlib/libyawlspar.a
+# Makes the archive, where it is not the one of these sources and this kit: two static libraries in one file. docs/SPEED.md
+# says why scripts are compiled apart.
+archive=target/archive/libyawlspar.a
 make_archive() { # NAME
-    local sum=target/staticlib/sum
+    local sum=target/archive/sum kit toolchain
     take_lock "$1"
     if [ -f "$archive" ] && [ -f "$sum" ] && [ "$(archive_sum)" = "$(cat "$sum")" ]; then return; fi
-    prove "$1" staticlib yawlspar
+    prove "$1" staticlib yawlspar yawlspar_script
+    find_kit "$1"
+    mkdir -p target/archive
+    rm -f -- "$archive"
+    "$toolchain/bin/llvm-ar" qcLs "$archive" target/staticlib/libyawlspar.a target/staticlib/libyawlspar_script.a
     archive_sum >"$sum"
 }
 

@@ -20,7 +20,8 @@ use Rattle.record_bytes.specs.Layout.{recordBytes}
 use Rattle.record_bytes.specs.Read.{held, recordIn, onHeld}
 use Rattle.ticks.specs.InBytes.{heldWorked, tickBytes, tickMemory}
 use Rattle.ticks.proofs.InBytes.{unheld-tick-bytes, unheld-memory}
-use Rattle.yawlspar.specs.Face.{packed, transactAnswer, transactBytes, transactOutput, tickAnswer, scriptAnswer}
+use Rattle.yawlspar.specs.Face.{packed, transactAnswer, transactBytes, transactOutput, tickAnswer}
+use Rattle.yawlspar_script.specs.Face.{scriptAnswer}
 use Rattle.yawlspar.proofs.Face.{unheld-bytes}
 use Rattle.yawlspar.proofs.Refused.{refused-bytes}
 use Rattle.script.specs.InBytes.{scriptOf, heldScript}

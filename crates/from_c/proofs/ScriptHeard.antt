@@ -22,7 +22,8 @@ use Rattle.history.specs.Course.{Step, sent, waited}
 use Rattle.history.specs.ScriptLaws.{courseFrom, StepsTold}
 use Rattle.history.proofs.ScriptSteps.{StepCourse, whole, alone}
 use Rattle.history.proofs.Scripts.{Accepted, after, stop, course, Going, going, Halt, reached, madeThen, courseThen, course-next, course-made, after-next, in-answers, in-done, number-then, step-then, stop-next, steps-told, script-laws}
-use Rattle.yawlspar.specs.Face.{packed, scriptAnswer}
+use Rattle.yawlspar.specs.Face.{packed}
+use Rattle.yawlspar_script.specs.Face.{scriptAnswer}
 use Rattle.from_c.specs.Driven.{heardWhole, heardStop, heardSteps, scriptSteps}
 
 -- what is heard of number, step and entries

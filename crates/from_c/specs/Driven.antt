@@ -15,7 +15,8 @@ use Rattle.paper.specs.Script.{Scripted, scriptCalls}
 use Rattle.history.specs.Course.{Step, sent, waited, courseOf}
 use Rattle.record_bytes.specs.Read.{recordIn}
 use Rattle.ticks.specs.InBytes.{tickBytes, tickMemory}
-use Rattle.yawlspar.specs.Face.{packed, transactAnswer, transactBytes, transactOutput, tickAnswer, scriptAnswer}
+use Rattle.yawlspar.specs.Face.{packed, transactAnswer, transactBytes, transactOutput, tickAnswer}
+use Rattle.yawlspar_script.specs.Face.{scriptAnswer}
 use Rattle.script.specs.InBytes.{scriptOf, heldScript, scriptBytes}
 
 -- what every call is lent: the record's bytes, the array and the rows

@@ -1,5 +1,5 @@
 -- What the definitions for C come to in each case: no record held, and the call itself.
-use Prim.Native.Nat.{ℕ, _^_, _≤_, _<_}
+use Prim.Native.Nat.{ℕ, _≤_}
 use mathlib.Core.Path.{_≡_, refl, sym, ap, _∙_}
 use mathlib.Core.Bool.{Bool, true, false, cond}
 use mathlib.Core.List.{List}
@@ -80,8 +80,8 @@ module _ (h : Held) (a r n : ℕ) where
       rw (on-held h (λ p. ticked p a r n) _ e) (omega (arith, done-at-most (h .state) a r n .1, limit-range (h .state .part .blocks) .1))
   worked-as false e = rw (on-none h (λ p. ticked p a r n) _ e) (omega arith)
 
-  pub worked-packs : heldWorked h a r n .done < 2 ^ 56
-  worked-packs = omega (arith, worked-as (h .ok) refl)
+  pub worked-packs : heldWorked h a r n .done ≤ 131072
+  worked-packs = worked-as (h .ok) refl
 
 -- power-up: what the numbers that it can take are
 pub record Given (l : ℕ) (q : Asked) : Type 0 where

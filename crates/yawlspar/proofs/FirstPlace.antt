@@ -1,5 +1,5 @@
 -- A first driven place does not pass 4,096.
-use Prim.Native.Nat.{ℕ, _^_, _≤_, _<_, min}
+use Prim.Native.Nat.{ℕ, _≤_, min}
 use mathlib.Core.Path.{_≡_, refl}
 use mathlib.Core.Bool.{Bool, true, false, cond}
 use mathlib.Core.List.{List}
@@ -40,5 +40,5 @@ module _ (p : Part) (f : Phase) (s : Bool) (a r : ℕ) (wp : Bool) (i : List ℕ
   first-few = first-as _ refl
 
   -- and so can be packed
-  pub first-packs : outcomeOf p f s a r wp i o .first < 2 ^ 56
+  pub first-packs : outcomeOf p f s a r wp i o .first ≤ 131072
   first-packs = omega (arith, first-few)

@@ -9,7 +9,6 @@ use Rattle.yawlspar.proofs.numbers.yawlspar_page_place.Reads as yawlspa
 use Rattle.yawlspar.proofs.yawlspar_power_up.Reads as yawlspar-power-up
 use Rattle.yawlspar.proofs.yawlspar_transact.Reads as yawlspar-transact
 use Rattle.yawlspar.proofs.yawlspar_tick.Reads as yawlspar-tick
-use Rattle.yawlspar.proofs.yawlspar_script.Reads as yawlspar-script
 use Rattle.yawlspar.proofs.yawlspar_version.Reads as yawlspar-version
 
 pub protection-number-one : OneResult yawlspar-protection-number.Learnt
@@ -53,27 +52,6 @@ tick-one-array κ a x y s t p q = agree (p .1 .1 .0) (q .1 .1 .0)
 
 pub tick-one-rows : OneExit yawlspar-tick.Learnt (λ κ s. now (s .1 .1 .0))
 tick-one-rows κ a x y s t p q = agree (p .1 .1 .1) (q .1 .1 .1)
-
-pub script-one : OneResult yawlspar-script.Learnt
-script-one κ a x y s t p q = agree (p .0) (q .0)
-
-pub script-one-bytes : OneExit yawlspar-script.Learnt (λ κ s. now (s .0))
-script-one-bytes κ a x y s t p q = agree (p .1 .0) (q .1 .0)
-
-pub script-one-array : OneExit yawlspar-script.Learnt (λ κ s. now (s .1 .0))
-script-one-array κ a x y s t p q = agree (p .1 .1 .0) (q .1 .1 .0)
-
-pub script-one-rows : OneExit yawlspar-script.Learnt (λ κ s. now (s .1 .1 .0))
-script-one-rows κ a x y s t p q = agree (p .1 .1 .1 .0) (q .1 .1 .1 .0)
-
-pub script-one-output : OneExit yawlspar-script.Learnt (λ κ s. now (s .1 .1 .1 .1 .1 .1 .1 .0))
-script-one-output κ a x y s t p q = agree (p .1 .1 .1 .1 .0) (q .1 .1 .1 .1 .0)
-
-pub script-one-answers : OneExit yawlspar-script.Learnt (λ κ s. now (s .1 .1 .1 .1 .1 .1 .1 .1 .0))
-script-one-answers κ a x y s t p q = agree (p .1 .1 .1 .1 .1 .0) (q .1 .1 .1 .1 .1 .0)
-
-pub script-one-done : OneExit yawlspar-script.Learnt (λ κ s. now (s .1 .1 .1 .1 .1 .1 .1 .1 .1 .0))
-script-one-done κ a x y s t p q = agree (p .1 .1 .1 .1 .1 .1) (q .1 .1 .1 .1 .1 .1)
 
 pub version-one : OneResult yawlspar-version.Learnt
 version-one κ a x y s t p q = agree p q

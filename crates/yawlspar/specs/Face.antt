@@ -1,5 +1,5 @@
--- The calls as C makes them: on the record that bytes hold, with one number as the answer.
-use Prim.Native.Nat.{ℕ, _+_, _*_, _%_, _^_}
+-- The three calls as C makes them: on the record that bytes hold, with one number as the answer.
+use Prim.Native.Nat.{ℕ, _+_, _*_}
 use mathlib.Core.List.{List}
 use mathlib.Core.Bool.{Bool, false}
 use lib.Dec.{eqb, leb}
@@ -16,12 +16,11 @@ use Rattle.paper.specs.Soundness.{sound}
 use Rattle.paper.specs.Numbers.{laterRefusal}
 use Rattle.paper.specs.Commands.{changed}
 use Rattle.paper.specs.Calls.{noStored, poweredUp, refused, outcomeOf, outputAfter}
-use Rattle.paper.specs.Script.{Scripted}
 use Rattle.record_bytes.specs.Layout.{recordLength, recordBytes}
 use Rattle.record_bytes.specs.Read.{Held, onHeld}
 use Rattle.ticks.specs.InBytes.{heldWorked}
 
--- the number in the low 8 bits, and above them the first driven place, the ticks that did work, or the step
+-- the number in the low 8 bits, and above them the first driven place, the ticks that did work, or a script's step
 abbrev pub packed : ℕ → ℕ → ℕ
 packed number place = number + 256 * place
 
@@ -104,7 +103,3 @@ transactOutput h xs rs wp i o =
 -- ticks on what bytes hold: their number, and how many did work
 unfoldable pub tickAnswer : Held → ℕ → ℕ → ℕ → ℕ
 tickAnswer h a r n = packed (heldWorked h a r n .number) (heldWorked h a r n .done)
-
--- a script: its number, and its step, which is taken modulo 2 ^ 56: no memory holds a list so long
-unfoldable pub scriptAnswer : Scripted → ℕ
-scriptAnswer w = packed (w .number) (w .step % 2 ^ 56)

@@ -1,26 +1,22 @@
-// The model for C, which include/yawlspar.h declares: the calls on a record that is kept in bytes, and the functions on
-// numbers. A call reads part and phase, is made, and writes what it makes of the record over the bytes; page data stays
-// where it is.
+// The model for C, which include/yawlspar.h declares, but for scripts: the three calls on a record that is kept in bytes, and
+// the functions on numbers. A call reads part and phase, is made, and writes what it makes of the record over the bytes;
+// page data stays where it is.
 pub mod numbers;
 
 ghost use mathlib.Core.Path.{_≡_};
-ghost use Prim.Native.Nat.{_^_, _<_};
+ghost use Prim.Native.Nat.{_≤_};
 ghost use lib.ListN.{length};
 ghost use Rattle.types.specs.declared.Memory.the-variants.{Array, Rows};
 ghost use Rattle.record_bytes.specs.Read.{recordIn};
 ghost use Rattle.ticks.specs.InBytes.{tickBytes, tickMemory};
-ghost use Rattle.script.specs.InBytes.{scriptOf, heldScript, scriptBytes};
-ghost use Rattle.yawlspar.specs.Face.{packed, asked, givenNumber, powerUpAnswer, powerUpBytes, transactAnswer, transactBytes, transactOutput, tickAnswer, scriptAnswer};
+ghost use Rattle.yawlspar.specs.Face.{packed, asked, givenNumber, powerUpAnswer, powerUpBytes, transactAnswer, transactBytes, transactOutput, tickAnswer};
 ghost use Rattle.yawlspar.specs.Version.{version};
 use record_bytes::places;
 use types::Identity;
 
-// A result has 56 bits above its number.
-const PLACES: usize = 72057594037927936;
-
 // The number and the place in one.
 fn pack(number: u8, place: usize) -> u64
-    requires { ⌜ place < 2 ^ 56 ⌝ }
+    requires { ⌜ place ≤ 131072 ⌝ }
     ensures { λ r. ⌜ r ≡ packed number place ⌝ }
 {
     (number as u64) + 256 * (place as u64)
@@ -165,44 +161,6 @@ pub extern "C" fn yawlspar_tick(
 {
     let worked = ticks::tick_bytes(bytes, array, rows, count as usize);
     pack(worked.number, worked.done)
-}
-
-// A script: transactions, and ticks after each. WP# is low for 0 and high for 1. The number that stops it and the step, or 0 and
-// the number of steps; refused, with 1, 2, 7, 4 or 5, every buffer is as it was. Where the bytes hold no record, 1 is not judged.
-#[no_mangle]
-pub extern "C" fn yawlspar_script(
-    bytes: &mut [u8],
-    array: &mut [u8],
-    rows: &mut [u8],
-    wp: u64,
-    input: &[u8],
-    lengths: &[u16],
-    ticks: &[u16],
-    output: &mut [u8],
-    answers: &mut [u8],
-    done: &mut [u16],
-) -> u64
-    ensures answer { λ r. ⌜ r ≡ scriptAnswer (heldScript (recordIn (now (bytes .entry))) wp (scriptOf wp (now (input .entry)) (now (lengths .entry)) (now (ticks .entry))) (now (array .entry)) (now (rows .entry)) (now (output .entry)) (now (answers .entry)) (now (done .entry))) ⌝ }
-    ensures bytes { λ _. ⌜ now (bytes .exit) ≡ scriptBytes (recordIn (now (bytes .entry))) (heldScript (recordIn (now (bytes .entry))) wp (scriptOf wp (now (input .entry)) (now (lengths .entry)) (now (ticks .entry))) (now (array .entry)) (now (rows .entry)) (now (output .entry)) (now (answers .entry)) (now (done .entry))) (now (bytes .entry)) ⌝ }
-    ensures array { λ _. ⌜ now (array .exit) ≡ heldScript (recordIn (now (bytes .entry))) wp (scriptOf wp (now (input .entry)) (now (lengths .entry)) (now (ticks .entry))) (now (array .entry)) (now (rows .entry)) (now (output .entry)) (now (answers .entry)) (now (done .entry)) .board .array ⌝ }
-    ensures rows { λ _. ⌜ now (rows .exit) ≡ heldScript (recordIn (now (bytes .entry))) wp (scriptOf wp (now (input .entry)) (now (lengths .entry)) (now (ticks .entry))) (now (array .entry)) (now (rows .entry)) (now (output .entry)) (now (answers .entry)) (now (done .entry)) .board .rows ⌝ }
-    ensures output { λ _. ⌜ now (output .exit) ≡ heldScript (recordIn (now (bytes .entry))) wp (scriptOf wp (now (input .entry)) (now (lengths .entry)) (now (ticks .entry))) (now (array .entry)) (now (rows .entry)) (now (output .entry)) (now (answers .entry)) (now (done .entry)) .output ⌝ }
-    ensures answers { λ _. ⌜ now (answers .exit) ≡ heldScript (recordIn (now (bytes .entry))) wp (scriptOf wp (now (input .entry)) (now (lengths .entry)) (now (ticks .entry))) (now (array .entry)) (now (rows .entry)) (now (output .entry)) (now (answers .entry)) (now (done .entry)) .answers ⌝ }
-    ensures done { λ _. ⌜ now (done .exit) ≡ heldScript (recordIn (now (bytes .entry))) wp (scriptOf wp (now (input .entry)) (now (lengths .entry)) (now (ticks .entry))) (now (array .entry)) (now (rows .entry)) (now (output .entry)) (now (answers .entry)) (now (done .entry)) .done ⌝ }
-{
-    let ran = script::run(
-        bytes,
-        array,
-        rows,
-        wp,
-        input,
-        lengths,
-        ticks,
-        output,
-        answers,
-        done,
-    );
-    pack(ran.number, ran.step % PLACES)
 }
 
 // The version that the archive is of, which a program compares with its header's.

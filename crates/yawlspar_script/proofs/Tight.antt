@@ -1,0 +1,25 @@
+-- Two results that a contract of this crate allows are equal: the answer, the record's bytes, and each other lent byte.
+use denote.Ref.{now}
+use Rattle.words.proofs.Allowed.{OneResult, OneExit, agree}
+use Rattle.yawlspar_script.proofs.yawlspar_script.Reads as yawlspar-script
+
+pub script-one : OneResult yawlspar-script.Learnt
+script-one κ a x y s t p q = agree (p .0) (q .0)
+
+pub script-one-bytes : OneExit yawlspar-script.Learnt (λ κ s. now (s .0))
+script-one-bytes κ a x y s t p q = agree (p .1 .0) (q .1 .0)
+
+pub script-one-array : OneExit yawlspar-script.Learnt (λ κ s. now (s .1 .0))
+script-one-array κ a x y s t p q = agree (p .1 .1 .0) (q .1 .1 .0)
+
+pub script-one-rows : OneExit yawlspar-script.Learnt (λ κ s. now (s .1 .1 .0))
+script-one-rows κ a x y s t p q = agree (p .1 .1 .1 .0) (q .1 .1 .1 .0)
+
+pub script-one-output : OneExit yawlspar-script.Learnt (λ κ s. now (s .1 .1 .1 .1 .1 .1 .1 .0))
+script-one-output κ a x y s t p q = agree (p .1 .1 .1 .1 .0) (q .1 .1 .1 .1 .0)
+
+pub script-one-answers : OneExit yawlspar-script.Learnt (λ κ s. now (s .1 .1 .1 .1 .1 .1 .1 .1 .0))
+script-one-answers κ a x y s t p q = agree (p .1 .1 .1 .1 .1 .0) (q .1 .1 .1 .1 .1 .0)
+
+pub script-one-done : OneExit yawlspar-script.Learnt (λ κ s. now (s .1 .1 .1 .1 .1 .1 .1 .1 .1 .0))
+script-one-done κ a x y s t p q = agree (p .1 .1 .1 .1 .1 .1) (q .1 .1 .1 .1 .1 .1)
