@@ -125,7 +125,8 @@ pub extern "C" fn yawlspar_transact(
     }
     let part = found.part;
     let phase = found.phase;
-    let identity = record_bytes::reading::identity_in(bytes);
+    // all bytes, cut to a length that the compiler knows
+    let identity = record_bytes::reading::identity_in(&bytes[0..places::END]);
     let level = wp <= 1;
     let high = wp == 1;
     let fit = words::both(found.sound, level);
