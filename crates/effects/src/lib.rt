@@ -172,7 +172,7 @@ fn page_after(becomes: Data, input: &[u8], page: [u8; 256]) -> [u8; 256]
 }
 
 // What a change makes of a part.
-pub fn part_after(change: Change, part: Part) -> Part
+fn part_after(change: Change, part: Part) -> Part
     ensures { λ r. ⌜ r ≡ partAfter change part ⌝ }
 {
     match change {
@@ -188,7 +188,7 @@ pub fn part_after(change: Change, part: Part) -> Part
 }
 
 // What it makes of the phase.
-pub fn phase_after(change: Change, phase: Phase) -> Phase
+fn phase_after(change: Change, phase: Phase) -> Phase
     ensures { λ r. ⌜ r ≡ phaseAfter change phase ⌝ }
 {
     match change {
@@ -204,7 +204,7 @@ pub fn phase_after(change: Change, phase: Phase) -> Phase
 }
 
 // What becomes of page data by it.
-pub fn data_after(change: Change) -> Data
+fn data_after(change: Change) -> Data
     ensures { λ r. ⌜ r ≡ dataAfter change ⌝ }
 {
     match change {

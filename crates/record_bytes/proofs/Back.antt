@@ -38,7 +38,7 @@ same-fields : (b b′ : ℕ) (s : Stored) (w w′ a a′ z z′ : Bool) (v k : �
     → _≡_ {A = Part} record { blocks = b; stored = s; wel = w; armed = a; asleep = z; live = v; bank = k } record { blocks = b′; stored = s; wel = w′; armed = a′; asleep = z′; live = v; bank = k }
 same-fields b b′ s w w′ a a′ z z′ v k eb ew ea ez = rw (eb, ew, ea, ez)
 
-pub page-back : (p : Record) → drop headerLength (recordBytes p) ≡ p .page
+page-back : (p : Record) → drop headerLength (recordBytes p) ≡ p .page
 unfolding recordBytes partBytes worksBytes operationBytes
 page-back p = refl
 
@@ -78,7 +78,7 @@ unfolding recordBytes
 front p =
     take-at (header (p .part) (p .phase) (p .identity)) (p .page) headerLength (header-length (p .part) (p .phase) (p .identity))
 
-pub record-length : (p : Record) → length (p .page) ≡ pageBytes → length (recordBytes p) ≡ recordLength
+record-length : (p : Record) → length (p .page) ≡ pageBytes → length (recordBytes p) ≡ recordLength
 unfolding recordBytes
 record-length p h =
     length-append (header (p .part) (p .phase) (p .identity)) (p .page) ∙ simp (header-length (p .part) (p .phase) (p .identity), h)
@@ -110,7 +110,7 @@ pub taken : (bs : List ℕ) → holds bs ≡ true → recordIn bs ≡ held (fiel
 unfolding recordIn
 taken bs e = rw e
 
-pub ok-as : (bs : List ℕ) (t : Bool) → holds bs ≡ t → recordIn bs .ok ≡ t
+ok-as : (bs : List ℕ) (t : Bool) → holds bs ≡ t → recordIn bs .ok ≡ t
 unfolding recordIn nothing
 ok-as bs true e = rw e
 ok-as bs false e = rw e

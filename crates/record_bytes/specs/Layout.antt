@@ -11,7 +11,6 @@ use Rattle.types.specs.declared.Phase.the-variants.{Idle}
 use Rattle.types.specs.declared.Work.{Work}
 use Rattle.types.specs.declared.Part.{Part}
 use Rattle.types.specs.declared.Record.{Record}
-use Rattle.types.specs.declared.Data.{Data}
 use Rattle.types.specs.declared.Change.{Change}
 use Rattle.types.specs.declared.Change.the-variants.{Same, Marked, Live, Anew, Runs, Halts, GoesOn, Clears}
 use Rattle.words.specs.Logic.{bit}
@@ -174,11 +173,3 @@ bytesChanged (Clears q) i bs = bytesCleared q bs
 -- a buffer with the change written; bytes of another length are left as they are
 unfoldable pub changeWritten : Change → List ℕ → List ℕ → List ℕ
 changeWritten c i bs = cond (eqb (length bs) recordLength) (bytesChanged c i bs) bs
-
--- page data after a call with the input i, where it stands; bytes of another length are left as they are
-unfoldable pub pageWritten : Data → List ℕ → List ℕ → List ℕ
-pageWritten d i g = cond (eqb (length g) pageBytes) (pageAfter d i g) g
-
--- a buffer with what a part is and does written; identity and page data stay, and bytes of another length are left as they are
-unfoldable pub phaseWritten : Part → Phase → List ℕ → List ℕ
-phaseWritten q f bs = cond (eqb (length bs) recordLength) (partBytes q ++ (phaseBytes f ++ drop identityAt bs)) bs

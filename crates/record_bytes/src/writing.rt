@@ -4,18 +4,19 @@ ghost use mathlib.Core.List.{_++_};
 ghost use lib.ListN.{length, drop};
 ghost use Rattle.types.specs.declared.Phase.the-variants.{Idle};
 ghost use Rattle.types.specs.declared.Change.the-variants.{Runs};
+ghost use Rattle.paper.specs.Sizes.{pageBytes};
 ghost use Rattle.paper.specs.Program.{noData};
+ghost use Rattle.paper.specs.Commands.{pageAfter};
 ghost use Rattle.paper.proofs.Soundness.{recordOf};
 ghost use Rattle.address.specs.Bytes.{highFirstBytes};
 ghost use Rattle.cells.specs.Operations.{cellsOf, workCells};
-ghost use Rattle.record_bytes.specs.Layout.{partLength, operationLength, headerLength, recordLength, partBytes, operationBytes, headerRunning, written, worksLaid, bytesHalted, bytesResumed, bytesCleared, changeWritten, pageWritten, phaseWritten};
+ghost use Rattle.record_bytes.specs.Layout.{partLength, operationLength, headerLength, recordLength, partBytes, operationBytes, headerRunning, written, worksLaid, bytesHalted, bytesResumed, bytesCleared, changeWritten};
 use crate::places;
 use types::Change;
 use types::Data;
 use types::Identity;
 use types::Operation;
 use types::Part;
-use types::Phase;
 use types::Work;
 
 // What a part is, in bytes.
@@ -166,13 +167,11 @@ pub fn write_idle(part: Part, identity: Identity, bytes: &mut [u8])
     write_cleared(part, bytes);
 }
 
-// Page data after a call with an input, where it stands. A buffer of another length is left as it is.
-pub fn write_page(becomes: Data, input: &[u8], page: &mut [u8])
-    ensures { λ _. ⌜ now (page .exit) ≡ pageWritten becomes (now (input .entry)) (now (page .entry)) ⌝ }
+// Page data after a call with an input, where it stands.
+fn write_page(becomes: Data, input: &[u8], page: &mut [u8])
+    requires { ⌜ length (now page) ≡ pageBytes ⌝ }
+    ensures { λ _. ⌜ now (page .exit) ≡ pageAfter becomes (now (input .entry)) (now (page .entry)) ⌝ }
 {
-    if page.len() != types::PAGE_BYTES {
-        return;
-    }
     match becomes {
         Data::Kept => {}
         Data::Sent(form) => {
@@ -216,19 +215,4 @@ pub fn write_change(change: Change, input: &[u8], bytes: &mut [u8])
         Change::GoesOn(part) => write_resumed(part, bytes),
         Change::Clears(part) => write_cleared(part, bytes),
     }
-}
-
-// What a part is and does, written over a record's bytes. Identity and page data stay. A buffer of another length is left as
-// it is.
-pub fn write_phase(part: Part, phase: Phase, bytes: &mut [u8])
-    ensures { λ _. ⌜ now (bytes .exit) ≡ phaseWritten part phase (now (bytes .entry)) ⌝ }
-{
-    if bytes.len() != places::END {
-        return;
-    }
-    let runs = phases::running(phase);
-    let halted = phases::halted(phase);
-    write_work(runs, &mut bytes[places::RUNNING..places::HALTED]);
-    write_work(halted, &mut bytes[places::HALTED..places::MAKER]);
-    write_part(part, bytes);
 }

@@ -1,15 +1,10 @@
--- `record_bytes::writing::write_page` meets its contract: an arm for each of what becomes of a page; a buffer of another length is left.
+-- `record_bytes::writing::write_page` meets its contract: an arm for each; what is filled has a page's length.
 use mathlib.Core.Path.{_∙_}
-use borrow.Author.Tests.{eq-eqb, ne-eqb}
-use Rattle.paper.specs.Program.{noData}
-use Rattle.record_bytes.specs.Layout.{pageWritten}
+use borrow.Author.Tests.{eq-eqb}
 use borrow.Author.Needs.{needs}
+use Rattle.paper.specs.Program.{noData}
 use Rattle.record_bytes.proofs.writing.write_page.Statement.{statement}
 use Rattle.record_bytes.proofs.writing.write_page.Tie as tie
-
-returns : tie.Need-returns
-unfolding pageWritten
-returns c = rw (ne-eqb _ _ (c .if1 .taken))
 
 enum-told : tie.Need-enum-told
 enum-told c = search needs
@@ -26,36 +21,33 @@ enum-told-2 c = search needs
 fill-requires : tie.Need-fill-requires
 fill-requires c κs = search needs
 
-returns-2 : tie.Need-returns-2
-unfolding pageWritten
-returns-2 c = rw (c .enum-told .given .1, eq-eqb _ _ (c .before .before .if1 .left))
+returns : tie.Need-returns
+returns c = search needs
 
 same-length : tie.Need-same-length
 same-length c = search needs
 
-returns-3 : tie.Need-returns-3
-unfolding pageWritten
-returns-3 c = rw (c .before .before .before .before .before .becomes .given .1, eq-eqb _ _ (c .before .before .before .before .before .before .before .if1 .left)) (c .before .before .write-page-data .ensures ∙ rw (eq-eqb _ _ (c .before .before .before .before .before .before .before .if1 .left)))
+returns-2 : tie.Need-returns-2
+returns-2 c = rw (c .before .before .before .before .before .becomes .given .1) (c .before .before .write-page-data .ensures ∙ rw (eq-eqb _ _ (c .before .before .before .before .before .before .before .before .before .pre)))
 
 same-length-2 : tie.Need-same-length-2
 same-length-2 c = search needs
 
-returns-4 : tie.Need-returns-4
-unfolding pageWritten noData
-returns-4 c = rw (c .before .before .before .before .enum-told2 .given .1, eq-eqb _ _ (c .before .before .before .before .before .before .if1 .left)) (c .before .before .fill .ensures ∙ rw (c .before .before .before .before .before .before .if1 .left))
+returns-3 : tie.Need-returns-3
+unfolding noData
+returns-3 c = rw (c .before .before .before .before .enum-told2 .given .1) (c .before .before .fill .ensures ∙ rw (c .before .before .before .before .before .before .before .before .pre))
 
 pub write-page-spec : {M : Type 1} → statement M
 write-page-spec =
     tie.close
     (tie.spec
-    returns
     enum-told
     enum-known-becomes
     write-page-data-requires
     enum-told-2
     fill-requires
-    returns-2
+    returns
     same-length
-    returns-3
+    returns-2
     same-length-2
-    returns-4)
+    returns-3)

@@ -1,10 +1,8 @@
 -- `record_bytes::writing::write_runs` meets its contract: page data stands behind the header, and becomes there what it becomes; a buffer of another length is left.
-use Rattle.record_bytes.proofs.Laid.{running-header-length, page-room, page-there, page-laid}
-use Rattle.record_bytes.proofs.Changed.{page-written}
+use Rattle.record_bytes.proofs.Laid.{running-header-length, page-there, page-laid}
 use Rattle.record_bytes.specs.Layout.{headerRunning, changeWritten}
 use borrow.Author.Tests.{eq-eqb, ne-eqb}
 use denote.Ref.{now}
-use mathlib.Core.Path.{_∙_}
 use borrow.Author.Needs.{needs}
 use Rattle.record_bytes.proofs.writing.write_runs.Statement.{statement}
 use Rattle.record_bytes.proofs.writing.write_runs.Tie as tie
@@ -40,7 +38,7 @@ returns-2 c =
     let h = c .before .before .before .before .before .before .write-running .ensures in
     let q = headerRunning (a .part) (a .work) bs in
     let lq = running-header-length bs l (a .part) (a .work) in
-    rw (eq-eqb _ _ l) (page-laid bs q _ lq l h _ _ (rw (page-there bs q _ lq l h) at (c .before .before .write-page .ensures ∙ page-written _ _ _ (page-room bs q _ lq l h))))
+    rw (eq-eqb _ _ l) (page-laid bs q _ lq l h _ _ (rw (page-there bs q _ lq l h) at (c .before .before .write-page .ensures)))
 
 pub write-runs-spec : {M : Type 1} → statement M
 write-runs-spec =
