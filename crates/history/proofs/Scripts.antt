@@ -11,55 +11,24 @@ use lib.ListN.{length, take, drop, getD, length-set}
 use lib.Seq.{drop-drop, drop-set-lt, take-suc-set, getD-set-same}
 use borrow.Author.Tests.{eqb-true, eqb-false, leb-true, leb-false, ne-eqb}
 use Rattle.words.specs.Logic.{whenZero, _orElse_}
-use Rattle.words.specs.Lists.{every, sumTo, between, putBetween}
-use Rattle.words.proofs.Tests.{and-l, and-r, unless-zero, orElse-zero, orElse-on, orElse-first}
+use Rattle.words.specs.Lists.{every, between, putBetween}
+use Rattle.words.proofs.Tests.{orElse-zero, orElse-on, orElse-first}
 use Rattle.words.proofs.Lists.{every-both}
+use Rattle.words.proofs.Sums.{sum-le}
 use Rattle.paper.specs.Sizes.{arrayBytes, rowsBytes}
 use Rattle.paper.specs.Soundness.{sound}
-use Rattle.paper.specs.Numbers.{sizeNumber, rowsNumber, listsNumber, lengthNumber, outputNumber, soundNumber, ticksNumber, laterScriptRefusal, scriptRefusal}
+use Rattle.paper.specs.Numbers.{lengthNumber, ticksNumber, scriptRefusal}
 use Rattle.paper.specs.Calls.{transactedOutput}
 use Rattle.paper.specs.History.{Call}
 use Rattle.paper.specs.Board.{Board, afterCall, afterCalls}
 use Rattle.paper.specs.Script.{Script, Scripted, Made, made, stepAt, stepLength, madeAt, stepped, afterSteps, unstepped, refusalOf, scripted, stopBefore, callsBefore, scriptCalls}
+use Rattle.paper.proofs.Numbers.{ScriptTaken, script-taken}
 use Rattle.history.specs.Run.{Run}
 use Rattle.history.specs.Course.{Step}
 use Rattle.history.specs.ScriptLaws.{goesOn, answersIn, doneIn, LastStops, stepsMade, courseFrom, boardBefore, stepOutput, Stopped, StepsTold, ScriptLaws}
 use Rattle.history.proofs.Told.{run-told}
 use Rattle.history.proofs.Joined.{run-exists, course-joined}
 use Rattle.history.proofs.ScriptSteps.{ownCalls, StepCourse, three-or-six, step-number, step-board, step-output, step-kept, step-none, step-course, course-answers, course-done, answers-append, course-goes, course-stops, between-length, put-same, put-length, put-after, put-at, put-before}
-
--- what a script that is not refused may rest on
-record ScriptTaken (b : ℕ) (ok : Bool) (a r : ℕ) (ls : List ℕ) (t n d i o : ℕ) : Type 0 where
-  size : a ≡ arrayBytes b
-  rows : r ≡ rowsBytes
-  answers : n ≡ length ls
-  done : d ≡ length ls
-  input : sumTo ls (length ls) ≡ i
-  output : o ≡ i
-
-script-taken : (b : ℕ) (ok : Bool) (a r : ℕ) (ls : List ℕ) (t n d i o : ℕ) → scriptRefusal b ok a r ls t n d i o ≡ 0 → ScriptTaken b ok a r ls t n d i o
-unfolding scriptRefusal laterScriptRefusal sizeNumber rowsNumber listsNumber outputNumber soundNumber
-script-taken b ok a r ls t n d i o e =
-    let x = orElse-zero _ _ e in
-    let y = orElse-zero _ _ (x .1) in
-    let z = orElse-zero _ _ (y .1) in
-    let w = orElse-zero _ _ (z .1) in
-    let l = and-r _ _ (unless-zero _ 6 (z .0)) in
-    record { size = eqb-true _ _ (and-r _ _ (unless-zero _ 0 (x .0))); rows = eqb-true _ _ (unless-zero _ 1 (y .0)); answers = eqb-true _ _ (and-l _ _ l); done = eqb-true _ _ (and-l _ _ (and-r _ _ l)); input = eqb-true _ _ (and-r _ _ (and-r _ _ l)); output = eqb-true _ _ (unless-zero _ 3 (w .0)) }
-
--- a sum of fewer numbers is no greater
-sum-as : (ls : List ℕ) (k n : ℕ) (t : Bool) → leb k n ≡ t → k ≤ suc n → (k ≤ n → sumTo ls k ≤ sumTo ls n) → sumTo ls k ≤ sumTo ls (suc n)
-sum-as ls k n true e h less = omega (arith, less (leb-true _ _ e))
-sum-as ls k n false e h less =
-    let f : n < k = leb-false _ _ e in
-    let same : k ≡ suc n = omega arith in
-    rw same (omega arith)
-
-sum-le : (ls : List ℕ) (k n : ℕ) → k ≤ n → sumTo ls k ≤ sumTo ls n
-sum-le ls k zero h =
-    let none : k ≡ 0 = omega arith in
-    rw none (omega arith)
-sum-le ls k (suc n) h = sum-as ls k n (leb k n) refl h (sum-le ls k n)
 
 -- lists that are the same from a place on are the same further on
 drop-more : (k j : ℕ) (xs ys : List ℕ) → drop k xs ≡ drop k ys → drop (k + j) xs ≡ drop (k + j) ys

@@ -10,11 +10,12 @@ use Rattle.types.specs.declared.Work.{Work}
 use Rattle.types.specs.declared.Part.{Part}
 use Rattle.types.specs.declared.Columns.{Columns}
 use Rattle.words.specs.Logic.{_or_}
+use Rattle.words.specs.Lists.{sumTo}
 use Rattle.words.proofs.Tests.{and-l, and-r, unless-zero, orElse-zero}
 use Rattle.paper.specs.Sizes.{sizeOk, arrayBytes, rowsBytes, transactionLimit, tickLimit}
 use Rattle.paper.specs.Phases.{eraseHalted, isBusy, isSuspended}
 use Rattle.paper.specs.Table.{addressingOn, lengthOk, takenAsleep, takenBusy, takenSuspended}
-use Rattle.paper.specs.Numbers.{sizeNumber, rowsNumber, lengthNumber, outputNumber, soundNumber, ticksNumber, transactionRefusal, tickNumber, stateOk, addressOk, freeOk, commandNumber}
+use Rattle.paper.specs.Numbers.{sizeNumber, rowsNumber, lengthNumber, outputNumber, soundNumber, ticksNumber, listsNumber, transactionRefusal, tickNumber, laterScriptRefusal, scriptRefusal, stateOk, addressOk, freeOk, commandNumber}
 
 -- a tick call that is not refused, of a record of b blocks that is sound or is not
 pub record TicksTaken (b : ℕ) (sound : Bool) (a r n : ℕ) : Type 0 where
@@ -51,6 +52,28 @@ transaction-taken b sound a r n o e =
     let l = unless-zero _ 2 (z .0) in
     let g = unless-zero _ 0 (x .0) in
     record { known = and-l _ _ g; size = eqb-true _ _ (and-r _ _ g); rows = eqb-true _ _ (unless-zero _ 1 (y .0)); some = leb-true _ _ (and-l _ _ l); few = leb-true _ _ (and-r _ _ l); same = eqb-true _ _ (unless-zero _ 3 (w .0)); is-sound = unless-zero _ 4 (w .1) }
+
+-- a script that is not refused before its first step: its lists, of which ls has the lengths, are as long as each other, and the lengths add up to input and output
+pub record ScriptTaken (b : ℕ) (sound : Bool) (a r : ℕ) (ls : List ℕ) (t n d i o : ℕ) : Type 0 where
+  pub size : a ≡ arrayBytes b
+  pub rows : r ≡ rowsBytes
+  pub ticks : t ≡ length ls
+  pub answers : n ≡ length ls
+  pub done : d ≡ length ls
+  pub input : sumTo ls (length ls) ≡ i
+  pub output : o ≡ i
+  pub is-sound : sound ≡ true
+
+pub script-taken : (b : ℕ) (sound : Bool) (a r : ℕ) (ls : List ℕ) (t n d i o : ℕ) → scriptRefusal b sound a r ls t n d i o ≡ 0 → ScriptTaken b sound a r ls t n d i o
+unfolding scriptRefusal laterScriptRefusal sizeNumber rowsNumber listsNumber outputNumber soundNumber
+script-taken b sound a r ls t n d i o e =
+    let x = orElse-zero _ _ e in
+    let y = orElse-zero _ _ (x .1) in
+    let z = orElse-zero _ _ (y .1) in
+    let w = orElse-zero _ _ (z .1) in
+    let l = unless-zero _ 6 (z .0) in
+    let k = and-r _ _ l in
+    record { size = eqb-true _ _ (and-r _ _ (unless-zero _ 0 (x .0))); rows = eqb-true _ _ (unless-zero _ 1 (y .0)); ticks = eqb-true _ _ (and-l _ _ l); answers = eqb-true _ _ (and-l _ _ k); done = eqb-true _ _ (and-l _ _ (and-r _ _ k)); input = eqb-true _ _ (and-r _ _ (and-r _ _ k)); output = eqb-true _ _ (unless-zero _ 3 (w .0)); is-sound = unless-zero _ 4 (w .1) }
 
 -- a command that is executed: none of the numbers 21 to 28 applies
 pub record CommandTaken (k : Columns) (w : Work) (p : Part) (f : Phase) (i : List ℕ) (wp : Bool) : Type 0 where

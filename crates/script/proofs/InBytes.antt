@@ -3,17 +3,17 @@ use Prim.Native.Nat.{ℕ}
 use mathlib.Core.Path.{_≡_, refl, sym, ap, _∙_}
 use mathlib.Core.Bool.{Bool, true, false}
 use mathlib.Core.List.{List}
-use borrow.Author.Tests.{eqb-true, eq-eqb, ne-eqb}
+use borrow.Author.Tests.{eq-eqb, ne-eqb}
 use lib.Dec.{eqb, leb}
 use lib.ListN.{length}
 use Rattle.types.specs.declared.Record.{Record}
 use Rattle.words.specs.Logic.{_and_, _orElse_}
-use Rattle.words.proofs.Tests.{and-l, and-r, unless-zero, orElse-zero}
-use Rattle.paper.specs.Sizes.{arrayBytes}
+use Rattle.words.proofs.Tests.{and-l}
 use Rattle.paper.specs.Soundness.{sound}
-use Rattle.paper.specs.Numbers.{sizeNumber, rowsNumber, listsNumber, outputNumber, soundNumber, laterScriptRefusal, scriptRefusal}
+use Rattle.paper.specs.Numbers.{sizeNumber, laterScriptRefusal, scriptRefusal}
 use Rattle.paper.specs.Board.{boardOf}
 use Rattle.paper.specs.Script.{Script, Scripted, afterSteps, unstepped, scripted}
+use Rattle.paper.proofs.Numbers.{ScriptTaken, script-taken}
 use Rattle.record_bytes.specs.declared.Found.{Found}
 use Rattle.record_bytes.specs.Layout.{recordBytes}
 use Rattle.record_bytes.specs.Read.{recordIn, found}
@@ -93,39 +93,14 @@ module _ (bs : List ℕ) (x : Found) (ex : x ≡ found (recordIn bs)) (wp : ℕ)
 
       -- or not: what the steps find
       module _ (z : number ≡ 0) where
-        first-zero : sizeNumber (x .part .blocks) (length xs) ≡ 0
-        first-zero = orElse-zero _ _ z .0
-
-        rows-zero : rowsNumber (length rs) ≡ 0
-        unfolding laterScriptRefusal
-        rows-zero = orElse-zero _ _ (orElse-zero _ _ z .1) .0
-
-        lists-zero : listsNumber (s .lengths) (length (s .ticks)) (length n) (length d) (length (s .input)) ≡ 0
-        unfolding laterScriptRefusal
-        lists-zero = orElse-zero _ _ (orElse-zero _ _ (orElse-zero _ _ z .1) .1) .0
-
-        output-zero : outputNumber (length (s .input)) (length o) ≡ 0
-        unfolding laterScriptRefusal
-        output-zero = orElse-zero _ _ (orElse-zero _ _ (orElse-zero _ _ (orElse-zero _ _ z .1) .1) .1) .0
-
-        sound-zero : soundNumber fit ≡ 0
-        unfolding laterScriptRefusal
-        sound-zero = orElse-zero _ _ (orElse-zero _ _ (orElse-zero _ _ (orElse-zero _ _ z .1) .1) .1) .1
+        taken : ScriptTaken (held .part .blocks) (sound held and leb wp 1) (length xs) (length rs) (s .lengths) (length (s .ticks)) (length n) (length d) (length (s .input)) (length o)
+        taken = script-taken _ _ _ _ _ _ _ _ _ _ (sym refusal-is ∙ z)
 
         pub begins-fit : Fit s (length o) (length n) (length d)
-        unfolding listsNumber outputNumber
-        begins-fit =
-            let t = unless-zero _ 6 lists-zero in
-            let u = and-r _ _ t in
-            let v = and-r _ _ u in
-            record { ticks = eqb-true _ _ (and-l _ _ t); answers = eqb-true _ _ (and-l _ _ u); done = eqb-true _ _ (and-l _ _ v); output = eqb-true _ _ (unless-zero _ 3 output-zero); sum = eqb-true _ _ (and-r _ _ v) }
+        begins-fit = record { ticks = taken .ticks; answers = taken .answers; done = taken .done; output = taken .output; sum = taken .input }
 
         pub begins-ready : Ready bs (length xs) (length rs)
-        unfolding sizeNumber rowsNumber soundNumber
-        begins-ready =
-            let fits = sym ef ∙ unless-zero _ 4 sound-zero in
-            let size = eqb-true _ _ (and-r _ _ (unless-zero _ 0 first-zero)) in
-            record { ok = e; is-sound = sym (found-sound bs e x ex) ∙ and-l _ _ fits; array = size ∙ ap (λ (y : Found). arrayBytes (y .part .blocks)) ex; rows = eqb-true _ _ (unless-zero _ 1 rows-zero) }
+        begins-ready = record { ok = e; is-sound = and-l _ _ (taken .is-sound); array = taken .size; rows = taken .rows }
 
         -- and what they leave, from the first state on to the state r
         abbrev start : State

@@ -1,21 +1,28 @@
 -- Sums of the first numbers of a list.
-use Prim.Native.Nat.{ℕ, zero, suc, _+_, _≤_, _<_}
-use mathlib.Core.Path.{_≡_, refl, subst}
+use Prim.Native.Nat.{ℕ, zero, suc, _+_, _<_, _≤_}
+use mathlib.Core.Path.{_≡_, refl}
 use mathlib.Core.Bool.{Bool, true, false}
 use mathlib.Core.List.{List}
 use native.Mathlib.Omega.{arith}
-use borrow.Author.Tests.{ltb-true, ltb-false}
-use lib.Dec.{ltb}
+use borrow.Author.Tests.{leb-true, leb-false}
+use lib.Dec.{leb}
 use lib.ListN.{getD}
 use Rattle.words.specs.Lists.{sumTo}
 
--- a number lies within the sum of all that come up to it and after it
-within-by : (ns : List ℕ) (n k : ℕ) → k < suc n → (k < n → sumTo ns k + getD ns k 0 ≤ sumTo ns n) → (t : Bool) → ltb k n ≡ t → sumTo ns k + getD ns k 0 ≤ sumTo ns (suc n)
-within-by ns n k h before true e = omega (arith, before (ltb-true k n e))
-within-by ns n k h before false e =
-    let same : k ≡ n = omega (arith, ltb-false k n e) in
-    subst (λ (m : ℕ). sumTo ns k + getD ns k 0 ≤ sumTo ns m + getD ns m 0) same (omega arith)
+-- a sum of fewer numbers is no greater
+sum-as : (ns : List ℕ) (k n : ℕ) (t : Bool) → leb k n ≡ t → k ≤ suc n → (k ≤ n → sumTo ns k ≤ sumTo ns n) → sumTo ns k ≤ sumTo ns (suc n)
+sum-as ns k n true e h less = omega (arith, less (leb-true _ _ e))
+sum-as ns k n false e h less =
+    let f : n < k = leb-false _ _ e in
+    let same : k ≡ suc n = omega arith in
+    rw same (omega arith)
 
+pub sum-le : (ns : List ℕ) (k n : ℕ) → k ≤ n → sumTo ns k ≤ sumTo ns n
+sum-le ns k zero h =
+    let none : k ≡ 0 = omega arith in
+    rw none (omega arith)
+sum-le ns k (suc n) h = sum-as ns k n (leb k n) refl h (sum-le ns k n)
+
+-- so a number and those before it lie within the sum of more
 pub sum-within : (ns : List ℕ) (n k : ℕ) → k < n → sumTo ns k + getD ns k 0 ≤ sumTo ns n
-sum-within ns zero k h = absurd (omega arith)
-sum-within ns (suc n) k h = within-by ns n k h (sum-within ns n k) (ltb k n) refl
+sum-within ns n k h = sum-le ns (suc k) n h
