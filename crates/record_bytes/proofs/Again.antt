@@ -1,10 +1,10 @@
 -- Part and phase of bytes that hold a record, read again without judging, are those of the record.
 use Prim.Native.Nat.{ℕ}
-use mathlib.Core.Path.{_≡_, sym, ap, _∙_}
+use mathlib.Core.Path.{_≡_}
 use mathlib.Core.Bool.{true}
 use mathlib.Core.List.{List}
 use borrow.Author.Tests.{eq-eqb}
-use Rattle.record_bytes.specs.Read.{Held, fieldsIn, recordIn, partAgain, phaseAgain}
+use Rattle.record_bytes.specs.Read.{fieldsIn, recordIn, partAgain, phaseAgain}
 use Rattle.record_bytes.proofs.Back.{taken, holding, held-length}
 
 pub again-part : (bs : List ℕ) → recordIn bs .ok ≡ true → partAgain bs ≡ recordIn bs .state .part

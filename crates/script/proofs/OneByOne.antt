@@ -1,6 +1,6 @@
 -- Steps one after the other: where each lies in the buffers, what it makes of the script's values, and that a script which has stopped stays so.
 use Prim.Native.Nat.{ℕ, zero, suc, _+_, _≤_, _<_}
-use mathlib.Core.Path.{_≡_, refl, sym, ap, subst, _∙_}
+use mathlib.Core.Path.{_≡_, refl, sym, ap, _∙_}
 use mathlib.Core.Bool.{Bool, true, false}
 use mathlib.Core.List.{List}
 use native.Mathlib.Omega.{arith}
@@ -12,7 +12,7 @@ use Rattle.types.specs.declared.Identity.{Identity}
 use Rattle.words.specs.Logic.{whenZero}
 use Rattle.words.specs.Lists.{sumTo, between, putBetween}
 use Rattle.words.proofs.Sums.{sum-within}
-use Rattle.paper.specs.Script.{Script, Scripted, Made, made, madeAt, stepped, afterSteps}
+use Rattle.paper.specs.Script.{Script, Scripted, Made, made, stepped, afterSteps}
 use Rattle.record_bytes.specs.Read.{recordIn}
 use Rattle.script.specs.declared.State.{State}
 use Rattle.script.specs.Steps.{world, turned, Ready, Fit}

@@ -26,7 +26,7 @@ use Rattle.types.specs.declared.Answer.{Answer}
 use Rattle.types.specs.declared.Ticked.{Ticked}
 use Rattle.words.specs.Logic.{unless, _orElse_}
 use Rattle.words.proofs.Tests.{orElse-on, orElse-first}
-use Rattle.paper.specs.Sizes.{pageBytes, arrayBytes, rowsBytes, tickLimit}
+use Rattle.paper.specs.Sizes.{pageBytes, arrayBytes, rowsBytes}
 use Rattle.paper.specs.Soundness.{sound}
 use Rattle.paper.specs.Phases.{running}
 use Rattle.paper.specs.Operations.{ticksLeft, advancedBy}
@@ -45,7 +45,7 @@ use Rattle.record_bytes.specs.Read.{Held, held, recordIn, partAgain, phaseAgain
 use Rattle.record_bytes.proofs.Back.{held-page}
 use Rattle.record_bytes.proofs.Again.{again-part, again-phase}
 use Rattle.record_bytes.proofs.Fits.{held-page-length, changed-held}
-use Rattle.ticks.specs.Waited.{tickChange, changeAfter, waitedOf, waitedMemory, tickedBy}
+use Rattle.ticks.specs.Waited.{tickChange, waitedOf, waitedMemory, tickedBy}
 use Rattle.ticks.proofs.Waited.{ticked-told, memory-told}
 use Rattle.script.specs.Steps.{OnlyRuns, Ready, workedOf, madeOf}
 

@@ -9,8 +9,6 @@ use borrow.Author.Needs.{needs}
 use native.Mathlib.Omega.{arith}
 use Rattle.script.proofs.add_up.Statement.{statement}
 use Rattle.script.proofs.add_up.Tie as tie
-use Rattle.script.proofs.add_up.Reads as reads
-use Rattle.script.proofs.add_up.Lts as lts
 
 abbrev Inv-loop : tie.InvT-loop
 Inv-loop lengths total left₀ k₀ left k = (left + sumTo lengths k ≡ total) × (k ≤ length lengths)

@@ -3,15 +3,8 @@ use mathlib.Core.Path.{_∙_}
 use Rattle.words.proofs.Tests.{orElse-none}
 use Rattle.paper.specs.Numbers.{listsNumber, outputNumber, soundNumber, laterScriptRefusal}
 use borrow.Author.Needs.{needs}
-use native.Mathlib.Omega.{arith}
 use Rattle.script.proofs.later_refusal.Statement.{statement}
 use Rattle.script.proofs.later_refusal.Tie as tie
-use Rattle.script.proofs.later_refusal.Reads as reads
-use Rattle.script.proofs.later_refusal.Lts as lts
-use Rattle.refusals.proofs.rows_number_or.Reads as rows-number-or-reads
-use Rattle.script.proofs.add_up.Reads as add-up-reads
-use Rattle.words.proofs.both.Reads as both-reads
-use Rattle.words.proofs.number_or.Reads as number-or-reads
 
 add-up-requires : tie.Need-add-up-requires
 add-up-requires c κs = search needs

@@ -11,17 +11,8 @@ use Rattle.record_bytes.specs.declared.Found.{Found}
 use Rattle.script.specs.InBytes.{scriptOf}
 use Rattle.script.proofs.InBytes.{gives, unheld-given, unheld-left, refused-given, refused-left, begins-fit, begins-ready, ran-given, ran-left}
 use borrow.Author.Needs.{needs}
-use native.Mathlib.Omega.{arith}
 use Rattle.script.proofs.run.Statement.{statement}
 use Rattle.script.proofs.run.Tie as tie
-use Rattle.script.proofs.run.Reads as reads
-use Rattle.script.proofs.run.Lts as lts
-use Rattle.record_bytes.proofs.reading.identity_in.Reads as identity-in-reads
-use Rattle.record_bytes.proofs.reading.read.Reads as read-reads
-use Rattle.refusals.proofs.size_number_or.Reads as size-number-or-reads
-use Rattle.script.proofs.later_refusal.Reads as later-refusal-reads
-use Rattle.script.proofs.steps.Reads as steps-reads
-use Rattle.words.proofs.both.Reads as both-reads
 
 read-requires : tie.Need-read-requires
 read-requires c κs = search needs

@@ -6,14 +6,6 @@ use borrow.Author.Needs.{needs}
 use native.Mathlib.Omega.{arith}
 use Rattle.script.proofs.step.Statement.{statement}
 use Rattle.script.proofs.step.Tie as tie
-use Rattle.script.proofs.step.Reads as reads
-use Rattle.script.proofs.step.Lts as lts
-use Rattle.record_bytes.proofs.reading.part_again.Reads as part-again-reads
-use Rattle.record_bytes.proofs.reading.phase_again.Reads as phase-again-reads
-use Rattle.record_bytes.proofs.writing.write_change.Reads as write-change-reads
-use Rattle.script.proofs.stopping.Reads as stopping-reads
-use Rattle.script.proofs.wait.Reads as wait-reads
-use Rattle.transact.proofs.transact_part.Reads as transact-part-reads
 
 part-again-requires : tie.Need-part-again-requires
 part-again-requires c κs = search needs

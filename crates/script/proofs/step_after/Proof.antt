@@ -1,11 +1,8 @@
 -- `script::step_after` meets its contract: the test is the definition's.
 use borrow.Author.Tests.{eq-eqb, ne-eqb}
 use borrow.Author.Needs.{needs}
-use native.Mathlib.Omega.{arith}
 use Rattle.script.proofs.step_after.Statement.{statement}
 use Rattle.script.proofs.step_after.Tie as tie
-use Rattle.script.proofs.step_after.Reads as reads
-use Rattle.script.proofs.step_after.Lts as lts
 
 add-result : tie.Need-add-result
 add-result c = search needs

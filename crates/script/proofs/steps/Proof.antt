@@ -2,17 +2,12 @@
 use mathlib.Core.Path.{refl, sym, _∙_}
 use Prim.Native.Nat.{_-_}
 use lib.ListN.{length}
-use denote.Ref.{now}
 use Rattle.record_bytes.proofs.Back.{held-length}
 use Rattle.script.specs.Steps.{world}
 use Rattle.script.proofs.OneByOne.{Along, fit-along, all-made, stopped-at, one-more}
-use borrow.Author.Needs.{needs}
 use native.Mathlib.Omega.{arith}
 use Rattle.script.proofs.steps.Statement.{statement}
 use Rattle.script.proofs.steps.Tie as tie
-use Rattle.script.proofs.steps.Reads as reads
-use Rattle.script.proofs.steps.Lts as lts
-use Rattle.script.proofs.turn.Reads as turn-reads
 
 abbrev Inv-loop : tie.InvT-loop
 Inv-loop identity bytes₀ array₀ rows₀ wp input lengths ticks output₀ answers₀ done₀ state₀ k₀ bytes array rows output answers done state k =

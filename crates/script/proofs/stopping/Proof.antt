@@ -1,11 +1,7 @@
 -- `script::stopping` meets its contract: the test is the definition's.
 use borrow.Author.Tests.{le-leb, lt-leb}
-use borrow.Author.Needs.{needs}
-use native.Mathlib.Omega.{arith}
 use Rattle.script.proofs.stopping.Statement.{statement}
 use Rattle.script.proofs.stopping.Tie as tie
-use Rattle.script.proofs.stopping.Reads as reads
-use Rattle.script.proofs.stopping.Lts as lts
 
 returns : tie.Need-returns
 returns c = simp (le-leb _ _ (c .if1 .taken))

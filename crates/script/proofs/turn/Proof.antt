@@ -10,10 +10,6 @@ use borrow.Author.Needs.{needs}
 use native.Mathlib.Omega.{arith}
 use Rattle.script.proofs.turn.Statement.{statement}
 use Rattle.script.proofs.turn.Tie as tie
-use Rattle.script.proofs.turn.Reads as reads
-use Rattle.script.proofs.turn.Lts as lts
-use Rattle.script.proofs.step.Reads as step-reads
-use Rattle.script.proofs.step_after.Reads as step-after-reads
 
 mul-end : tie.Need-mul-end
 mul-end c = search needs

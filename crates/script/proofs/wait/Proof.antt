@@ -7,12 +7,6 @@ use borrow.Author.Needs.{needs}
 use native.Mathlib.Omega.{arith}
 use Rattle.script.proofs.wait.Statement.{statement}
 use Rattle.script.proofs.wait.Tie as tie
-use Rattle.script.proofs.wait.Reads as reads
-use Rattle.script.proofs.wait.Lts as lts
-use Rattle.record_bytes.proofs.reading.part_again.Reads as part-again-reads
-use Rattle.record_bytes.proofs.reading.phase_again.Reads as phase-again-reads
-use Rattle.script.proofs.write_ran.Reads as write-ran-reads
-use Rattle.ticks.proofs.tick_part.Reads as tick-part-reads
 
 part-again-requires : tie.Need-part-again-requires
 part-again-requires c κs = search needs

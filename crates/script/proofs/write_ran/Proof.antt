@@ -2,12 +2,8 @@
 use denote.Ref.{now}
 use Rattle.script.proofs.OneStep.{same-written}
 use borrow.Author.Needs.{needs}
-use native.Mathlib.Omega.{arith}
 use Rattle.script.proofs.write_ran.Statement.{statement}
 use Rattle.script.proofs.write_ran.Tie as tie
-use Rattle.script.proofs.write_ran.Reads as reads
-use Rattle.script.proofs.write_ran.Lts as lts
-use Rattle.record_bytes.proofs.writing.write_runs.Reads as write-runs-reads
 
 enum-told : tie.Need-enum-told
 enum-told c = search needs

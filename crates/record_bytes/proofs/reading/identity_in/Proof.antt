@@ -1,11 +1,7 @@
 -- `reading::identity_in` meets its contract: each byte is read at its place.
 use borrow.Author.Needs.{needs}
-use native.Mathlib.Omega.{arith}
 use Rattle.record_bytes.proofs.reading.identity_in.Statement.{statement}
 use Rattle.record_bytes.proofs.reading.identity_in.Tie as tie
-use Rattle.record_bytes.proofs.reading.identity_in.Reads as reads
-use Rattle.record_bytes.proofs.reading.identity_in.Lts as lts
-use Rattle.sent.proofs.byte_at.Reads as byte-at-reads
 
 byte-at-requires : tie.Need-byte-at-requires
 byte-at-requires c κs = search needs
