@@ -141,9 +141,9 @@ uint64_t yawlspar_page_place(uint64_t start, uint64_t index);
  *
  * The result r of a call is two numbers in one: YAWLSPAR_NUMBER(r), the answer, 0 for a call that was
  * executed, and above it the place, the count or the step that is described at the call. If several numbers apply,
- * the lowest is the answer, except that a script looks for 7 before 4. A call that is refused, with 1 to 7, leaves
- * every byte of every buffer as it was, and the bits above the number are 0. Only a script that stops at one of its
- * steps, with 3 or 6, has done the steps before it.
+ * the lowest is the answer, except that a script looks for 7 before 4, and for 3 and 6 at each step, after all others.
+ * A call that is refused, with 1 to 7, leaves every byte of every buffer as it was, and the bits above the number are
+ * 0. Only a script that stops at one of its steps, with 3 or 6, has done the steps before it.
  */
 #define YAWLSPAR_RECORD_BYTES 322
 #define YAWLSPAR_NUMBER(r) ((r) & 255)
