@@ -10,14 +10,13 @@ use lib.Dec.{eqb}
 use lib.ListN.{length, getD, set}
 use lib.Seq.{getD-set-same, getD-set-other}
 use borrow.Author.Tests.{eqb-true, eqb-false}
-use Rattle.words.specs.Logic.{unless, _orElse_}
 use Rattle.words.proofs.Tests.{orElse-zero}
 use Rattle.paper.specs.Sizes.{arrayBytes, rowsBytes}
 use Rattle.paper.specs.Soundness.{sound}
-use Rattle.paper.specs.Numbers.{sizeNumber, rowsNumber, listsNumber, outputNumber, soundNumber, laterScriptRefusal, scriptRefusal}
 use Rattle.paper.specs.History.{Call}
 use Rattle.paper.specs.Board.{Board}
 use Rattle.paper.specs.Script.{Script, Scripted, Made, stepped, afterSteps, unstepped, refusalOf, scripted, scriptCalls}
+use Rattle.paper.proofs.Numbers.{script-early}
 use Rattle.history.specs.Course.{Step, sent, waited}
 use Rattle.history.specs.ScriptLaws.{courseFrom, StepsTold}
 use Rattle.history.proofs.ScriptSteps.{StepCourse, whole, alone}
@@ -46,31 +45,6 @@ module _ (w : Scripted) (small : w .number < 256) (few : w .step < 2 ^ 56) where
   answer-heard =
       ap (λ (k : ℕ). heardSteps k (scriptAnswer w / 256) (w .answers) (w .done)) answer-number
       ∙ ap (λ (k : ℕ). heardSteps (w .number) k (w .answers) (w .done)) answer-step
-
--- the number of a refusal before the first step
-record Early (number : ℕ) : Type 0 where
-  not-three : eqb number 3 ≡ false
-  not-six : eqb number 6 ≡ false
-  small : number < 256
-
-early-or : (m n : ℕ) → Early m → Early n → Early (m orElse n)
-unfolding _orElse_
-early-or zero n e f = f
-early-or (suc m) n e f = e
-
-early-unless : (b : Bool) (n : ℕ) → Early n → Early (unless b n)
-unfolding unless
-early-unless true n e = record { not-three = refl; not-six = refl; small = omega arith }
-early-unless false n e = e
-
-refusal-early : (b : ℕ) (ok : Bool) (a r : ℕ) (ls : List ℕ) (t n d i o : ℕ) → Early (scriptRefusal b ok a r ls t n d i o)
-unfolding scriptRefusal laterScriptRefusal sizeNumber rowsNumber listsNumber outputNumber soundNumber
-refusal-early b ok a r ls t n d i o =
-    early-or _ _ (early-unless _ 1 (record { not-three = refl; not-six = refl; small = omega arith }))
-    (early-or _ _ (early-unless _ 2 (record { not-three = refl; not-six = refl; small = omega arith }))
-    (early-or _ _ (early-unless _ 7 (record { not-three = refl; not-six = refl; small = omega arith }))
-    (early-or _ _ (early-unless _ 4 (record { not-three = refl; not-six = refl; small = omega arith }))
-    (early-unless _ 5 (record { not-three = refl; not-six = refl; small = omega arith })))))
 
 steps-append : (ss ts : List Step) → scriptSteps (ss ++ ts) ≡ scriptSteps ss ++ scriptSteps ts
 steps-append [] ts = refl
@@ -219,7 +193,7 @@ module _ (ok : Bool) (s : Script) (b : Board) (o n d : List ℕ) (is-sound : sou
       ∙ ap (λ (cs : List Call). scriptSteps (courseFrom b cs)) (sym (t .1))
   either-heard false e =
       let t = script-laws .refused ok s b o n d ea er (eqb-false _ _ e) in
-      let r = refusal-early (b .state .part .blocks) ok (length (b .array)) (length (b .rows)) (s .lengths) (length (s .ticks)) (length n) (length d) (length (s .input)) (length o) in
+      let r = script-early (b .state .part .blocks) ok (length (b .array)) (length (b .rows)) (s .lengths) (length (s .ticks)) (length n) (length d) (length (s .input)) (length o) in
       ap (λ (v : Scripted). heardSteps (scriptAnswer v % 256) (scriptAnswer v / 256) (v .answers) (v .done)) (t .0)
       ∙ answer-heard (unstepped (refusalOf ok s b o n d) b o n d) (r .small) (omega arith)
       ∙ rw (r .not-three, r .not-six) refl

@@ -1,21 +1,23 @@
 -- What a call that is not refused may rest on.
-use Prim.Native.Nat.{ℕ, _≤_}
-use mathlib.Core.Path.{_≡_}
-use mathlib.Core.Bool.{Bool, true, not}
+use Prim.Native.Nat.{ℕ, zero, suc, _≤_, _<_}
+use mathlib.Core.Path.{_≡_, refl, ap, _∙_}
+use mathlib.Core.Bool.{Bool, true, false, not, false≢true}
 use mathlib.Core.List.{List}
+use native.Mathlib.Omega.{arith}
+use lib.Dec.{eqb}
 use lib.ListN.{length}
-use borrow.Author.Tests.{eqb-true, leb-true}
+use borrow.Author.Tests.{eqb-true, leb-true, eq-eqb, ne-eqb}
 use Rattle.types.specs.declared.Phase.{Phase}
 use Rattle.types.specs.declared.Work.{Work}
 use Rattle.types.specs.declared.Part.{Part}
 use Rattle.types.specs.declared.Columns.{Columns}
-use Rattle.words.specs.Logic.{_or_}
+use Rattle.words.specs.Logic.{_or_, unless, _orElse_}
 use Rattle.words.specs.Lists.{sumTo}
-use Rattle.words.proofs.Tests.{and-l, and-r, unless-zero, orElse-zero}
+use Rattle.words.proofs.Tests.{and-l, and-r, unless-zero, orElse-zero, orElse-on}
 use Rattle.paper.specs.Sizes.{sizeOk, arrayBytes, rowsBytes, transactionLimit, tickLimit}
 use Rattle.paper.specs.Phases.{eraseHalted, isBusy, isSuspended}
 use Rattle.paper.specs.Table.{addressingOn, lengthOk, takenAsleep, takenBusy, takenSuspended}
-use Rattle.paper.specs.Numbers.{sizeNumber, rowsNumber, lengthNumber, outputNumber, soundNumber, ticksNumber, listsNumber, transactionRefusal, tickNumber, laterScriptRefusal, scriptRefusal, stateOk, addressOk, freeOk, commandNumber}
+use Rattle.paper.specs.Numbers.{sizeNumber, rowsNumber, lengthNumber, outputNumber, soundNumber, ticksNumber, listsNumber, transactionRefusal, tickNumber, imageNumber, laterScriptRefusal, scriptRefusal, laterCheckRefusal, checkRefusal, stateOk, addressOk, freeOk, commandNumber}
 
 -- a tick call that is not refused, of a record of b blocks that is sound or is not
 pub record TicksTaken (b : ℕ) (sound : Bool) (a r n : ℕ) : Type 0 where
@@ -74,6 +76,68 @@ script-taken b sound a r ls t n d i o e =
     let l = unless-zero _ 6 (z .0) in
     let k = and-r _ _ l in
     record { size = eqb-true _ _ (and-r _ _ (unless-zero _ 0 (x .0))); rows = eqb-true _ _ (unless-zero _ 1 (y .0)); ticks = eqb-true _ _ (and-l _ _ l); answers = eqb-true _ _ (and-l _ _ k); done = eqb-true _ _ (and-l _ _ (and-r _ _ k)); input = eqb-true _ _ (and-r _ _ (and-r _ _ k)); output = eqb-true _ _ (unless-zero _ 3 (w .0)); is-sound = unless-zero _ 4 (w .1) }
+
+-- the number of a refusal of a script before its first step is none that stops a step
+pub record Early (number : ℕ) : Type 0 where
+  pub not-three : eqb number 3 ≡ false
+  pub not-six : eqb number 6 ≡ false
+  pub small : number < 256
+
+early-or : (m n : ℕ) → Early m → Early n → Early (m orElse n)
+unfolding _orElse_
+early-or zero n e f = f
+early-or (suc m) n e f = e
+
+early-unless : (b : Bool) (n : ℕ) → Early n → Early (unless b n)
+unfolding unless
+early-unless true n e = record { not-three = refl; not-six = refl; small = omega arith }
+early-unless false n e = e
+
+pub later-early : (sound : Bool) (r : ℕ) (ls : List ℕ) (t n d i o : ℕ) → Early (laterScriptRefusal sound r ls t n d i o)
+unfolding laterScriptRefusal rowsNumber listsNumber outputNumber soundNumber
+later-early sound r ls t n d i o =
+    early-or _ _ (early-unless _ 2 (record { not-three = refl; not-six = refl; small = omega arith }))
+    (early-or _ _ (early-unless _ 7 (record { not-three = refl; not-six = refl; small = omega arith }))
+    (early-or _ _ (early-unless _ 4 (record { not-three = refl; not-six = refl; small = omega arith }))
+    (early-unless _ 5 (record { not-three = refl; not-six = refl; small = omega arith }))))
+
+pub script-early : (b : ℕ) (sound : Bool) (a r : ℕ) (ls : List ℕ) (t n d i o : ℕ) → Early (scriptRefusal b sound a r ls t n d i o)
+unfolding scriptRefusal sizeNumber
+script-early b sound a r ls t n d i o =
+    early-or _ _ (early-unless _ 1 (record { not-three = refl; not-six = refl; small = omega arith })) (later-early sound r ls t n d i o)
+
+-- where a record is not sound, a script is refused
+pub unsound-refused : (r : ℕ) (ls : List ℕ) (t n d i o : ℕ) → laterScriptRefusal false r ls t n d i o ≡ 0 → ⊥
+unfolding laterScriptRefusal soundNumber
+unsound-refused r ls t n d i o e =
+    false≢true (unless-zero _ 4 (orElse-zero _ _ (orElse-zero _ _ (orElse-zero _ _ e .1) .1) .1))
+
+-- a check is refused as its script is where image and array are as long as each other
+module _ (b : ℕ) (sound : Bool) (m a r : ℕ) (ls : List ℕ) (t n d i o : ℕ) where
+  pub later-check : m ≡ a → laterCheckRefusal sound m a r ls t n d i o ≡ laterScriptRefusal sound r ls t n d i o
+  unfolding laterCheckRefusal imageNumber unless _orElse_
+  later-check e = rw (eq-eqb m a e) refl
+
+  pub same-check : m ≡ a → checkRefusal b sound m a r ls t n d i o ≡ scriptRefusal b sound a r ls t n d i o
+  unfolding checkRefusal scriptRefusal
+  same-check e = ap (λ (k : ℕ). sizeNumber b a orElse k) (later-check e)
+
+  -- else by 38, after 1
+  pub later-image : (m ≡ a → ⊥) → laterCheckRefusal sound m a r ls t n d i o ≡ 38
+  unfolding laterCheckRefusal imageNumber unless _orElse_
+  later-image h = rw (ne-eqb m a h) refl
+
+  pub image-refused : (m ≡ a → ⊥) → checkRefusal b sound m a r ls t n d i o ≡ (sizeNumber b a orElse 38)
+  unfolding checkRefusal
+  image-refused h = ap (λ (k : ℕ). sizeNumber b a orElse k) (later-image h)
+
+  -- a check that is not refused: nor is its script
+  pub check-taken : checkRefusal b sound m a r ls t n d i o ≡ 0 → (m ≡ a) × (scriptRefusal b sound a r ls t n d i o ≡ 0)
+  unfolding checkRefusal laterCheckRefusal imageNumber scriptRefusal
+  check-taken e =
+      let x = orElse-zero _ _ e in
+      let y = orElse-zero _ _ (x .1) in
+      (eqb-true _ _ (unless-zero _ 37 (y .0)), orElse-on _ _ (x .0) ∙ y .1)
 
 -- a command that is executed: none of the numbers 21 to 28 applies
 pub record CommandTaken (k : Columns) (w : Work) (p : Part) (f : Phase) (i : List ℕ) (wp : Bool) : Type 0 where

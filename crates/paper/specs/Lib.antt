@@ -22,4 +22,5 @@ pub mod ByPlace
 pub mod CBench
 pub mod Board
 pub mod Script
+pub mod Check
 pub mod Bench

@@ -65,6 +65,10 @@ listsNumber ls t n d i =
     and eqb d (length ls)
     and eqb (sumTo ls (length ls)) i) 7
 
+-- 38: the lengths of a wanted image, m bytes, and of the array, a bytes, differ
+unfoldable pub imageNumber : ℕ → ℕ → ℕ
+imageNumber m a = unless (eqb m a) 38
+
 -- 5 at power-up: status bits 1..0, function bits 3..0, but for bit 1, TBS, on the large part, or bits 4..0 of the extended read register not zero
 unfoldable pub givenOk : ℕ → Stored → Bool
 givenOk n s =
@@ -100,6 +104,14 @@ laterScriptRefusal sound r ls t n d i o =
 -- and its 1, 2, 7, 4 and 5, which are tested before the first step
 unfoldable pub scriptRefusal : ℕ → Bool → ℕ → ℕ → List ℕ → ℕ → ℕ → ℕ → ℕ → ℕ → ℕ
 scriptRefusal b sound a r ls t n d i o = sizeNumber b a orElse laterScriptRefusal sound r ls t n d i o
+
+-- a check's 38, 2, 7, 4 and 5, in that order, which go by no size: the image has m bytes
+unfoldable pub laterCheckRefusal : Bool → ℕ → ℕ → ℕ → List ℕ → ℕ → ℕ → ℕ → ℕ → ℕ → ℕ
+laterCheckRefusal sound m a r ls t n d i o = imageNumber m a orElse laterScriptRefusal sound r ls t n d i o
+
+-- and its 1, 38, 2, 7, 4 and 5, which are tested before the first step
+unfoldable pub checkRefusal : ℕ → Bool → ℕ → ℕ → ℕ → List ℕ → ℕ → ℕ → ℕ → ℕ → ℕ → ℕ
+checkRefusal b sound m a r ls t n d i o = sizeNumber b a orElse laterCheckRefusal sound m a r ls t n d i o
 
 -- 25: nothing running that can be suspended, nothing to resume, or 99h not armed
 abbrev pub stateOk : Wanted → Part → Phase → Bool

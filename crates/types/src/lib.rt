@@ -334,6 +334,15 @@ pub struct Worked {
     pub done: usize,
 }
 
+// What a check of a script says: yes; a step, the first that fails, or the number of steps where none does but the part is
+// not idle; the first address that differs; or the number that refuses it.
+pub enum Verdict {
+    Yes,
+    Step(usize),
+    Address(usize),
+    Refused(u8),
+}
+
 // What a line of the bench says: a transaction, with WP# high where it is true; so many ticks; or neither.
 pub enum Line {
     Transaction(bool),

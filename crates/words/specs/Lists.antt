@@ -1,9 +1,9 @@
 -- Lists of bytes, by what stands at each place.
 use Prim.Native.Nat.{ℕ, zero, suc, _+_, _-_, _%_}
 use mathlib.Core.List.{List, [], _∷_, _++_}
-use mathlib.Core.Bool.{Bool, true, cond}
+use mathlib.Core.Bool.{Bool, true, not, cond}
 use lib.ListN.{length, getD, take, drop}
-use lib.Dec.{eqb}
+use lib.Dec.{eqb, ltb}
 use Rattle.words.specs.Logic.{_and_}
 
 -- f 0, f 1, .., f (n - 1)
@@ -40,3 +40,17 @@ between at n xs = take n (drop at xs)
 
 abbrev pub putBetween : ℕ → ℕ → List ℕ → List ℕ → List ℕ
 putBetween at n xs ys = take at xs ++ (ys ++ drop n (drop at xs))
+
+-- the first of the numbers 0, 1, .., n - 1 that passes a test; n where none does
+unfoldable pub firstOf : ℕ → (ℕ → Bool) → ℕ
+firstOf zero test = 0
+firstOf (suc n) test = cond (ltb (firstOf n test) n) (firstOf n test) (cond (test n) n (suc n))
+
+-- all of them pass it
+unfoldable pub allBelow : ℕ → (ℕ → Bool) → Bool
+allBelow zero test = true
+allBelow (suc n) test = allBelow n test and test n
+
+-- two lists differ at a place
+abbrev pub differAt : List ℕ → List ℕ → ℕ → Bool
+differAt xs ys k = not (eqb (getD xs k 0) (getD ys k 0))
