@@ -1,0 +1,3 @@
+pub mod Flasher
+pub mod Construction
+pub mod Accepts
