@@ -1,0 +1,6 @@
+pub mod Bytes
+pub mod Steps
+pub mod Writes
+pub mod Accepted
+pub mod YesExactly
+pub mod Acceptance

@@ -38,7 +38,7 @@ drop-next : (k : ℕ) (xs ys : List ℕ) → drop k xs ≡ drop k ys → drop (s
 drop-next k xs ys e = ap (λ (j : ℕ). drop j xs) (sym (add-one k)) ∙ drop-more k 1 xs ys e ∙ ap (λ (j : ℕ). drop j ys) (add-one k)
 
 -- calls and then others
-after-append : (cs ds : List Call) (b : Board) → afterCalls (cs ++ ds) b ≡ afterCalls ds (afterCalls cs b)
+pub after-append : (cs ds : List Call) (b : Board) → afterCalls (cs ++ ds) b ≡ afterCalls ds (afterCalls cs b)
 after-append [] ds b = refl
 after-append (c ∷ cs) ds b = after-append cs ds (afterCall c b)
 

@@ -72,7 +72,7 @@ module _ (u : EraseUnit) (n a b at : ℕ) where
       and-in (subst⁻¹ (λ (z : Memory). sameMemory z (memoryOf u) ≡ true) (same-is m w (and-l _ _ i)) (and-l _ _ h)) (page-in-unit (and-r _ _ h) (and-r _ _ i)))
 
 -- a program of at most 256 bytes, all of which count
-short-program : (w : Memory) (a : ℕ) (d : List ℕ) (m : Memory) (at x : ℕ) → length d ≤ pageBytes
+pub short-program : (w : Memory) (a : ℕ) (d : List ℕ) (m : Memory) (at x : ℕ) → length d ≤ pageBytes
     → let k = byteFor (pagePlace a 0) (at - pageBase a) in
     byteProgrammed w a d m at x ≡ cond (inPageOf w a m at and ltb k (length d)) (narrowedByte x (getD d k 0)) x
 short-program w a d m at x l =

@@ -112,7 +112,7 @@ passes-asked test true es h = h
 passes-asked test false es h = refl
 
 -- so does every command that a part knows, if every entry of the three lists of codes does
-of-decoded : (test : Command → Bool) → passes test farCodes ≡ true → passes test codes ≡ true → passes test largeCodes ≡ true → (n bank c : ℕ) (k : Command) → decoded n bank c ≡ Known k → test k ≡ true
+pub of-decoded : (test : Command → Bool) → passes test farCodes ≡ true → passes test codes ≡ true → passes test largeCodes ≡ true → (n bank c : ℕ) (k : Command) → decoded n bank c ≡ Known k → test k ≡ true
 unfolding decoded
 of-decoded test f h l n bank c k e =
     found test (codesOn n bank) c k (every-both (λ (x : Entry). test (x .command)) (cond (extadd bank) farCodes []) (codes ++ cond (isLarge n) largeCodes []) (passes-asked test (extadd bank) farCodes f) (every-both (λ (x : Entry). test (x .command)) codes (cond (isLarge n) largeCodes []) h (passes-asked test (isLarge n) largeCodes l))) e

@@ -4,7 +4,6 @@ use mathlib.Core.List.{List}
 use mathlib.Core.Bool.{Bool, not, cond}
 use lib.ListN.{length, getD}
 use lib.Dec.{eqb, ltb}
-use Rattle.types.specs.declared.Record.{Record}
 use Rattle.types.specs.declared.Verdict.{Verdict}
 use Rattle.types.specs.declared.Verdict.the-variants.{Yes, Step, Address, Refused}
 use Rattle.words.specs.Logic.{_and_, _or_, whenZero}
