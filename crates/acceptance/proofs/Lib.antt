@@ -4,3 +4,4 @@ pub mod Writes
 pub mod Accepted
 pub mod YesExactly
 pub mod Acceptance
+pub mod Plan
