@@ -5,3 +5,4 @@ pub mod Accepted
 pub mod YesExactly
 pub mod Acceptance
 pub mod Plan
+pub mod Sent
