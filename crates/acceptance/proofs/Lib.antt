@@ -6,3 +6,5 @@ pub mod YesExactly
 pub mod Acceptance
 pub mod Plan
 pub mod Sent
+pub mod Script
+pub mod Made

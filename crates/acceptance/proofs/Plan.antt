@@ -22,9 +22,19 @@ abbrev pub Each : (Job → Type 0) → List Job → Type 0
 Each P [] = Unit {0}
 Each P (j ∷ js) = P j × Each P js
 
+-- of two lists, and of one of two
 each-both : (P : Job → Type 0) (xs ys : List Job) → Each P xs → Each P ys → Each P (xs ++ ys)
 each-both P [] ys h g = g
 each-both P (x ∷ xs) ys h g = (h .0, each-both P xs ys (h .1) g)
+
+each-cond : (P : Job → Type 0) (t : Bool) (js ks : List Job) → Each P js → Each P ks → Each P (cond t js ks)
+each-cond P true js ks h g = h
+each-cond P false js ks h g = g
+
+-- what follows from it, and a test that does
+pub each-so : (P Q : Job → Type 0) → ((j : Job) → P j → Q j) → (js : List Job) → Each P js → Each Q js
+each-so P Q f [] h = tt
+each-so P Q f (j ∷ js) h = (f j (h .0), each-so P Q f js (h .1))
 
 each-every : (P : Job → Type 0) (test : Job → Bool) → ((j : Job) → P j → test j ≡ true) → (js : List Job) → Each P js → every test js ≡ true
 each-every P test f [] h = refl
@@ -39,18 +49,13 @@ how-many-none : (P : Job → Type 0) (test : Job → Bool) → ((j : Job) → P 
 how-many-none P test f [] h = refl
 how-many-none P test f (j ∷ js) h = rw (f j (h .0), how-many-none P test f js (h .1))
 
--- a job that is there or is not
-each-asked : (P : Job → Type 0) (t : Bool) (j : Job) → P j → Each P (cond t (j ∷ []) [])
-each-asked P true j h = (h, tt)
-each-asked P false j h = tt
-
 -- what is so of the erases of the first q sectors
 erases-each : (P : Job → Type 0) (xs image : List ℕ) (q : ℕ) → ((k : ℕ) → k < q → P (erases (k * sectorBytes))) → Each P (eraseJobs xs image q)
 erases-each P xs image zero h = tt
 erases-each P xs image (suc q) h =
     each-both P (eraseJobs xs image q) (cond (mustErase xs image (q * sectorBytes)) (erases (q * sectorBytes) ∷ []) [])
     (erases-each P xs image q (λ k l. h k (omega arith)))
-    (each-asked P (mustErase xs image (q * sectorBytes)) (erases (q * sectorBytes)) (h q (omega arith)))
+    (each-cond P (mustErase xs image (q * sectorBytes)) (erases (q * sectorBytes) ∷ []) [] (h q (omega arith), tt) tt)
 
 -- a byte that joins jobs: it is a program of its own, or the first byte of one that begins at the next address, within the page
 module _ (P : Job → Type 0) (a v : ℕ) (alone : P (programs a (v ∷ []))) (before : (d : List ℕ) → (suc a % pageBytes ≡ 0 → ⊥) → P (programs (suc a) d) → P (programs a (v ∷ d))) where
@@ -68,10 +73,6 @@ module _ (P : Job → Type 0) (a v : ℕ) (alone : P (programs a (v ∷ []))) (b
   joined-each (programs c d ∷ js) h = joined-as c d js _ refl (h .0) (h .1)
   joined-each (other ∷ js) h = (alone, h)
 
-each-cond : (P : Job → Type 0) (t : Bool) (js ks : List Job) → Each P js → Each P ks → Each P (cond t js ks)
-each-cond P true js ks h g = h
-each-cond P false js ks h g = g
-
 -- what is so of the programs of the bytes below an address
 programs-each : (P : Job → Type 0) (xs image : List ℕ) (a : ℕ) → ((k : ℕ) (js : List Job) → k < a → Each P js → Each P (joined k (getD image k 0) js))
     → (js : List Job) → Each P js → Each P (programJobs xs image a js)
@@ -87,7 +88,8 @@ first-or-behind a n x true e =
     rw (from-on a (suc n) x (omega arith) (omega arith), fails (fromOn (suc a) n x) (λ h. omega (arith, on-from (suc a) n x h)))
 first-or-behind a n x false e =
     let apart : x ≡ a → ⊥ = eqb-false _ _ e in
-    rw (same-tests (fromOn a (suc n) x) (fromOn (suc a) n x) (λ h. let q = on-from a (suc n) x h in from-on (suc a) n x (omega (arith, q)) (omega (arith, q))) (λ h. let q = on-from (suc a) n x h in from-on a (suc n) x (omega (arith, q)) (omega (arith, q)))) (omega arith)
+    let same : fromOn a (suc n) x ≡ fromOn (suc a) n x = same-tests _ _ (λ h. let q = on-from a (suc n) x h in from-on (suc a) n x (omega (arith, q)) (omega (arith, q))) (λ h. let q = on-from (suc a) n x h in from-on a (suc n) x (omega (arith, q)) (omega (arith, q))) in
+    rw same (omega arith)
 
 -- so a byte that joins jobs adds its place to those that they program
 module _ (x a v : ℕ) where
@@ -208,17 +210,19 @@ Sendable image (erases b) = (b % sectorBytes ≡ 0) × (b < length image)
 Sendable image (programs a d) = Planned image a d
 Sendable image other = ⊥
 
+-- it has the wanted values
 sendable-wanted : (image : List ℕ) (j : Job) → Sendable image j → asWanted image j ≡ true
 sendable-wanted image (erases b) h = refl
 sendable-wanted image (programs a d) h =
     all-in (λ (k : ℕ). eqb (getD d k 0) (getD image (a + k) 0)) (length d) (λ k l. eq-eqb _ _ (h .wanted k l))
 sendable-wanted image other h = absurd h
 
--- a byte of the image alone, and before a program of them
+-- a byte of the image before data of it: the wanted values
 first-wanted : (image d : List ℕ) (a : ℕ) → ((k : ℕ) → k < length d → getD d k 0 ≡ getD image (suc a + k) 0) → (k : ℕ) → k < suc (length d) → getD (getD image a 0 ∷ d) k 0 ≡ getD image (a + k) 0
 first-wanted image d a h zero l = ap (λ (i : ℕ). getD image i 0) (omega arith)
 first-wanted image d a h (suc k) l = h k (omega arith) ∙ ap (λ (i : ℕ). getD image i 0) (omega arith)
 
+-- so it makes a program that can be sent, alone and before one of its page
 module _ (image : List ℕ) (a : ℕ) (l : a < length image) where
   planned-alone : Planned image a (getD image a 0 ∷ [])
   planned-alone =
@@ -229,6 +233,7 @@ module _ (image : List ℕ) (a : ℕ) (l : a < length image) where
       record { some = omega arith; in-page = omega (arith, h .in-page); inside = omega (arith, h .inside); wanted = first-wanted image d a (h .wanted) }
 
 module _ (xs image : List ℕ) where
+  -- the sectors, and what is so of all erases and of all programs
   abbrev sectors : ℕ
   sectors = length image / sectorBytes
 
@@ -253,7 +258,7 @@ module _ (xs image : List ℕ) where
       (erases-each (Sendable image) xs image sectors (λ k l. (omega arith, omega arith)))
       (programs-each (Sendable image) xs image (length image) (λ k js l. joined-each (Sendable image) k (getD image k 0) (planned-alone image k l) (planned-before image k l) js) [] tt)
 
-  -- and they are right
+  -- they erase the sectors that must be, and program the bytes that still differ, each once
   right-erases : (q : ℕ) → q < sectors → howMany (erasesAt (q * sectorBytes)) (jobsFor xs image) ≡ bit (mustErase xs image (q * sectorBytes))
   unfolding jobsFor
   right-erases q l =
@@ -266,10 +271,12 @@ module _ (xs image : List ℕ) where
       how-many-both (programsAt a) (eraseJobs xs image sectors) (programJobs xs image (length image) [])
       ∙ rw (how-many-none Erasing (programsAt a) (erase-programs-none a) (eraseJobs xs image sectors) all-erase, programs-at xs image a (length image) l []) (omega arith)
 
+  -- first they erase, then they program
   jobs-in-order : erasesFirst (jobsFor xs image) ≡ true
   unfolding jobsFor
   jobs-in-order = erases-then (eraseJobs xs image sectors) (programJobs xs image (length image) []) all-erase all-leave
 
+  -- so they are right
   pub jobs-right : rightJobs xs image (jobsFor xs image) ≡ true
   unfolding rightJobs
   jobs-right =

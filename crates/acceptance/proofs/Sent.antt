@@ -48,7 +48,7 @@ use Rattle.acceptance.specs.Construction.{addressFor, addressed, sentFor
 use Rattle.acceptance.specs.Accepts.{AreBytes}
 use Rattle.acceptance.proofs.Plan.{Planned, Sendable}
 
--- lists of bytes
+-- two lists of bytes make one, and one byte does
 pub bytes-both : (xs ys : List ℕ) → AreBytes xs → AreBytes ys → AreBytes (xs ++ ys)
 bytes-both [] ys h g k = g k
 bytes-both (x ∷ xs) ys h g zero = h zero
@@ -75,13 +75,13 @@ address-back (suc k) a h =
     high-first-snoc (addressFor k (a / 256)) (a % 256) ∙ rw (address-back k (a / 256) (omega (arith, q))) (omega arith)
 
 -- so an input of a code, an address and data is read back
-module _ (g : Addressing) (n c a : ℕ) (d : List ℕ) where
+module _ (g : Addressing) (c a : ℕ) (d : List ℕ) where
   abbrev input : List ℕ
   input = c ∷ (addressFor (addressCount g) a ++ d)
 
-  address-read : bankBase g ≡ 0 → a < 256 ^ addressCount g → a < arrayBytes n → addressIn g n input ≡ a
+  address-read : (n : ℕ) → bankBase g ≡ 0 → a < 256 ^ addressCount g → a < arrayBytes n → addressIn g n input ≡ a
   unfolding addressIn
-  address-read base fits inside =
+  address-read n base fits inside =
       rw (base, take-at (addressFor (addressCount g) a) d (addressCount g) (length-address (addressCount g) a), address-back (addressCount g) a fits, zero-add)
       (mod-eq-of-lt inside)
 
@@ -93,14 +93,20 @@ abbrev way : Bool → Addressing
 way true = Four
 way false = Three false
 
+-- they are places of the whole array
 way-base : (large : Bool) → bankBase (way large) ≡ 0
 way-base true = refl
 way-base false = refl
 
--- so all of an array can be reached
+-- all of it can be reached
 way-reaches : (n : ℕ) → sizeOk n ≡ true → arrayBytes n ≤ 256 ^ addressCount (way (isLarge n))
 way-reaches =
     by-size (λ (n : ℕ). arrayBytes n ≤ 256 ^ addressCount (way (isLarge n))) (omega arith) (omega arith) (omega arith) (omega arith) (omega arith)
+
+-- by at most four bytes
+way-few : (large : Bool) → addressCount (way large) ≤ 4
+way-few true = omega arith
+way-few false = omega arith
 
 -- a code of a command that does, takes its address and has a length as said
 record Coded (n bank : ℕ) (large : Bool) (c : ℕ) (e : Effect) (l : Length) : Type 0 where
@@ -110,6 +116,7 @@ record Coded (n bank : ℕ) (large : Bool) (c : ℕ) (e : Effect) (l : Length) :
   names : addressing (columns command .named) bank ≡ way large
   asks : columns command .length ≡ l
 
+-- 21h and 20h, 12h and 02h
 module _ (n bank : ℕ) where
   sector-code : (large : Bool) → isLarge n ≡ large → (large ≡ false → bank ≡ 0) → Coded n bank large (cond large 0x21 0x20) (Erases Sector) (Exactly (1 + addressCount (way large)))
   sector-code true e h = record { command = FarSectorErase; known = answered n bank 0x21 ∙ rw e; does = refl; names = refl; asks = refl }
@@ -140,15 +147,12 @@ sent-as : (large : Bool) (near far a : ℕ) (d : List ℕ) → cond large (far �
 sent-as true near far a d = refl
 sent-as false near far a d = refl
 
+-- one of two codes is a byte
 code-byte : (large : Bool) (near far : ℕ) → near < 256 → far < 256 → cond large far near < 256
 code-byte true near far h g = g
 code-byte false near far h g = h
 
-way-few : (large : Bool) → addressCount (way large) ≤ 4
-way-few true = omega arith
-way-few false = omega arith
-
--- a step that is right for a job
+-- a step that is right for a job; its length and its ticks are 16-bit numbers
 pub record Sent (p : Record) (j : Job) (e : Sending) : Type 0 where
   pub job : jobOf p (e .sent) ≡ j
   pub right : rightCommand p e ≡ true
@@ -172,6 +176,7 @@ module _ (p : Record) (s : sound p ≡ true) where
       let h = sym (large-as n (p .part .stored .function) (p .part .bank)) ∙ sound-parts p s .large in
       eqb-true _ _ (and-r _ _ (rw e at h))
 
+  -- so it has these codes
   sector-coded : Coded n (p .part .bank) large (cond large 0x21 0x20) (Erases Sector) (Exactly (1 + addressCount g))
   sector-coded = sector-code n (p .part .bank) large refl no-bank
 
@@ -182,9 +187,10 @@ module _ (p : Record) (s : sound p ≡ true) where
   abbrev sending : ℕ → ℕ → ℕ → List ℕ → List ℕ
   sending near far a d = cond large far near ∷ (addressFor (addressCount g) a ++ d)
 
+  -- its address is read back; its length; and its bytes
   module _ (near far a : ℕ) (d : List ℕ) where
     address-in : a < arrayBytes n → addressIn g n (sending near far a d) ≡ a
-    address-in inside = address-read g n (cond large far near) a d (way-base large) (omega (arith, way-reaches n (sound-parts p s .size))) inside
+    address-in inside = address-read g (cond large far near) a d n (way-base large) (omega (arith, way-reaches n (sound-parts p s .size))) inside
 
     sending-length : length (sending near far a d) ≡ 1 + addressCount g + length d
     sending-length = simp (length-append, length-address (addressCount g) a) (omega arith)
@@ -194,7 +200,7 @@ module _ (p : Record) (s : sound p ≡ true) where
         bytes-both (cond large far near ∷ []) (addressFor (addressCount g) a ++ d) (bytes-one (cond large far near) (code-byte large near far h k))
         (bytes-both (addressFor (addressCount g) a) d (address-bytes (addressCount g) a) b)
 
-  -- what begins is the operation of the job, and takes no more ticks than are allowed
+  -- a step is right that begins an operation and has its ticks; any part may be asked 4,096
   sent-right : (j : Job) (i : List ℕ) (t : ℕ) (o : Operation) → jobOf p i ≡ j → withinPage j ≡ true → lengthAs (commandOf p i) (length i) ≡ true → workOf p i ≡ At o → ticksInAll o n ≤ t → t ≤ 4096
       → rightCommand p (record { sent = i; ticks = t }) ≡ true
   sent-right j i t o job page len work enough few =
@@ -241,7 +247,7 @@ module _ (p : Record) (s : sound p ≡ true) where
     program-data : dataOf p programming ≡ d
     program-data =
         coded-data p page-coded (addressFor (addressCount g) a ++ d)
-        ∙ data-read g n (cond large 0x12 0x02) a d
+        ∙ data-read g (cond large 0x12 0x02) a d
 
     program-work : workOf p programming ≡ At (Program Array (a % pageBytes) (pageBase a) (length d) 0)
     unfolding programOf pagePlace
@@ -250,7 +256,7 @@ module _ (p : Record) (s : sound p ≡ true) where
         let place : (a + (length d - length d)) % pageBytes ≡ a % pageBytes = omega arith in
         coded-work p page-coded (addressFor (addressCount g) a ++ d)
         ∙ ap (λ (x : ℕ). At (Program Array (pagePlace x (passedCount (dataSent g programming))) (pageBase x) (keptCount (dataSent g programming)) 0)) (address-in 0x02 0x12 a d (omega (arith, own, h .some, h .inside)))
-        ∙ ap (λ (x : List ℕ). At (Program Array (pagePlace a (passedCount x)) (pageBase a) (keptCount x) 0)) (data-read g n (cond large 0x12 0x02) a d)
+        ∙ ap (λ (x : List ℕ). At (Program Array (pagePlace a (passedCount x)) (pageBase a) (keptCount x) 0)) (data-read g (cond large 0x12 0x02) a d)
         ∙ rw (kept, place) refl
 
     program-length : lengthAs (commandOf p programming) (length programming) ≡ true
@@ -277,7 +283,7 @@ module _ (p : Record) (s : sound p ≡ true) where
           ticks-few = omega (arith, h .in-page);
         }
 
-  -- so is what is sent for each job that can be
+  -- so what is sent for a job is right, for each that can be
   pub job-sent : (image : List ℕ) → length image ≡ arrayBytes n → AreBytes image → (j : Job) → Sendable image j → Sent p j (record { sent = sentFor n j; ticks = ticksFor j })
   job-sent image own byte (erases b) h =
       subst⁻¹ (λ (i : List ℕ). Sent p (erases b) (record { sent = i; ticks = 16 })) (sym (append-nil (addressed n 0x20 0x21 b)) ∙ sent-as large 0x20 0x21 b []) (erase-sent b (h .0) (omega (arith, own, h .1)))

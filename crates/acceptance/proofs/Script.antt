@@ -1,0 +1,77 @@
+-- Scripts of steps: the steps can be read off them again, and what is sent for jobs makes a script of them.
+use Prim.Native.Nat.{ℕ, zero, suc, _+_, _^_, _<_}
+use mathlib.Core.Path.{_≡_, refl, sym, ap, _∙_}
+use mathlib.Core.Bool.{true}
+use mathlib.Core.List.{List, [], _∷_, _++_}
+use native.Mathlib.Omega.{arith}
+use borrow.Author.Tests.{le-leb}
+use lib.ListN.{length, getD, length-append}
+use lib.Seq.{take-append-seam, drop-append-seam}
+use Rattle.types.specs.declared.Record.{Record}
+use Rattle.words.specs.Lists.{sumTo}
+use Rattle.words.proofs.Tests.{and-in}
+use Rattle.paper.specs.Sizes.{tickLimit}
+use Rattle.acceptance.specs.Flasher.{Sending, Job, sendings, inTwos, jobsIn}
+use Rattle.acceptance.specs.Construction.{sentFor, ticksFor, sendingsFor, inputOf, lengthsOf, ticksOf}
+use Rattle.acceptance.specs.Accepts.{AreBytes}
+use Rattle.acceptance.proofs.Plan.{Each}
+use Rattle.acceptance.proofs.Sent.{bytes-both, bytes-one, Sent}
+
+-- the steps of a script of steps
+pub read-back : (es : List Sending) → sendings (lengthsOf es) (ticksOf es) (inputOf es) ≡ es
+read-back [] = refl
+read-back (e ∷ es) = rw (take-append-seam, drop-append-seam, read-back es)
+
+-- its lists are as long as each other
+pub same-length : (es : List Sending) → length (ticksOf es) ≡ length (lengthsOf es)
+same-length [] = refl
+same-length (e ∷ es) = ap suc (same-length es)
+
+-- a sum of one number more, in front
+sum-cons : (n : ℕ) (ns : List ℕ) (k : ℕ) → sumTo (n ∷ ns) (suc k) ≡ n + sumTo ns k
+sum-cons n ns zero = omega arith
+sum-cons n ns (suc k) = omega (arith, sum-cons n ns k)
+
+-- so its lengths add up to its input
+pub lengths-sum : (es : List Sending) → sumTo (lengthsOf es) (length (lengthsOf es)) ≡ length (inputOf es)
+lengths-sum [] = refl
+lengths-sum (e ∷ es) =
+    sum-cons (length (e .sent)) (lengthsOf es) (length (lengthsOf es)) ∙ rw (lengths-sum es) (sym (length-append (e .sent) (inputOf es)))
+
+-- the steps for jobs, for each of which a right step is sent
+module _ (p : Record) where
+  abbrev pub IsSent : Job → Type 0
+  IsSent j = Sent p j (record { sent = sentFor (p .part .blocks) j; ticks = ticksFor j })
+
+  abbrev steps : List Job → List Sending
+  steps js = sendingsFor (p .part .blocks) js
+
+  -- they come in twos, and are for the jobs
+  pub steps-right : (js : List Job) → Each IsSent js → inTwos p (steps js) ≡ true
+  steps-right [] h = refl
+  steps-right (j ∷ js) h =
+      and-in (and-in refl (and-in refl (le-leb 0 (tickLimit (p .part .blocks)) (omega arith))))
+      (and-in (h .0 .right) (steps-right js (h .1)))
+
+  pub steps-jobs : (js : List Job) → Each IsSent js → jobsIn p (steps js) ≡ js
+  steps-jobs [] h = refl
+  steps-jobs (j ∷ js) h = rw (h .0 .job, steps-jobs js (h .1))
+
+  -- they send bytes; their lengths and tick counts are 16-bit numbers
+  pub steps-bytes : (js : List Job) → Each IsSent js → AreBytes (inputOf (steps js))
+  steps-bytes [] h k = omega arith
+  steps-bytes (j ∷ js) h k =
+      bytes-both (0x06 ∷ []) (sentFor (p .part .blocks) j ++ inputOf (steps js)) (bytes-one 0x06 (omega arith))
+      (bytes-both (sentFor (p .part .blocks) j) (inputOf (steps js)) (h .0 .bytes) (steps-bytes js (h .1))) k
+
+  pub steps-lengths : (js : List Job) → Each IsSent js → (k : ℕ) → getD (lengthsOf (steps js)) k 0 < 2 ^ 16
+  steps-lengths [] h k = omega arith
+  steps-lengths (j ∷ js) h zero = omega arith
+  steps-lengths (j ∷ js) h (suc zero) = h .0 .few
+  steps-lengths (j ∷ js) h (suc (suc k)) = steps-lengths js (h .1) k
+
+  pub steps-ticks : (js : List Job) → Each IsSent js → (k : ℕ) → getD (ticksOf (steps js)) k 0 < 2 ^ 16
+  steps-ticks [] h k = omega arith
+  steps-ticks (j ∷ js) h zero = omega arith
+  steps-ticks (j ∷ js) h (suc zero) = h .0 .ticks-few
+  steps-ticks (j ∷ js) h (suc (suc k)) = steps-ticks js (h .1) k
