@@ -1,4 +1,4 @@
--- Request 13: the laws of acceptance.
+-- The script of a right flasher is accepted; and all laws of acceptance, proved.
 use Prim.Native.Nat.{ℕ, zero, suc, _+_, _*_, _<_}
 use mathlib.Core.Path.{_≡_, refl, sym, ap, _∙_}
 use mathlib.Core.Bool.{true}
@@ -7,7 +7,6 @@ use native.Mathlib.Omega.{arith}
 use lib.ListN.{length, getD, take}
 use lib.Seq.{ext-getD, getD-take}
 use borrow.Author.Tests.{eqb-true}
-use Rattle.types.specs.declared.Verdict.the-variants.{Yes}
 use Rattle.words.specs.Logic.{whenZero}
 use Rattle.words.specs.Lists.{every}
 use Rattle.words.proofs.Tests.{and-l, and-r}
@@ -24,6 +23,8 @@ use Rattle.acceptance.proofs.Steps.{mayBeSent, allCalls, unstopped, cal
 use Rattle.acceptance.proofs.Writes.{all-aligned, all-may}
 use Rattle.acceptance.proofs.Accepted.{isZero, AllDone, twos-done}
 use Rattle.acceptance.proofs.YesExactly.{right-yes, Taken, check-told, yes-exactly}
+use Rattle.acceptance.proofs.Unprotected.{unprotected-codes}
+use Rattle.acceptance.proofs.Made.{makes}
 
 zero-at : (ks : List ℕ) (j : ℕ) → every isZero ks ≡ true → getD ks j 0 ≡ 0
 zero-at [] j h = refl
@@ -101,3 +102,6 @@ pub accepts : Accepts
 accepts s b o n d image r open-part bytes e right =
     ap (λ (c : Checked). c .verdict) (taken s b o n d image r open-part bytes e right .is)
     ∙ right-yes (length (s .lengths)) image (afterSteps s (length (s .lengths)) (unstepped 0 b o n d)) (runs-right s b o n d image r open-part bytes e right)
+
+pub acceptance : Acceptance
+acceptance = record { yes-exactly = yes-exactly; unprotected-codes = unprotected-codes; accepts = accepts; makes = makes }

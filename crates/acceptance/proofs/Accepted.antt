@@ -1,4 +1,4 @@
--- The script of a right flasher is accepted: its steps are whole writes, each answers 0, and together they leave the image.
+-- Steps in twos, one after the other: each write answers 0 and leaves the part idle and awake, and together they leave of each byte what their jobs leave.
 use Prim.Native.Nat.{ℕ, _<_}
 use mathlib.Core.Path.{_≡_, refl, sym, ap, _∙_, subst⁻¹}
 use mathlib.Core.Bool.{Bool, true, false≢true}

@@ -3,8 +3,9 @@ pub mod Steps
 pub mod Writes
 pub mod Accepted
 pub mod YesExactly
-pub mod Acceptance
 pub mod Plan
 pub mod Sent
 pub mod Script
 pub mod Made
+pub mod Unprotected
+pub mod Acceptance

@@ -51,9 +51,9 @@ module _ (wp : Bool) (p : Record) (xs image : List ℕ) (s : sound p ≡ true) (
       (ap (rightJobs xs image) (ap (jobsIn p) (read-back steps) ∙ steps-jobs p jobs all-sent) ∙ jobs-right xs image)
 
   -- and is not refused
-  script-unrefused : (b : Board) (o n d : List ℕ) → Rested b → b .state ≡ p → b .array ≡ xs → length o ≡ length (script .input) → length n ≡ length (script .lengths) → length d ≡ length (script .lengths)
+  script-unrefused : (b : Board) (o n d : List ℕ) → Rested b → b .array ≡ xs → length o ≡ length (script .input) → length n ≡ length (script .lengths) → length d ≡ length (script .lengths)
       → checkRefusalOf true script b o n d image ≡ 0
-  script-unrefused b o n d r e f ho hn hd =
+  script-unrefused b o n d r f ho hn hd =
       same-check (b .state .part .blocks) true (length image) (length (b .array)) (length (b .rows)) (script .lengths) (length (script .ticks)) (length n) (length d) (length (script .input)) (length o) (same ∙ ap (λ (l : List ℕ). length l) (sym f))
       ∙ fits-taken (b .state .part .blocks) (length (b .array)) (length (b .rows)) (script .lengths) (length (script .ticks)) (length n) (length d) (length (script .input)) (length o) (sound-parts (b .state) (r .is-sound) .size)
       (record { size = r .own-array; rows = r .own-rows; ticks = same-length steps; answers = hn; done = hd; input = lengths-sum steps; output = ho; is-sound = refl })

@@ -10,6 +10,7 @@ use lib.Seq.{take-append-seam, drop-append-seam}
 use Rattle.types.specs.declared.Record.{Record}
 use Rattle.words.specs.Lists.{sumTo}
 use Rattle.words.proofs.Tests.{and-in}
+use Rattle.words.proofs.Sums.{sum-cons}
 use Rattle.paper.specs.Sizes.{tickLimit}
 use Rattle.acceptance.specs.Flasher.{Sending, Job, sendings, inTwos, jobsIn}
 use Rattle.acceptance.specs.Construction.{sentFor, ticksFor, sendingsFor, inputOf, lengthsOf, ticksOf}
@@ -27,12 +28,7 @@ pub same-length : (es : List Sending) → length (ticksOf es) ≡ length (length
 same-length [] = refl
 same-length (e ∷ es) = ap suc (same-length es)
 
--- a sum of one number more, in front
-sum-cons : (n : ℕ) (ns : List ℕ) (k : ℕ) → sumTo (n ∷ ns) (suc k) ≡ n + sumTo ns k
-sum-cons n ns zero = omega arith
-sum-cons n ns (suc k) = omega (arith, sum-cons n ns k)
-
--- so its lengths add up to its input
+-- its lengths add up to its input
 pub lengths-sum : (es : List Sending) → sumTo (lengthsOf es) (length (lengthsOf es)) ≡ length (inputOf es)
 lengths-sum [] = refl
 lengths-sum (e ∷ es) =

@@ -11,6 +11,7 @@ use borrow.Author.Tests.{eqb-true}
 use Rattle.words.specs.Logic.{_and_, _orElse_}
 use Rattle.words.specs.Lists.{every, sumTo, between}
 use Rattle.words.proofs.Tests.{and-l, and-r}
+use Rattle.words.proofs.Sums.{sum-cons}
 use Rattle.paper.specs.Numbers.{lengthNumber, ticksNumber}
 use Rattle.paper.specs.History.{Call, transaction, ticks}
 use Rattle.paper.specs.Script.{Script, stepAt, stepLength, stopBefore, callsBefore}
@@ -28,11 +29,7 @@ allCalls wp (e ∷ es) = callsOf wp e ++ allCalls wp es
 abbrev pub mayBeSent : ℕ → Sending → Bool
 mayBeSent n e = eqb (lengthNumber (length (e .sent))) 0 and eqb (ticksNumber n (e .ticks)) 0
 
--- sums and places after the first of a list
-sum-cons : (l : ℕ) (ls : List ℕ) (k : ℕ) → sumTo (l ∷ ls) (suc k) ≡ l + sumTo ls k
-sum-cons l ls zero = omega arith
-sum-cons l ls (suc k) = omega (arith, sum-cons l ls k)
-
+-- places after the first of a list
 place-later : (ts : List ℕ) (k : ℕ) → getD ts (suc k) 0 ≡ getD (drop 1 ts) k 0
 place-later [] k = refl
 place-later (t ∷ ts) k = refl

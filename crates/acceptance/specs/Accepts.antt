@@ -1,14 +1,15 @@
 -- Request 13: when a check says yes, and that it accepts every script of a right flasher, on every unprotected part that starts idle and awake.
 use Prim.Native.Nat.{ℕ, _<_, _^_}
 use mathlib.Core.Path.{_≡_}
-use mathlib.Core.Bool.{Bool, true}
+use mathlib.Core.Bool.{Bool, true, false}
 use mathlib.Core.List.{List}
-use mathlib.Core.Logic.{_↔_}
+use mathlib.Core.Logic.{_↔_, _⊎_}
 use lib.ListN.{length, getD}
 use Rattle.types.specs.declared.Phase.the-variants.{Idle}
 use Rattle.types.specs.declared.Record.{Record}
 use Rattle.types.specs.declared.Verdict.the-variants.{Yes}
-use Rattle.paper.specs.Sizes.{arrayBytes}
+use Rattle.paper.specs.Sizes.{isLarge, arrayBytes}
+use Rattle.paper.specs.Protection.{codeOf}
 use Rattle.paper.specs.Soundness.{sound}
 use Rattle.paper.specs.Board.{Board}
 use Rattle.paper.specs.Script.{Script, Scripted}
@@ -31,6 +32,11 @@ YesExactly =
     → (checked true s b o n d image .verdict ≡ Yes)
     ↔ ((checkRefusalOf true s b o n d image ≡ 0) × RunsRight (length (s .lengths)) image (checked true s b o n d image .run))
 
+-- "an unprotected part": its code is 0, or it is not the large part and its code is 15
+abbrev pub UnprotectedCodes : Type 0
+UnprotectedCodes =
+    (p : Record) → sound p ≡ true → (unprotected p ≡ true) ↔ ((codeOf (p .part .stored .status) ≡ 0) ⊎ ((codeOf (p .part .stored .status) ≡ 15) × (isLarge (p .part .blocks) ≡ false)))
+
 -- bytes, each below 256
 abbrev pub AreBytes : List ℕ → Type 0
 AreBytes xs = (a : ℕ) → getD xs a 0 < 256
@@ -49,7 +55,7 @@ pub record IsMade (wp : Bool) (p : Record) (xs image : List ℕ) (s : Script) : 
   pub input : AreBytes (s .input)
   pub lengths : (k : ℕ) → getD (s .lengths) k 0 < 2 ^ 16
   pub ticks : (k : ℕ) → getD (s .ticks) k 0 < 2 ^ 16
-  pub unrefused : (b : Board) (o n d : List ℕ) → Rested b → b .state ≡ p → b .array ≡ xs → length o ≡ length (s .input) → length n ≡ length (s .lengths) → length d ≡ length (s .lengths) → checkRefusalOf true s b o n d image ≡ 0
+  pub unrefused : (b : Board) (o n d : List ℕ) → Rested b → b .array ≡ xs → length o ≡ length (s .input) → length n ≡ length (s .lengths) → length d ≡ length (s .lengths) → checkRefusalOf true s b o n d image ≡ 0
 
 abbrev pub Makes : Type 0
 Makes =
@@ -58,5 +64,6 @@ Makes =
 
 pub record Acceptance : Type 0 where
   pub yes-exactly : YesExactly
+  pub unprotected-codes : UnprotectedCodes
   pub accepts : Accepts
   pub makes : Makes

@@ -2,7 +2,7 @@
 use Prim.Native.Nat.{ℕ, zero, suc, _+_, _<_, _≤_}
 use mathlib.Core.Path.{_≡_, refl}
 use mathlib.Core.Bool.{Bool, true, false}
-use mathlib.Core.List.{List}
+use mathlib.Core.List.{List, _∷_}
 use native.Mathlib.Omega.{arith}
 use borrow.Author.Tests.{leb-true, leb-false}
 use lib.Dec.{leb}
@@ -26,3 +26,8 @@ sum-le ns k (suc n) h = sum-as ns k n (leb k n) refl h (sum-le ns k n)
 -- so a number and those before it lie within the sum of more
 pub sum-within : (ns : List ℕ) (n k : ℕ) → k < n → sumTo ns k + getD ns k 0 ≤ sumTo ns n
 sum-within ns n k h = sum-le ns (suc k) n h
+
+-- a sum with one number more in front
+pub sum-cons : (n : ℕ) (ns : List ℕ) (k : ℕ) → sumTo (n ∷ ns) (suc k) ≡ n + sumTo ns k
+sum-cons n ns zero = omega arith
+sum-cons n ns (suc k) = omega (arith, sum-cons n ns k)
