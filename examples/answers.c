@@ -48,6 +48,8 @@ static const char *words_of(uint64_t number)
         return "ignored: not an address of a row";
     case YAWLSPAR_PROTECTED:
         return "ignored: protected, locked, being erased, or barred by WP#";
+    case YAWLSPAR_BAD_IMAGE:
+        return "refused: the image is not as long as the array";
     default:
         return "no number of this version";
     }
@@ -90,20 +92,33 @@ static uint64_t run_script(size_t ticks_len)
                            ticks, ticks_len, output, 1, answers, 1, done, 1);
 }
 
+/* A check of a script of one step, 06h, whose image has this length. */
+static uint64_t check_script(size_t image_len)
+{
+    static const uint8_t enable[] = {0x06};
+    static const uint16_t lengths[] = {1}, ticks[] = {0};
+    static uint8_t image[sizeof array];
+    uint8_t answers[1];
+    uint16_t done[1];
+
+    return yawlspar_check(record, sizeof record, array, sizeof array, rows, sizeof rows, WP_HIGH, enable, 1, lengths, 1,
+                          ticks, 1, output, 1, answers, 1, done, 1, image, image_len);
+}
+
 /* ---- The numbers ---- */
 
 static void show(uint64_t expected, const char *what, uint64_t result)
 {
     uint64_t number = YAWLSPAR_NUMBER(result);
 
-    printf("%2u  %-38s %s\n", (unsigned)number, what, words_of(number));
+    printf("%2u  %-41s %s\n", (unsigned)number, what, words_of(number));
     if (number != expected) {
         printf("it should be %u\n", (unsigned)expected);
         exit(1);
     }
 }
 
-/* A wrong call is answered 1 to 7. The part has not seen it, and no byte is changed. */
+/* A wrong call is answered 1 to 7, or 38. The part has not seen it, and no byte is changed. */
 static void show_refusals(void)
 {
     static const uint8_t enable[] = {0x06};
@@ -173,5 +188,6 @@ int main(void)
     show_refusals();
     show_ways();
     show_protected();
+    show(YAWLSPAR_BAD_IMAGE, "a check with a byte of the image missing", check_script(sizeof array - 1));
     return 0;
 }

@@ -26,12 +26,12 @@ extern "C" {
  * program should check once that both are the same: if YAWLSPAR_MATCHES() is 0, it was compiled with the header
  * of one version and linked to the archive of another, and nothing below holds.
  */
-#define YAWLSPAR_VERSION 1007
+#define YAWLSPAR_VERSION 1008
 uint64_t yawlspar_version(void);
 #define YAWLSPAR_MATCHES() (yawlspar_version() == YAWLSPAR_VERSION)
 
 /*
- * The numbers that a call answers. 0 means that the call was executed. 1 to 7 are refusals: the call was wrong,
+ * The numbers that a call answers. 0 means that the call was executed. 1 to 7 and 38 are refusals: the call was wrong,
  * and the part has not seen it. A script that answers 3 or 6 stopped at a step that was wrong, and the part has seen
  * what came before. 20 to 28 mean that the part ignored a transaction.
  */
@@ -52,8 +52,9 @@ enum yawlspar_number {
     YAWLSPAR_OUT_OF_TURN = 25,  /* nothing to suspend, nothing to resume, or 99h without 66h right before it */
     YAWLSPAR_NOT_ENABLED = 26,  /* WEL is 0: 06h comes first */
     YAWLSPAR_NO_SUCH_ROW = 27,  /* the address is not that of an information row */
-    YAWLSPAR_PROTECTED = 28     /* protected, locked, in the unit of a suspended erase, a chip erase with a BP bit
+    YAWLSPAR_PROTECTED = 28,    /* protected, locked, in the unit of a suspended erase, a chip erase with a BP bit
                                    set, or barred by WP# */
+    YAWLSPAR_BAD_IMAGE = 38     /* the image is not as long as the array */
 };
 
 /*
@@ -125,8 +126,8 @@ uint64_t yawlspar_protected(uint64_t code, uint64_t blocks, uint64_t address);
 uint64_t yawlspar_page_place(uint64_t start, uint64_t index);
 
 /*
- * The four calls. A part's state is a record of YAWLSPAR_RECORD_BYTES bytes that the caller keeps;
- * yawlspar_power_up makes it, and the other three read it and write the next one back. Copying the bytes
+ * The five calls. A part's state is a record of YAWLSPAR_RECORD_BYTES bytes that the caller keeps;
+ * yawlspar_power_up makes it, and the other four read it and write the next one back. Copying the bytes
  * copies the part. The array, blocks * 65536 bytes, and the four information rows, 1,024 bytes, also belong to
  * the caller.
  *
@@ -140,16 +141,20 @@ uint64_t yawlspar_page_place(uint64_t start, uint64_t index);
  * size.
  *
  * The result r of a call is two numbers in one: YAWLSPAR_NUMBER(r), the answer, 0 for a call that was
- * executed, and above it the place, the count or the step that is described at the call. If several numbers apply,
- * the lowest is the answer, except that a script looks for 7 before 4, and for 3 and 6 at each step, after all others.
- * A call that is refused, with 1 to 7, leaves every byte of every buffer as it was, and the bits above the number are
- * 0. Only a script that stops at one of its steps, with 3 or 6, has done the steps before it.
+ * executed, and above it the place, the count or the step that is described at the call. Of a check it is three: above
+ * the number are the verdict and where it is. If several numbers apply, the lowest is the answer, except that a script
+ * looks for 7 before 4, and for 3 and 6 at each step, after all others, and that a check looks for 38 right after 1.
+ * A call that is refused, with 1 to 7 or 38, leaves every byte of every buffer as it was, and the bits above the number
+ * are 0. Only a script that stops at one of its steps, with 3 or 6, has done the steps before it; a check of such a
+ * script is not refused, and has done them too.
  */
 #define YAWLSPAR_RECORD_BYTES 322
 #define YAWLSPAR_NUMBER(r) ((r) & 255)
 #define YAWLSPAR_PLACE(r) ((r) >> 8)
 #define YAWLSPAR_TICKS(r) ((r) >> 8)
 #define YAWLSPAR_STEP(r) ((r) >> 8)
+#define YAWLSPAR_VERDICT(r) (((r) >> 8) & 255)
+#define YAWLSPAR_WHERE(r) ((r) >> 16)
 
 /*
  * Power-up: makes the record of a part that is idle and awake.
@@ -271,6 +276,61 @@ uint64_t yawlspar_script(uint8_t *record, size_t record_len, uint8_t *array, siz
                          size_t input_len, const uint16_t *lengths, size_t lengths_len,
                          const uint16_t *ticks, size_t ticks_len, uint8_t *output, size_t output_len,
                          uint8_t *answers, size_t answers_len, uint16_t *done, size_t done_len);
+
+/*
+ * A check: does this script bring this image into the part? It runs the script, as yawlspar_script does, and then
+ * compares the array with the image.
+ *
+ *   record to done   as in yawlspar_script, in the same order
+ *   image            what the array should hold at the end: as many bytes as the array. It is only read
+ *
+ * Record, array, rows, output, answers and done end as yawlspar_script leaves them: a check is no trial on a copy, and
+ * to check a second script from the same start the caller keeps copies. None of these six overlaps the image.
+ *
+ * Before the first step these are looked for, in this order, and the first that applies is the number:
+ *   1   if the array's length is not that of the record's size, or that size is not valid;
+ *   38  if image_len is not array_len;
+ *   2   if rows_len is not 1,024;
+ *   7   if the four lists differ in length, or the lengths do not add up to input_len;
+ *   4   if output_len is not input_len;
+ *   5   if the bytes hold no record, the record is not sound, or wp_high is neither 0 nor 1.
+ * Nothing is then written, and verdict and where are 0. If the bytes hold no record, there is no size to check: the
+ * number is then 38, 2, 7, 4 or 5.
+ *
+ * Otherwise the number is 0, even where the script stops at a step. YAWLSPAR_VERDICT is the first of these that applies:
+ *   YAWLSPAR_AT_STEP     if a step failed: its transaction's answer is not 0, or the script stopped at it, by its length
+ *                        or by its ticks. YAWLSPAR_WHERE is the first such step. 20 to 28 are failures as well, though
+ *                        the script goes on after them;
+ *   YAWLSPAR_AT_STEP     if none failed, but the part is not idle at the end: something still runs, or is suspended.
+ *                        YAWLSPAR_WHERE is the number of steps;
+ *   YAWLSPAR_AT_ADDRESS  if the array is not the image. YAWLSPAR_WHERE is the first address where they differ;
+ *   YAWLSPAR_YES         else: every step was executed, the part is idle, and the array is the image. YAWLSPAR_WHERE
+ *                        is 0.
+ * So the whole result is 0 exactly if the answer is yes. The verdict alone does not say it: it is 0 in a check that is
+ * refused, too.
+ *
+ * Steps and addresses are counted from 0, and YAWLSPAR_WHERE is given modulo 2^48, which no memory reaches. A part that
+ * is asleep, or whose WEL is 1, is idle too. The rows and the registers are not judged.
+ *
+ * A script with one fault in it can still have the verdict YES, if the fault does no harm. The other way round, the
+ * verdict is always YES if the part is idle and awake at the start, no block is protected, and the script
+ *   - erases each sector in which a bit has to go from 0 to 1, once and by a sector erase, and no other;
+ *   - then programs each byte that still differs, once and with its wanted value, and no other, in programs of 1 to 256
+ *     bytes that stay within their pages;
+ *   - has 06h right before each of these commands;
+ *   - lets 16 ticks or more pass after each erase, and after each program one or more for each byte, but in no step more
+ *     than a call takes;
+ *   - and has no other step.
+ */
+#define YAWLSPAR_YES 0
+#define YAWLSPAR_AT_STEP 1
+#define YAWLSPAR_AT_ADDRESS 2
+uint64_t yawlspar_check(uint8_t *record, size_t record_len, uint8_t *array, size_t array_len,
+                        uint8_t *rows, size_t rows_len, uint64_t wp_high, const uint8_t *input,
+                        size_t input_len, const uint16_t *lengths, size_t lengths_len,
+                        const uint16_t *ticks, size_t ticks_len, uint8_t *output, size_t output_len,
+                        uint8_t *answers, size_t answers_len, uint16_t *done, size_t done_len,
+                        const uint8_t *image, size_t image_len);
 
 #ifdef __cplusplus
 }

@@ -6,7 +6,8 @@
  *   perf list                   print each job's number, its sides and its name
  *   perf run JOB SIDE TIMES     set up, do the job TIMES times on one side, and end: for counting instructions
  *
- * A job is a driver's errand: one call, or the calls that belong together; and 64 calls beside a script of the same.
+ * A job is a driver's errand: one call, or the calls that belong together; 64 calls beside a script of the same; and a
+ * check of a script beside that script with memcmp after it.
  * The sides are model, reference and bytes, which is memcpy or memset. The numbers are no test: the exit status is 0
  * whatever they are.
  */
@@ -21,6 +22,7 @@ extern int printf(const char *format, ...) __attribute__((format(printf, 1, 2)))
 extern void exit(int status) __attribute__((noreturn));
 extern int strcmp(const char *, const char *);
 extern long strtol(const char *text, char **end, int base);
+extern int memcmp(const void *, const void *, unsigned long);
 extern void *memcpy(void *, const void *, unsigned long);
 extern void *memset(void *, int, unsigned long);
 
@@ -36,6 +38,10 @@ extern int clock_gettime(int clock, struct timespec *time);
 #define ROUNDS 3
 #define BLOCKS_MOST REF_LARGE
 #define STEPS 64 /* of a script */
+#define SECTORS 16 /* of an image, which is a block */
+#define PAGES 256
+#define FLASH_STEPS (2 * (SECTORS + PAGES)) /* of a script that flashes it */
+#define FLASH_BYTES (SECTORS * (1 + 4) + PAGES * (1 + 4 + REF_PAGE))
 
 static uint8_t record[YAWLSPAR_RECORD_BYTES];
 static struct part part;
@@ -44,6 +50,12 @@ static uint8_t input[REF_MOST], output[REF_MOST];
 static uint16_t lengths[STEPS], ticks_asked[STEPS], ticks_done[STEPS];
 static uint8_t answers[STEPS];
 static size_t array_length;
+
+/* A script that flashes an image: it erases each sector and programs each page. */
+static struct {
+    uint8_t image[REF_BLOCK], input[FLASH_BYTES], output[FLASH_BYTES], answers[FLASH_STEPS];
+    uint16_t lengths[FLASH_STEPS], ticks_asked[FLASH_STEPS], ticks_done[FLASH_STEPS];
+} flash;
 
 /* ---- Both models ---- */
 
@@ -109,14 +121,56 @@ static uint64_t reference_script(size_t length)
     return step;
 }
 
+/* The script that flashes the image. Gives the step, which is the number of steps. */
+static uint64_t model_flash(void)
+{
+    return YAWLSPAR_STEP(yawlspar_script(record, sizeof record, array, array_length, rows, sizeof rows, 1, flash.input,
+                                         FLASH_BYTES, flash.lengths, FLASH_STEPS, flash.ticks_asked, FLASH_STEPS,
+                                         flash.output, FLASH_BYTES, flash.answers, FLASH_STEPS, flash.ticks_done,
+                                         FLASH_STEPS));
+}
+
+static uint64_t reference_flash(void)
+{
+    size_t step;
+
+    ref_script(&part, array, array_length, rows, sizeof rows, true, flash.input, FLASH_BYTES, flash.lengths, FLASH_STEPS,
+               flash.ticks_asked, FLASH_STEPS, flash.output, FLASH_BYTES, flash.answers, FLASH_STEPS, flash.ticks_done,
+               FLASH_STEPS, &step);
+    return step;
+}
+
+/* A check of it. Gives the result, which is 0 for yes. */
+static uint64_t model_check(void)
+{
+    return yawlspar_check(record, sizeof record, array, array_length, rows, sizeof rows, 1, flash.input, FLASH_BYTES,
+                          flash.lengths, FLASH_STEPS, flash.ticks_asked, FLASH_STEPS, flash.output, FLASH_BYTES,
+                          flash.answers, FLASH_STEPS, flash.ticks_done, FLASH_STEPS, flash.image, sizeof flash.image);
+}
+
+static uint64_t reference_check(void)
+{
+    enum verdict verdict;
+    size_t where;
+    int number = ref_check(&part, array, array_length, rows, sizeof rows, true, flash.input, FLASH_BYTES, flash.lengths,
+                           FLASH_STEPS, flash.ticks_asked, FLASH_STEPS, flash.output, FLASH_BYTES, flash.answers,
+                           FLASH_STEPS, flash.ticks_done, FLASH_STEPS, flash.image, sizeof flash.image, &verdict,
+                           &where);
+
+    return (uint64_t)number + 256 * (uint64_t)verdict + 65536 * (uint64_t)where;
+}
+
 struct one_model {
     uint64_t (*transact)(size_t length);
     uint64_t (*tick)(uint32_t ticks);
     uint64_t (*script)(size_t length);
+    uint64_t (*flash)(void);
+    uint64_t (*check)(void);
 };
 
-static const struct one_model the_model = {model_transact, model_tick, model_script};
-static const struct one_model the_reference = {reference_transact, reference_tick, reference_script};
+static const struct one_model the_model = {model_transact, model_tick, model_script, model_flash, model_check};
+static const struct one_model the_reference = {reference_transact, reference_tick, reference_script, reference_flash,
+                                               reference_check};
 
 /* ---- Jobs ---- */
 
@@ -158,6 +212,61 @@ static void begin_script(const struct one_model *on)
 static void status_script_job(const struct one_model *on)
 {
     must_be(on->script(2 * STEPS), STEPS);
+}
+
+static size_t flash_steps, flash_bytes;
+
+/* 06h, and a command at an address with these bytes after it. */
+static void add_write(uint8_t code, uint32_t address, const uint8_t *data, size_t count, uint16_t ticks)
+{
+    uint8_t *sent = flash.input + flash_bytes;
+
+    sent[0] = 0x06;
+    flash.lengths[flash_steps] = 1;
+    sent[1] = code;
+    sent[2] = (uint8_t)(address >> 16);
+    sent[3] = (uint8_t)(address >> 8);
+    sent[4] = (uint8_t)address;
+    if (count > 0)
+        memcpy(sent + 5, data, count);
+    flash.lengths[flash_steps + 1] = (uint16_t)(4 + count);
+    flash.ticks_asked[flash_steps + 1] = ticks;
+    flash_steps += 2;
+    flash_bytes += 5 + count;
+}
+
+/* An array of any bytes, and an image of any bytes but FFh: every sector is erased, and every page programmed whole. The
+ * first job leaves the image, and those after it find it there: they do the same. */
+static void begin_flash(const struct one_model *on)
+{
+    uint32_t number = 1, i;
+
+    (void)on;
+    for (i = 0; i < REF_BLOCK; i++) {
+        number = number * 1664525 + 1013904223;
+        array[i] = (uint8_t)(number >> 24);
+        flash.image[i] = (uint8_t)((number >> 8) % 255);
+    }
+    flash_steps = 0;
+    flash_bytes = 0;
+    for (i = 0; i < SECTORS; i++)
+        add_write(0x20, i * 4096, NULL, 0, 16);
+    for (i = 0; i < PAGES; i++)
+        add_write(0x02, i * REF_PAGE, flash.image + i * REF_PAGE, REF_PAGE, REF_PAGE);
+}
+
+static void check_job(const struct one_model *on)
+{
+    must_be(on->check(), 0);
+}
+
+/* Through a pointer, so that the compiler cannot leave it out. */
+static int (*volatile compare)(const void *, const void *, unsigned long) = memcmp;
+
+static void script_and_compare_job(const struct one_model *on)
+{
+    must_be(on->flash(), FLASH_STEPS);
+    must_be((uint64_t)compare(array, flash.image, array_length), 0);
 }
 
 static void extended_job(const struct one_model *on)
@@ -371,6 +480,8 @@ static const struct job jobs[] = {
     {"05h of 2 bytes, 16 blocks", 16, 1, NULL, status_job, NULL},
     {"64 calls of 05h of 2 bytes", 16, STEPS, NULL, status_calls_job, NULL},
     {"64 steps of 05h in a script", 16, STEPS, begin_script, status_script_job, NULL},
+    {"a check of an image of 16 sectors", 1, REF_BLOCK, begin_flash, check_job, NULL},
+    {"the same by a script and memcmp", 1, REF_BLOCK, begin_flash, script_and_compare_job, NULL},
     {"05h of 2 bytes, busy, 16 blocks", 16, 1, begin_erase, status_job, NULL},
     {"81h of 2 bytes, 16 blocks", 16, 1, NULL, extended_job, NULL},
     {"ignored, 1 byte, 16 blocks", 16, 0, NULL, ignored_job, NULL},

@@ -16,7 +16,7 @@ struct side model, reference, single;
 struct part part;
 uint8_t message[MESSAGE_ROOM];
 struct script script;
-uint64_t calls, scripts, script_steps;
+uint64_t calls, scripts, script_steps, checks, check_steps;
 
 static const char *run_name;
 static uint64_t run_seed, run_calls;
@@ -64,12 +64,16 @@ static void tell_list(const char *name, const uint16_t *list, size_t length)
 
 static void tell_script(const struct call *call)
 {
-    printf("yawlspar_script(record of %zu, array of %zu, rows of %zu, wp_high %llu, ", call->record, call->array,
-           call->rows, (unsigned long long)call->wp_high);
+    printf("yawlspar_%s(record of %zu, array of %zu, rows of %zu, wp_high %llu, ",
+           call->kind == CHECK ? "check" : "script", call->record, call->array, call->rows,
+           (unsigned long long)call->wp_high);
     tell_input(script.input, call->input);
     tell_list("lengths", script.lengths, call->lengths);
     tell_list("ticks", script.ticks, call->tick_counts);
-    printf("output of %zu, answers of %zu, done of %zu)\n", call->output, call->answers, call->done);
+    printf("output of %zu, answers of %zu, done of %zu", call->output, call->answers, call->done);
+    if (call->kind == CHECK)
+        printf(", image of %zu", call->image);
+    printf(")\n");
 }
 
 static void tell_tick(const struct call *call)
@@ -90,6 +94,7 @@ static void tell(const struct call *call)
         tell_transact(call);
         break;
     case SCRIPT:
+    case CHECK:
         tell_script(call);
         break;
     default:
@@ -113,12 +118,24 @@ void fail(const struct call *call, const char *what, uint64_t expected, uint64_t
     end_differing();
 }
 
+static void tell_result(const struct call *call, uint64_t result)
+{
+    if (call->kind == CHECK)
+        printf("number %llu, verdict %llu and %llu", (unsigned long long)YAWLSPAR_NUMBER(result),
+               (unsigned long long)YAWLSPAR_VERDICT(result), (unsigned long long)YAWLSPAR_WHERE(result));
+    else
+        printf("number %llu and %llu", (unsigned long long)YAWLSPAR_NUMBER(result),
+               (unsigned long long)YAWLSPAR_PLACE(result));
+}
+
 void fail_result(const struct call *call, uint64_t expected, uint64_t got)
 {
     tell(call);
-    printf("  the result: expected number %llu and %llu, got number %llu and %llu\n",
-           (unsigned long long)YAWLSPAR_NUMBER(expected), (unsigned long long)YAWLSPAR_PLACE(expected),
-           (unsigned long long)YAWLSPAR_NUMBER(got), (unsigned long long)YAWLSPAR_PLACE(got));
+    printf("  the result: expected ");
+    tell_result(call, expected);
+    printf(", got ");
+    tell_result(call, got);
+    printf("\n");
     end_differing();
 }
 
@@ -224,6 +241,7 @@ void begin_run(const char *name, uint64_t seed, uint32_t blocks)
     run_blocks = blocks;
     memset(&part, 0, sizeof part);
     memset(message, 0, sizeof message);
+    model.image = reference.image = single.image = NULL;
     make_side(&model, 0, seed);
     make_side(&reference, 1, seed);
     fill(model.array, blocks * REF_BLOCK, &chance);
@@ -240,7 +258,24 @@ void begin_single(void)
     memcpy(single.rows, model.rows, REF_ROWS);
 }
 
+void begin_images(void)
+{
+    static uint8_t images[2][ARRAY_ROOM + AROUND];
+
+    model.image = place_in(images[0], array_room(), (uint32_t)(run_seed * 7 % SKEWS));
+    reference.image = place_in(images[1], array_room(), (uint32_t)(run_seed * 7 % SKEWS));
+    memcpy(model.image, model.array, run_blocks * REF_BLOCK);
+    memcpy(reference.image, model.array, run_blocks * REF_BLOCK);
+    single.image = reference.image;
+}
+
 /* ---- Comparing ---- */
+
+/* A script or a check of one. */
+static bool has_steps(const struct call *call)
+{
+    return call->kind == SCRIPT || call->kind == CHECK;
+}
 
 /* Compares `length` bytes from `from` on, and tells the first difference. `whole` is the buffer's lent length. */
 static void same(const struct call *call, const char *what, const uint8_t *got, const uint8_t *expected, long from,
@@ -291,11 +326,11 @@ static void same_list(const struct call *call, const char *what, const uint16_t 
 static void same_but_array(const struct call *call)
 {
     same_buffer(call, "rows", model.rows, reference.rows, call->rows, REF_ROWS);
-    if (call->kind == TRANSACT || call->kind == SCRIPT) {
+    if (call->kind == TRANSACT || has_steps(call)) {
         same_buffer(call, "input", model.input, reference.input, call->input, 0);
         same_buffer(call, "output", model.output, reference.output, call->output, 0);
     }
-    if (call->kind == SCRIPT) {
+    if (has_steps(call)) {
         same_list(call, "bytes of the lengths", model.lengths, reference.lengths, call->lengths);
         same_list(call, "bytes of the tick counts", model.ticks, reference.ticks, call->tick_counts);
         same_buffer(call, "answers", model.answers, reference.answers, call->answers, 0);
@@ -303,10 +338,17 @@ static void same_but_array(const struct call *call)
     }
 }
 
+static void same_image(const struct call *call)
+{
+    if (model.image != NULL)
+        same_buffer(call, "image", model.image, reference.image, call->image, array_length());
+}
+
 void same_memory(const struct call *call)
 {
     same_but_array(call);
     same_array(call);
+    same_image(call);
 }
 
 void same_record(const struct call *call)
@@ -318,7 +360,7 @@ void same_record(const struct call *call)
  * larger arrays are compared more rarely, so that each size costs the same. */
 static bool whole_is_due(const struct call *call, uint64_t expected)
 {
-    return is_refusal(expected) || call->kind == SCRIPT || (call->kind == TICK && YAWLSPAR_TICKS(expected) > 0) ||
+    return is_refusal(expected) || has_steps(call) || (call->kind == TICK && YAWLSPAR_TICKS(expected) > 0) ||
            run_calls % run_blocks == 0;
 }
 
@@ -329,7 +371,7 @@ static bool whole_is_due(const struct call *call, uint64_t expected)
  * The whole is compared at the end of the run. So a byte that a call leaves wrong is found, if late: it stays wrong
  * until an operation writes over it, and that operation's unit is compared before it does and after each call of its
  * ticks. Operations that begin and end within one script are not looked at here: scripts.c compares the whole more
- * often. */
+ * often, and check.c what its scripts write. The image of a check is compared as the array is, at the window's place. */
 #define WINDOW (64u * REF_PAGE)
 
 static bool runs(const struct part *at)
@@ -370,19 +412,24 @@ void same_places(const struct call *call, size_t from, size_t length)
 static void same_window(const struct call *call)
 {
     size_t windows = array_length() / WINDOW;
+    size_t from = (size_t)(run_calls * 1021 % windows) * WINDOW; /* 1,021 is odd: all come in turn */
 
     same_guards(call, "array", model.array, reference.array, array_length());
-    same_places(call, (size_t)(run_calls * 1021 % windows) * WINDOW, WINDOW); /* 1,021 is odd: all come in turn */
+    same_places(call, from, WINDOW);
+    if (call->kind == CHECK) {
+        same_guards(call, "image", model.image, reference.image, array_length());
+        same(call, "image", model.image, reference.image, (long)from, WINDOW, array_length());
+    }
 }
 
 static void compare_large_array(const struct call *call, const struct part *before, uint64_t expected)
 {
-    bool worked = call->kind == SCRIPT || (call->kind == TICK && YAWLSPAR_TICKS(expected) > 0);
+    bool worked = has_steps(call) || (call->kind == TICK && YAWLSPAR_TICKS(expected) > 0);
 
     same_window(call);
     if (worked && is_on_array(&before->op))
         same_places(call, before->op.base, reach_of(&before->op));
-    if (runs(&part) && (call->kind == SCRIPT || !runs(before)) && is_on_array(&part.op))
+    if (runs(&part) && (has_steps(call) || !runs(before)) && is_on_array(&part.op))
         same_places(call, part.op.base, reach_of(&part.op));
 }
 
@@ -395,6 +442,8 @@ static void compare_memory(const struct call *call, const struct part *before, u
         same_array(call);
     else
         same_guards(call, "array", model.array, reference.array, array_length());
+    if (call->kind == CHECK && run_blocks != REF_LARGE)
+        same_image(call);
 }
 
 void same_memory_in_part(const struct call *call)
@@ -404,6 +453,16 @@ void same_memory_in_part(const struct call *call)
         same_window(call);
     else
         same_array(call);
+}
+
+void compare_with_single(const struct call *call, void (*memory)(const struct call *call))
+{
+    struct side kept = reference;
+
+    reference = single;
+    same_record(call);
+    memory(call);
+    reference = kept;
 }
 
 static bool same_operation(const struct operation *a, const struct operation *b)
@@ -481,14 +540,16 @@ bool lists_fit(const struct call *call)
 }
 
 /* The number of a transaction that is a 5: the numbers 2 to 4 are lower, and need no record. Of a script 2, 7 and 4
- * come before it. */
+ * come before it, of a check 38 and these. */
 static uint64_t expect_five(const struct call *call)
 {
+    if (call->kind == CHECK && call->image != call->array)
+        return 38;
     if (call->rows != REF_ROWS)
         return 2;
     if (call->kind == TRANSACT && (call->input == 0 || call->input > REF_MOST))
         return 3;
-    if (call->kind == SCRIPT && !lists_fit(call))
+    if (has_steps(call) && !lists_fit(call))
         return 7;
     return call->output != call->input ? 4 : 5;
 }
@@ -540,6 +601,23 @@ static uint64_t expect_script(const struct call *call)
     return (uint64_t)number + 256 * (uint64_t)at;
 }
 
+static uint64_t expect_check(const struct call *call)
+{
+    enum verdict verdict;
+    size_t where;
+    int number;
+
+    if (!holds_record(call))
+        return expect_five(call);
+    if (call->wp_high > 1)
+        return expect_bad_level(call);
+    number = ref_check(&part, reference.array, call->array, reference.rows, call->rows, call->wp_high == 1,
+                       reference.input, call->input, reference.lengths, call->lengths, reference.ticks,
+                       call->tick_counts, reference.output, call->output, reference.answers, call->answers,
+                       reference.done, call->done, reference.image, call->image, &verdict, &where);
+    return (uint64_t)number + 256 * (uint64_t)verdict + 65536 * (uint64_t)where;
+}
+
 static uint64_t expect(const struct call *call)
 {
     switch (call->kind) {
@@ -549,6 +627,8 @@ static uint64_t expect(const struct call *call)
         return expect_transact(call);
     case SCRIPT:
         return expect_script(call);
+    case CHECK:
+        return expect_check(call);
     default:
         return expect_tick(call);
     }
@@ -558,7 +638,7 @@ static uint64_t expect(const struct call *call)
 
 bool is_refusal(uint64_t result)
 {
-    return YAWLSPAR_NUMBER(result) >= 1 && YAWLSPAR_NUMBER(result) <= 7;
+    return (YAWLSPAR_NUMBER(result) >= 1 && YAWLSPAR_NUMBER(result) <= 7) || YAWLSPAR_NUMBER(result) == 38;
 }
 
 struct call fitting(enum call_kind kind)
@@ -567,8 +647,9 @@ struct call fitting(enum call_kind kind)
                         .record = YAWLSPAR_RECORD_BYTES,
                         .array = array_length(),
                         .rows = REF_ROWS,
-                        .input = kind == SCRIPT ? 0 : 1,
-                        .output = kind == SCRIPT ? 0 : 1,
+                        .input = kind == SCRIPT || kind == CHECK ? 0 : 1,
+                        .output = kind == SCRIPT || kind == CHECK ? 0 : 1,
+                        .image = array_length(),
                         .wp_high = 1,
                         .blocks = run_blocks};
 
@@ -593,6 +674,13 @@ uint64_t call_model(const struct side *side, const struct call *call)
                                call->wp_high, side->input, call->input, side->lengths, call->lengths, side->ticks,
                                call->tick_counts, side->output, call->output, side->answers, call->answers, side->done,
                                call->done);
+    case CHECK:
+        checks++;
+        check_steps += call->lengths;
+        return yawlspar_check(side->record, call->record, side->array, call->array, side->rows, call->rows,
+                              call->wp_high, side->input, call->input, side->lengths, call->lengths, side->ticks,
+                              call->tick_counts, side->output, call->output, side->answers, call->answers, side->done,
+                              call->done, side->image, call->image);
     default:
         return yawlspar_tick(side->record, call->record, side->array, call->array, side->rows, call->rows,
                              call->ticks);
@@ -624,7 +712,7 @@ void prepare_side(const struct side *side, const struct call *call)
 {
     if (call->kind == TRANSACT)
         prepare_messages(side, call, message);
-    if (call->kind == SCRIPT) {
+    if (has_steps(call)) {
         prepare_messages(side, call, script.input);
         prepare_lists(side, call);
     }

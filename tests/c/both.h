@@ -27,14 +27,15 @@
 #define SCRIPT_ROOM (1u << 20) /* bytes of a script's input */
 #define STEPS_ROOM 66000u      /* entries of its lists: more than 16 bits count */
 
-enum call_kind { POWER_UP, TRANSACT, TICK, SCRIPT };
+enum call_kind { POWER_UP, TRANSACT, TICK, SCRIPT, CHECK };
 
 /* One call, with the lengths that it is lent. The input's bytes are those of `message`; a script's are those of
- * `script`, with its lists. */
+ * `script`, with its lists, and so are a check's. */
 struct call {
     enum call_kind kind;
     size_t record, array, rows, input, output;
     size_t lengths, tick_counts, answers, done; /* entries of a script's lists */
+    size_t image;                               /* of a check */
     uint64_t wp_high;
     uint64_t ticks;
     uint64_t blocks, maker, type, capacity, device, status, function, extended;
@@ -44,11 +45,13 @@ struct call {
 struct side {
     uint8_t *record, *array, *rows, *input, *output, *answers;
     uint16_t *lengths, *ticks, *done;
+    uint8_t *image; /* none before begin_images */
 };
 
 /* The reference's side keeps the record's bytes as they were before the call. Where all calls are made of the model
  * alone, the two sides are two parts: see writes.h. The side `single` is for calls that the model makes one by one
- * where it also makes a script of them: see scripts.c. */
+ * where it also makes a script of them, and for scripts that it makes where it also checks them: see scripts.c and
+ * check.c. It has the reference's image. */
 extern struct side model, reference, single;
 
 /* The reference's record. Its size is 0 as long as there was no power-up: the record's bytes are then junk. */
@@ -61,8 +64,9 @@ extern struct script {
     uint16_t lengths[STEPS_ROOM], ticks[STEPS_ROOM];
 } script;
 
-/* How many calls were made of the model and compared; how many of them were scripts, and the steps that these had. */
-extern uint64_t calls, scripts, script_steps;
+/* How many calls were made of the model and compared; how many of them were scripts, and the steps that these had; and
+ * the same of checks. */
+extern uint64_t calls, scripts, script_steps, checks, check_steps;
 
 /* What the program calls itself in a report. Each program has its own. */
 extern const char *const program_name;
@@ -75,14 +79,17 @@ void name_run(const char *name);
 /* Makes the side `single`: with the model's record, array and rows. */
 void begin_single(void);
 
+/* Makes the images, with the model's array in them. What changes an image later has to change both. */
+void begin_images(void);
+
 /* Fills stored bytes: with FFh, or with any. */
 void fill(uint8_t *bytes, size_t length, struct chance *chance);
 
 /* Asks for no ticks, and compares all memory. */
 void end_run(void);
 
-/* A call with the right lengths: a transaction with WP# high and one byte, 0 ticks, a power-up with zeros, a script of
- * no steps with WP# high. */
+/* A call with the right lengths: a transaction with WP# high and one byte, 0 ticks, a power-up with zeros, a script or a
+ * check of no steps with WP# high. */
 struct call fitting(enum call_kind kind);
 
 /* Makes the call of both and compares. Gives the result. */
@@ -91,7 +98,7 @@ uint64_t step(const struct call *call);
 /* Makes the call of the model alone, on the memory of a side. */
 uint64_t call_model(const struct side *side, const struct call *call);
 
-/* The number of a result is one of the refusals 1 to 7. */
+/* The number of a result is one of the refusals 1 to 7 and 38. */
 bool is_refusal(uint64_t result);
 
 /* A script's four lists have one length, and its lengths add up to its input's. */
@@ -107,6 +114,9 @@ void same_memory(const struct call *call);
 
 /* The same, but of 512 blocks only another few pages each time. */
 void same_memory_in_part(const struct call *call);
+
+/* The same of the sides `model` and `single`: the record, and the memory as `memory` compares it. */
+void compare_with_single(const struct call *call, void (*memory)(const struct call *call));
 
 /* The same of the array's places from `from` on, with a page on each side of them as far as there is one. */
 void same_places(const struct call *call, size_t from, size_t length);

@@ -2,7 +2,7 @@
  * Compares the five functions of yawlspar.h that are on numbers alone with their rules, which are
  * written out here in C. Those of the protection question are also compared with the block table,
  * which is worked out by hand, with the reference model, and with one another. And the archive's
- * version is the header's.
+ * version is the header's, and the header's macros take a result apart.
  *
  * It prints the first differences, if there are any, and then one line with the number of
  * comparisons and of differences. The exit status is 0 if there is no difference, and else 1.
@@ -470,9 +470,40 @@ static void version(void)
            (unsigned long long)YAWLSPAR_VERSION);
 }
 
+/* ---- Results. */
+
+static void part_is(const char *macro, uint64_t result, uint64_t got, uint64_t wanted)
+{
+    if (differ(got, wanted))
+        printf("%s(0x%llX): got %llu, wanted %llu\n", macro, (unsigned long long)result, (unsigned long long)got,
+               (unsigned long long)wanted);
+}
+
+/* The number has 8 bits. What is above it is one number, or in a check a verdict of 8 bits and a number of 48. */
+static void results(void)
+{
+    static const uint64_t numbers[] = {0, 1, 7, 28, 38, 255}, verdicts[] = {0, 1, 2, 255};
+    static const uint64_t wheres[] = {0, 1, 255, 256, 65535, 65536, 33554431, TWO_TO(32), TWO_TO(48) - 1};
+    for (uint64_t i = 0; i < COUNT(numbers); i++)
+        for (uint64_t j = 0; j < COUNT(verdicts); j++)
+            for (uint64_t k = 0; k < COUNT(wheres); k++) {
+                uint64_t above = verdicts[j] + 256 * wheres[k], result = numbers[i] + 256 * above;
+                part_is("YAWLSPAR_NUMBER", result, YAWLSPAR_NUMBER(result), numbers[i]);
+                part_is("YAWLSPAR_PLACE", result, YAWLSPAR_PLACE(result), above);
+                part_is("YAWLSPAR_TICKS", result, YAWLSPAR_TICKS(result), above);
+                part_is("YAWLSPAR_STEP", result, YAWLSPAR_STEP(result), above);
+                part_is("YAWLSPAR_VERDICT", result, YAWLSPAR_VERDICT(result), verdicts[j]);
+                part_is("YAWLSPAR_WHERE", result, YAWLSPAR_WHERE(result), wheres[k]);
+            }
+    part_is("YAWLSPAR_VERDICT", 256, YAWLSPAR_VERDICT(UINT64_C(256)), YAWLSPAR_AT_STEP);
+    part_is("YAWLSPAR_VERDICT", 512, YAWLSPAR_VERDICT(UINT64_C(512)), YAWLSPAR_AT_ADDRESS);
+    part_is("YAWLSPAR_VERDICT", 0, YAWLSPAR_VERDICT(UINT64_C(0)), YAWLSPAR_YES);
+}
+
 int main(void)
 {
     version();
+    results();
     fixed_cases();
     protection();
     protected_blocks();

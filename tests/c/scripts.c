@@ -8,55 +8,19 @@
  * The directed scripts have their numbers and steps worked out by hand from the specification. Records whose bytes were
  * changed are unknown to the reference: of them the two ways of the model are compared. The random scripts are made of
  * the steps of the random traffic, and of steps and lists that are wrong. */
-#include "steps.h"
+#include "together.h"
 
 #include "../traffic/draws.h"
+#include "steps.h"
 
 extern void *memcpy(void *, const void *, unsigned long);
 extern void *memset(void *, int, unsigned long);
 
 static const uint32_t sizes[] = {1, 4, 8, 16, REF_LARGE};
 
-/* ---- A script, put together step by step ---- */
-
-static size_t steps, bytes; /* of the script in `script` */
-
-static void no_steps(void)
-{
-    steps = 0;
-    bytes = 0;
-}
-
-static void add(const void *sent, size_t length, uint32_t ticks)
-{
-    memcpy(script.input + bytes, sent, length);
-    script.lengths[steps] = (uint16_t)length;
-    script.ticks[steps] = (uint16_t)ticks;
-    bytes += length;
-    steps++;
-}
-
-/* A code, and zeros after it. */
-static void add_long(uint8_t code, size_t length, uint32_t ticks)
-{
-    memset(script.input + bytes, 0, length);
-    if (length > 0)
-        script.input[bytes] = code;
-    add(script.input + bytes, length, ticks);
-}
-
-static void add_code(uint8_t code, uint32_t ticks)
-{
-    add(&code, 1, ticks);
-}
-
 static struct call whole_script(void)
 {
-    struct call call = fitting(SCRIPT);
-
-    call.input = call.output = bytes;
-    call.lengths = call.tick_counts = call.answers = call.done = steps;
-    return call;
+    return whole_call(SCRIPT);
 }
 
 /* ---- The same calls one by one ---- */
@@ -124,17 +88,6 @@ static uint64_t make_singly(const struct call *call)
     return 256 * k;
 }
 
-/* The model's side and the side `single` hold the same bytes: the record, and the memory as `memory` compares it. */
-static void compare_with_single(const struct call *call, void (*memory)(const struct call *call))
-{
-    struct side kept = reference;
-
-    reference = single;
-    same_record(call);
-    memory(call);
-    reference = kept;
-}
-
 /* Of 512 blocks a part is compared, and after some of the scripts all of it, with the reference's too. */
 static void same_as_single(const struct call *call)
 {
@@ -181,15 +134,6 @@ static uint64_t run_script_alone(const struct call *call)
     return got;
 }
 
-/* A call that is no script, on all three sides. */
-static void make_call(const struct call *call)
-{
-    uint64_t got = step(call), again = call_model(&single, call);
-
-    if (got != again)
-        fail_result(call, got, again);
-}
-
 /* ---- Worked out by hand ---- */
 
 static void call_is(const struct call *call, uint64_t number, uint64_t at)
@@ -225,18 +169,6 @@ static void output_at(size_t place, uint8_t expected)
 
     if (model.output[place] != expected)
         fail(&call, "an output byte of a script", expected, model.output[place]);
-}
-
-/* A fresh part on all three sides; array and rows are as they were. */
-static void fresh(uint8_t status, uint8_t function)
-{
-    powered_with((uint32_t)(stored_length() / REF_BLOCK), status, function, 0x60);
-    memcpy(single.record, model.record, YAWLSPAR_RECORD_BYTES);
-}
-
-static bool on_large(void)
-{
-    return stored_length() == (size_t)REF_LARGE * REF_BLOCK;
 }
 
 static void begin(const char *name, uint32_t blocks)
@@ -365,62 +297,14 @@ static void stop_is_kept(void)
 
 /* ---- Lists and refusals before the first step ---- */
 
-enum { ARRAY = 1, ROWS = 2, LISTS = 4, SUM = 8, OUTPUT = 16, LEVEL = 32, ALL_FAULTS = 63 };
-
-static size_t by_one(size_t length, uint32_t which)
-{
-    return which % 2 == 0 || length == 0 ? length + 1 : length - 1;
-}
-
-/* One of the four lists is longer or shorter by one; a longer one's last length is 0. */
-static void spoil_list(struct call *call, uint32_t which)
-{
-    size_t *const lists[] = {&call->lengths, &call->tick_counts, &call->answers, &call->done};
-    size_t *list = lists[which / 2 % 4];
-
-    script.lengths[steps] = 0;
-    script.ticks[steps] = 0;
-    *list = by_one(*list, which);
-}
-
-/* The input is longer or shorter than the lengths by one, and the output with it. */
-static void spoil_sum(struct call *call, uint32_t which)
-{
-    call->input = by_one(call->input, which);
-    call->output = call->input;
-}
+#define ALL_FAULTS (ARRAY | ROWS | LISTS | SUM | OUTPUT | LEVEL)
 
 static struct call spoilt(uint32_t faults, uint32_t which)
 {
     struct call call = whole_script();
 
-    if ((faults & ARRAY) != 0)
-        call.array = by_one(call.array, which);
-    if ((faults & ROWS) != 0)
-        call.rows = by_one(call.rows, which / 2);
-    if ((faults & LISTS) != 0)
-        spoil_list(&call, which);
-    if ((faults & SUM) != 0)
-        spoil_sum(&call, which / 3);
-    if ((faults & OUTPUT) != 0)
-        call.output = by_one(call.output, which / 4);
-    if ((faults & LEVEL) != 0)
-        call.wp_high = which % 3 == 0 ? 2 : which % 3 == 1 ? (UINT64_C(1) << 32) + 1 : UINT64_MAX;
+    spoil_call(&call, faults, which);
     return call;
-}
-
-/* 1, 2, 7, 4, 5; with no record there is no 1, and always a 5. */
-static uint64_t refused_with(uint32_t faults, bool record)
-{
-    if (record && (faults & ARRAY) != 0)
-        return 1;
-    if ((faults & ROWS) != 0)
-        return 2;
-    if ((faults & (LISTS | SUM)) != 0)
-        return 7;
-    if ((faults & OUTPUT) != 0)
-        return 4;
-    return !record || (faults & LEVEL) != 0 ? 5 : 0;
 }
 
 /* A script for a part that is busy and armed: if it runs where it should not, that shows in all that it is lent. */
@@ -457,13 +341,12 @@ static void each_set_of_faults(uint32_t which)
 
 static void each_set_without_record(uint32_t which)
 {
-    static const size_t lengths[] = {0, 1, YAWLSPAR_RECORD_BYTES - 1, YAWLSPAR_RECORD_BYTES + 1, RECORD_ROOM};
     uint32_t faults;
 
     for (faults = 0; faults <= ALL_FAULTS; faults++) {
         struct call call = spoilt(faults, which + faults);
 
-        call.record = lengths[(which + faults) % COUNT(lengths)];
+        call.record = no_record_length(which + faults);
         call_is(&call, refused_with(faults, false), 0);
     }
 }
@@ -975,13 +858,6 @@ static void script_power_up(const struct call *call)
     make_call(call);
 }
 
-static size_t wrong_record_length(void)
-{
-    static const size_t lengths[] = {0, 1, YAWLSPAR_RECORD_BYTES - 1, YAWLSPAR_RECORD_BYTES + 1, RECORD_ROOM};
-
-    return lengths[below(COUNT(lengths))];
-}
-
 /* The steps so far with faults, none of which may be seen. */
 static void strange_script(void)
 {
@@ -992,7 +868,7 @@ static void strange_script(void)
         faults |= 1u << below(6);
     call = spoilt(faults, below(24));
     if (one_in(8))
-        call.record = wrong_record_length();
+        call.record = no_record_length(below(5));
     if (one_in(8))
         call.array = below(17) * REF_BLOCK + below(2);
     run_script(&call);

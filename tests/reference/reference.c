@@ -1038,3 +1038,61 @@ int ref_script(struct part *part, uint8_t *array, size_t array_length, uint8_t *
     }
     return 0;
 }
+
+/* ---- Request 13 of 02: a check of a script ---- */
+
+/* The first step whose transaction's answer is not 0, or `count`. */
+static size_t first_not_executed(const uint8_t *answers, size_t count)
+{
+    size_t k = 0;
+
+    while (k < count && answers[k] == 0)
+        k++;
+    return k;
+}
+
+/* The first address where the two differ, or `length`. */
+static size_t first_difference(const uint8_t *array, const uint8_t *image, size_t length)
+{
+    size_t address = 0;
+
+    while (address < length && array[address] == image[address])
+        address++;
+    return address;
+}
+
+int ref_check(struct part *part, uint8_t *array, size_t array_length, uint8_t *rows, size_t rows_length,
+              bool wp_high, const uint8_t *in, size_t in_length, const uint16_t *lengths, size_t lengths_count,
+              const uint16_t *ticks, size_t ticks_count, uint8_t *out, size_t out_length, uint8_t *answers,
+              size_t answers_count, uint16_t *done, size_t done_count, const uint8_t *image, size_t image_length,
+              enum verdict *verdict, size_t *where)
+{
+    size_t step;
+    int answer;
+
+    /* 38 "after 1"; those after it are the script's */
+    *verdict = YES;
+    *where = 0;
+    if (lent_wrong(part, array_length, rows_length) == 1)
+        return 1;
+    if (image_length != array_length)
+        return 38;
+    answer = ref_script(part, array, array_length, rows, rows_length, wp_high, in, in_length, lengths, lengths_count,
+                        ticks, ticks_count, out, out_length, answers, answers_count, done, done_count, &step);
+    if (answer != 0 && answer != 3 && answer != 6)
+        return answer;
+
+    /* "the first failing step": before the one that stopped the script, or that one; or else how many steps there are,
+     * "if none failed but the part is not idle" */
+    *where = first_not_executed(answers, step);
+    if (*where < lengths_count || part->phase != IDLE) {
+        *verdict = AT_STEP;
+        return 0;
+    }
+    *where = first_difference(array, image, array_length);
+    if (*where < array_length)
+        *verdict = AT_ADDRESS;
+    else
+        *where = 0;
+    return 0;
+}

@@ -96,6 +96,21 @@ int ref_script(struct part *part, uint8_t *array, size_t array_length, uint8_t *
                const uint16_t *ticks, size_t ticks_count, uint8_t *out, size_t out_length, uint8_t *answers,
                size_t answers_count, uint16_t *done, size_t done_count, size_t *step);
 
+/* Request 13 of 02: what a check says of a script. */
+enum verdict {
+    YES = 0,       /* every step answers 0, the part ends idle, and the array equals the image */
+    AT_STEP = 1,   /* the first failing step; or how many steps there are, if the part is not idle */
+    AT_ADDRESS = 2 /* the first differing address */
+};
+
+/* Runs the script, and compares. *where is the step or the address; it and *verdict are 0 when refused, and *where is 0
+ * for YES. */
+int ref_check(struct part *part, uint8_t *array, size_t array_length, uint8_t *rows, size_t rows_length,
+              bool wp_high, const uint8_t *in, size_t in_length, const uint16_t *lengths, size_t lengths_count,
+              const uint16_t *ticks, size_t ticks_count, uint8_t *out, size_t out_length, uint8_t *answers,
+              size_t answers_count, uint16_t *done, size_t done_count, const uint8_t *image, size_t image_length,
+              enum verdict *verdict, size_t *where);
+
 /* The protection question, of a code and a size in blocks. The code is BP3..BP0; on 512 blocks its bit 4 is TBS.
  * *first is the first protected block, and *count is how many are protected from it on. Both are 0 for none, and
  * when refused. */

@@ -1,0 +1,42 @@
+/* A script that is put together step by step, for scripts.c and check.c, and what can be wrong with the call that is
+ * handed it. */
+#ifndef TOGETHER_H
+#define TOGETHER_H
+
+#include "both.h"
+
+/* Of the script in `script`. */
+extern size_t steps, bytes;
+
+void no_steps(void);
+void add(const void *sent, size_t length, uint32_t ticks);
+
+/* A code, and zeros after it. */
+void add_long(uint8_t code, size_t length, uint32_t ticks);
+void add_code(uint8_t code, uint32_t ticks);
+
+/* A call of this kind that is handed all of it: a script or a check. */
+struct call whole_call(enum call_kind kind);
+
+/* A call that is no script and no check, made on all three sides. */
+void make_call(const struct call *call);
+
+/* A fresh part on all three sides; array and rows are as they were. */
+void fresh(uint8_t status, uint8_t function);
+
+bool on_large(void);
+
+/* ---- Faults of the call, each of which is a refusal before the first step ---- */
+
+enum { ARRAY = 1, ROWS = 2, LISTS = 4, SUM = 8, OUTPUT = 16, LEVEL = 32, IMAGE = 64 };
+
+/* Puts these faults into the call; `which` says which of their forms. */
+void spoil_call(struct call *call, uint32_t faults, uint32_t which);
+
+/* The number: 1, 38, 2, 7, 4, 5 in this order; with no record there is no 1, and always a 5. */
+uint64_t refused_with(uint32_t faults, bool record);
+
+/* A record of a length that no record has. */
+size_t no_record_length(uint32_t which);
+
+#endif
