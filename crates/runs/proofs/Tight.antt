@@ -5,6 +5,7 @@ use Rattle.runs.proofs.fill.Reads as fill
 use Rattle.runs.proofs.blank.Reads as blank
 use Rattle.runs.proofs.drive.Reads as drive
 use Rattle.runs.proofs.zero_from.Reads as zero-from
+use Rattle.runs.proofs.first_difference.Reads as first-difference
 
 pub fill-one : OneExit fill.Learnt (λ κ s. now (s .0))
 fill-one κ a x y s t p q = agree p q
@@ -17,3 +18,6 @@ drive-one κ a x y s t p q = agree p q
 
 pub zero-from-one : OneResult zero-from.Learnt
 zero-from-one κ a x y s t p q = agree p q
+
+pub first-difference-one : OneResult first-difference.Learnt
+first-difference-one κ a x y s t p q = agree p q

@@ -19,11 +19,11 @@ below-next P n j false e l f p =
 
 module _ (test : ℕ → Bool) where
   -- of one number more: the first of those before, the number itself, or none
-  first-found : (n : ℕ) → firstOf n test < n → firstOf (suc n) test ≡ firstOf n test
+  pub first-found : (n : ℕ) → firstOf n test < n → firstOf (suc n) test ≡ firstOf n test
   unfolding firstOf
   first-found n l = rw (lt-ltb (firstOf n test) n l) refl
 
-  first-new : (n : ℕ) → n ≤ firstOf n test → firstOf (suc n) test ≡ cond (test n) n (suc n)
+  pub first-new : (n : ℕ) → n ≤ firstOf n test → firstOf (suc n) test ≡ cond (test n) n (suc n)
   unfolding firstOf
   first-new n l = rw (le-ltb (firstOf n test) n l) refl
 
@@ -91,6 +91,14 @@ module _ (test : ℕ → Bool) where
   pub first-passes : (n : ℕ) → firstOf n test < n → test (firstOf n test) ≡ true
   first-passes zero l = absurd (omega arith)
   first-passes (suc n) l = first-passes-as n (ltb (firstOf n test) n) (test n) refl refl l (first-passes n)
+
+  -- where none of the first i passes: the next one does, or does not
+  module _ (i : ℕ) (none : firstOf i test ≡ i) where
+    pub first-next : (n : ℕ) → i < n → test i ≡ true → firstOf n test ≡ i
+    first-next n l p = first-at n i l p (λ j m. first-before i j (rw none m))
+
+    pub none-next : test i ≡ false → firstOf (suc i) test ≡ suc i
+    none-next f = first-new i (omega arith) ∙ rw f refl
 
   -- all pass exactly if each does
   pub all-at : (n j : ℕ) → allBelow n test ≡ true → j < n → test j ≡ true

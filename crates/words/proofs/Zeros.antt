@@ -23,7 +23,7 @@ or-zero-as a b false e =
     eqb-false a 0 e (omega arith))
 
 -- an OR is zero where both are
-or-zero : (a b : ℕ) → eqb (bitOr a b) 0 ≡ (eqb a 0 and eqb b 0)
+pub or-zero : (a b : ℕ) → eqb (bitOr a b) 0 ≡ (eqb a 0 and eqb b 0)
 or-zero a b = or-zero-as a b (eqb a 0) refl
 
 -- one byte more is looked at
