@@ -12,12 +12,13 @@ use Rattle.paper.proofs.Kept.{power-up-sound, powered-fresh}
 use Rattle.paper.proofs.KeptBytes.{none-page}
 use Rattle.record_bytes.specs.Layout.{recordBytes}
 use Rattle.yawlspar.specs.Face.{Asked, identityOf, registersOf, upOf, upNumber, powerUpAnswer, powerUpBytes}
+use Rattle.history.specs.PageData.{Page}
 use Rattle.history.proofs.Course.{course-told}
 use Rattle.reset.specs.Demand3.{PoweredAndSent}
 use Rattle.reset.proofs.Demand3.{history-told}
 use Rattle.from_c.specs.Driven.{Lent, lent, CCall, callsOf, Driven, packedSteps}
 use Rattle.from_c.specs.FromC.{FromC}
-use Rattle.from_c.specs.Holding.{Page, Holding}
+use Rattle.from_c.specs.Holding.{Holding}
 use Rattle.from_c.proofs.Holding.{in-bytes}
 use Rattle.from_c.proofs.Chained.{driven-run, driven-heard, plain-heard}
 

@@ -9,10 +9,11 @@ use Rattle.record_bytes.specs.Read.{held, recordIn}
 use Rattle.record_bytes.proofs.Back.{read-back}
 use Rattle.record_bytes.proofs.Fits.{sound-fits}
 use Rattle.history.specs.Run.{Run}
+use Rattle.history.specs.PageData.{Page}
+use Rattle.history.proofs.PageKept.{calls-page}
 use Rattle.history.proofs.Told.{run-told}
 use Rattle.from_c.specs.Driven.{Lent}
-use Rattle.from_c.specs.Holding.{Page, Holding}
-use Rattle.from_c.proofs.Fitting.{calls-page}
+use Rattle.from_c.specs.Holding.{Holding}
 
 -- the record is read back from them
 pub in-bytes : {l : Lent} {p : Record} → Holding l p → recordIn (l .bytes) ≡ held p

@@ -3,14 +3,11 @@ use mathlib.Core.Path.{_≡_}
 use mathlib.Core.Bool.{true}
 use lib.ListN.{length}
 use Rattle.types.specs.declared.Record.{Record}
-use Rattle.paper.specs.Sizes.{arrayBytes, rowsBytes, pageBytes}
+use Rattle.paper.specs.Sizes.{arrayBytes, rowsBytes}
 use Rattle.paper.specs.Soundness.{sound}
 use Rattle.record_bytes.specs.Layout.{recordBytes}
+use Rattle.history.specs.PageData.{Page}
 use Rattle.from_c.specs.Driven.{Lent}
-
--- page data has 256 bytes
-abbrev pub Page : Record → Type 0
-Page p = length (p .page) ≡ pageBytes
 
 pub record Holding (l : Lent) (p : Record) : Type 0 where
   pub bytes : l .bytes ≡ recordBytes p

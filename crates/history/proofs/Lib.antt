@@ -1,4 +1,5 @@
 pub mod Calls
+pub mod PageKept
 pub mod Touches
 pub mod Told
 pub mod Shielded

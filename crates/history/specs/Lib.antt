@@ -1,3 +1,4 @@
 pub mod Run
+pub mod PageData
 pub mod Course
 pub mod ScriptLaws

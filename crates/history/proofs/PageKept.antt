@@ -18,7 +18,7 @@ use Rattle.paper.specs.Calls.{outcomeOf, transacted}
 use Rattle.paper.specs.History.{Call, transaction, ticks, recordAfterCall, recordAfterCalls}
 use Rattle.paper.proofs.KeptBytes.{none-page, after-page}
 use Rattle.paper.proofs.CallKept.{after-tick-call}
-use Rattle.from_c.specs.Holding.{Page}
+use Rattle.history.specs.PageData.{Page}
 
 -- what a transaction changes keeps it a page
 changed-page : (c : Change) (i : List ℕ) (p : Record) → Page p → Page (changed c i p)

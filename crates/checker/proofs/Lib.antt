@@ -1,0 +1,4 @@
+pub mod Failing
+pub mod Said
+pub mod InBytes
+pub mod Tight
