@@ -64,10 +64,10 @@ fn verdict_on(ran: Ran, bytes: &[u8], array: &[u8], answers: &[u8], image: &[u8]
         return Verdict::Step(failing);
     }
     let idle = ends_idle(bytes);
-    let address = runs::first_difference(array, image);
     if !idle {
         return Verdict::Step(steps);
     }
+    let address = runs::first_difference(array, image);
     if address < image.len() {
         return Verdict::Address(address);
     }

@@ -1,17 +1,20 @@
 -- A check of the flasher's script: a script of request 2, run on a starting array, against a wanted image.
 use Prim.Native.Nat.{ℕ}
-use mathlib.Core.List.{List}
+use mathlib.Core.List.{List, []}
 use mathlib.Core.Bool.{Bool, not, cond}
 use lib.ListN.{length, getD}
 use lib.Dec.{eqb, ltb}
+use Rattle.types.specs.declared.Record.{Record}
 use Rattle.types.specs.declared.Verdict.{Verdict}
 use Rattle.types.specs.declared.Verdict.the-variants.{Yes, Step, Address, Refused}
 use Rattle.words.specs.Logic.{_and_, _or_, whenZero}
 use Rattle.words.specs.Lists.{firstOf, differAt}
+use Rattle.paper.specs.Sizes.{arrayBytes}
 use Rattle.paper.specs.Phases.{isIdle}
 use Rattle.paper.specs.Numbers.{checkRefusal}
+use Rattle.paper.specs.History.{Call}
 use Rattle.paper.specs.Board.{Board}
-use Rattle.paper.specs.Script.{Script, Scripted, unstepped, scripted}
+use Rattle.paper.specs.Script.{Script, Scripted, unstepped, scripted, scriptCalls}
 
 -- the run stopped at step k
 abbrev pub stopsAt : Scripted → ℕ → Bool
@@ -64,3 +67,8 @@ checked sound s b o n d image =
     whenZero (checkRefusalOf sound s b o n d image)
     (checkedRun (length (s .lengths)) image (scripted sound s b o n d))
     (uncheckedBy (checkRefusalOf sound s b o n d image) b o n d)
+
+-- the calls that it makes, of a record that is sound or is not, with the part's own memory lent, and an output, two lists and an image of o, n, d and m bytes or entries: its script's; refused by 38, it makes none
+abbrev pub checkCalls : Bool → Script → Record → ℕ → ℕ → ℕ → ℕ → List Call
+checkCalls sound s p o n d m =
+    cond (eqb m (arrayBytes (p .part .blocks))) (scriptCalls sound s p o n d) []

@@ -33,16 +33,16 @@ returns c =
 ends-idle-requires : tie.Need-ends-idle-requires
 ends-idle-requires c κs = search needs
 
-first-difference-requires : tie.Need-first-difference-requires
-first-difference-requires c κs = search needs
-
 returns-2 : tie.Need-returns-2
 returns-2 c =
-    let a = c .before .before .before .before .before .before .before .before .before .before .args in
-    let p = c .before .before .before .before .before .before .before .before .before .before .pre in
-    let k = c .before .before .before .before .first-failing in
-    let i = c .before .before .ends-idle in
-    said-busy (a .ran) (now (a .bytes)) (now (a .array)) (now (a .answers)) (now (a .image)) (p .0) (p .1) (k .result) (a .ran .step - 0) (omega arith) (k .ensures) (c .before .before .before .if1 .left) (i .result) (i .ensures) (not-true _ (c .if2 .taken))
+    let a = c .before .before .before .before .before .before .before .before .before .args in
+    let p = c .before .before .before .before .before .before .before .before .before .pre in
+    let k = c .before .before .before .first-failing in
+    let i = c .before .ends-idle in
+    said-busy (a .ran) (now (a .bytes)) (now (a .array)) (now (a .answers)) (now (a .image)) (p .0) (p .1) (k .result) (a .ran .step - 0) (omega arith) (k .ensures) (c .before .before .if1 .left) (i .result) (i .ensures) (not-true _ (c .if2 .taken))
+
+first-difference-requires : tie.Need-first-difference-requires
+first-difference-requires c κs = search needs
 
 returns-3 : tie.Need-returns-3
 returns-3 c =
@@ -50,8 +50,8 @@ returns-3 c =
     let p = c .before .before .before .before .before .before .before .before .before .before .before .pre in
     let k = c .before .before .before .before .before .first-failing in
     let i = c .before .before .before .ends-idle in
-    let d = c .before .before .first-difference in
-    said-address (a .ran) (now (a .bytes)) (now (a .array)) (now (a .answers)) (now (a .image)) (p .0) (p .1) (k .result) (a .ran .step - 0) (omega arith) (k .ensures) (c .before .before .before .before .if1 .left) (i .result) (i .ensures) (not-false _ (c .before .if2 .left)) (d .result) (d .ensures) (c .if3 .taken)
+    let d = c .before .first-difference in
+    said-address (a .ran) (now (a .bytes)) (now (a .array)) (now (a .answers)) (now (a .image)) (p .0) (p .1) (k .result) (a .ran .step - 0) (omega arith) (k .ensures) (c .before .before .before .before .if1 .left) (i .result) (i .ensures) (not-false _ (c .before .before .if2 .left)) (d .result) (d .ensures) (c .if3 .taken)
 
 returns-4 : tie.Need-returns-4
 returns-4 c =
@@ -59,8 +59,8 @@ returns-4 c =
     let p = c .before .before .before .before .before .before .before .before .before .before .before .pre in
     let k = c .before .before .before .before .before .first-failing in
     let i = c .before .before .before .ends-idle in
-    let d = c .before .before .first-difference in
-    said-yes (a .ran) (now (a .bytes)) (now (a .array)) (now (a .answers)) (now (a .image)) (p .0) (p .1) (k .result) (a .ran .step - 0) (omega arith) (k .ensures) (c .before .before .before .before .if1 .left) (i .result) (i .ensures) (not-false _ (c .before .if2 .left)) (d .result) (d .ensures) (c .if3 .left)
+    let d = c .before .first-difference in
+    said-yes (a .ran) (now (a .bytes)) (now (a .array)) (now (a .answers)) (now (a .image)) (p .0) (p .1) (k .result) (a .ran .step - 0) (omega arith) (k .ensures) (c .before .before .before .before .if1 .left) (i .result) (i .ensures) (not-false _ (c .before .before .if2 .left)) (d .result) (d .ensures) (c .if3 .left)
 
 pub verdict-on-spec : {M : Type 1} → statement M
 verdict-on-spec =
@@ -72,7 +72,7 @@ verdict-on-spec =
     first-failing-requires
     returns
     ends-idle-requires
-    first-difference-requires
     returns-2
+    first-difference-requires
     returns-3
     returns-4)
