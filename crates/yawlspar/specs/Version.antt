@@ -5,7 +5,7 @@ abbrev pub major : ℕ
 major = 1
 
 abbrev pub minor : ℕ
-minor = 7
+minor = 8
 
 -- both in one number
 abbrev pub version : ℕ

@@ -169,5 +169,5 @@ pub extern "C" fn yawlspar_tick(
 pub extern "C" fn yawlspar_version() -> u64
     ensures { λ r. ⌜ r ≡ version ⌝ }
 {
-    1007
+    1008
 }

@@ -1,0 +1,25 @@
+-- Two results that a contract of this crate allows are equal: the answer, the record's bytes, and each other lent byte.
+use denote.Ref.{now}
+use Rattle.words.proofs.Allowed.{OneResult, OneExit, agree}
+use Rattle.yawlspar_check.proofs.yawlspar_check.Reads as yawlspar-check
+
+pub check-one : OneResult yawlspar-check.Learnt
+check-one κ a x y s t p q = agree (p .0) (q .0)
+
+pub check-one-bytes : OneExit yawlspar-check.Learnt (λ κ s. now (s .0))
+check-one-bytes κ a x y s t p q = agree (p .1 .0) (q .1 .0)
+
+pub check-one-array : OneExit yawlspar-check.Learnt (λ κ s. now (s .1 .0))
+check-one-array κ a x y s t p q = agree (p .1 .1 .0) (q .1 .1 .0)
+
+pub check-one-rows : OneExit yawlspar-check.Learnt (λ κ s. now (s .1 .1 .0))
+check-one-rows κ a x y s t p q = agree (p .1 .1 .1 .0) (q .1 .1 .1 .0)
+
+pub check-one-output : OneExit yawlspar-check.Learnt (λ κ s. now (s .1 .1 .1 .1 .1 .1 .1 .0))
+check-one-output κ a x y s t p q = agree (p .1 .1 .1 .1 .0) (q .1 .1 .1 .1 .0)
+
+pub check-one-answers : OneExit yawlspar-check.Learnt (λ κ s. now (s .1 .1 .1 .1 .1 .1 .1 .1 .0))
+check-one-answers κ a x y s t p q = agree (p .1 .1 .1 .1 .1 .0) (q .1 .1 .1 .1 .1 .0)
+
+pub check-one-done : OneExit yawlspar-check.Learnt (λ κ s. now (s .1 .1 .1 .1 .1 .1 .1 .1 .1 .0))
+check-one-done κ a x y s t p q = agree (p .1 .1 .1 .1 .1 .1) (q .1 .1 .1 .1 .1 .1)
