@@ -253,8 +253,11 @@ module _ (bs : List ℕ) (wp : ℕ) (s : Script) (xs rs o n d image : List ℕ) 
     run-of (inl x) = x .run
     run-of (inr x) = x .run
 
+    pub same-run : given .run ≡ ran
+    same-run = run-of outcome
+
     pub same-left : (bs′ xs′ rs′ o′ n′ d′ : List ℕ) → Left bs ran bs′ xs′ rs′ o′ n′ d′ → Left bs (given .run) bs′ xs′ rs′ o′ n′ d′
-    same-left bs′ xs′ rs′ o′ n′ d′ l = subst⁻¹ (λ (w : Scripted). Left bs w bs′ xs′ rs′ o′ n′ d′) (run-of outcome) l
+    same-left bs′ xs′ rs′ o′ n′ d′ l = subst⁻¹ (λ (w : Scripted). Left bs w bs′ xs′ rs′ o′ n′ d′) same-run l
 
     -- what it says, by what the script answers
     module _ (r : Ran) (er : r ≡ ranOf ran) where

@@ -1,4 +1,4 @@
--- Chained calls from C are made of calls: what the contracts of yawlspar_transact, yawlspar_tick, yawlspar_script and yawlspar_power_up allow are their steps and their start.
+-- Chained calls from C are made of calls: what the contracts of yawlspar_transact, yawlspar_tick, yawlspar_script, yawlspar_check and yawlspar_power_up allow are their steps and their start.
 use mathlib.Core.Path.{_≡_, refl}
 use mathlib.Core.List.{List, [], _∷_}
 use lib.ListN.{length}
@@ -9,7 +9,8 @@ use Rattle.yawlspar.proofs.yawlspar_power_up.Reads as yawlspar-power-up
 use Rattle.yawlspar.proofs.yawlspar_transact.Reads as yawlspar-transact
 use Rattle.yawlspar.proofs.yawlspar_tick.Reads as yawlspar-tick
 use Rattle.yawlspar_script.proofs.yawlspar_script.Reads as yawlspar-script
-use Rattle.from_c.specs.Driven.{Lent, lent, CCall, transact, tick, script, Driven, calls}
+use Rattle.yawlspar_check.proofs.yawlspar_check.Reads as yawlspar-check
+use Rattle.from_c.specs.Driven.{Lent, lent, CCall, transact, tick, script, check, Driven, calls}
 
 -- bytes, array, rows, level, input and output are a call's arguments
 pub transact-drives : Follows yawlspar-transact.Learnt (λ κ a x s.
@@ -33,6 +34,15 @@ pub script-drives : Follows yawlspar-script.Learnt (λ κ a x s.
     → Driven (lent (now (a .0)) (now (a .1 .0)) (now (a .1 .1 .0))) (script (a .1 .1 .1 .0) (now (a .1 .1 .1 .1 .0)) (now (a .1 .1 .1 .1 .1 .0)) (now (a .1 .1 .1 .1 .1 .1 .0)) (now (a .1 .1 .1 .1 .1 .1 .1 .0)) (now (a .1 .1 .1 .1 .1 .1 .1 .1 .0)) (now (a .1 .1 .1 .1 .1 .1 .1 .1 .1 .0)) ∷ cs) m)
 script-drives κ a x s l cs m r =
     calls {l = lent (now (a .0)) (now (a .1 .0)) (now (a .1 .1 .0))} {c = script (a .1 .1 .1 .0) (now (a .1 .1 .1 .1 .0)) (now (a .1 .1 .1 .1 .1 .0)) (now (a .1 .1 .1 .1 .1 .1 .0)) (now (a .1 .1 .1 .1 .1 .1 .1 .0)) (now (a .1 .1 .1 .1 .1 .1 .1 .1 .0)) (now (a .1 .1 .1 .1 .1 .1 .1 .1 .1 .0))}
+    (record { answer = x; buffers = now (s .1 .1 .1 .1 .1 .1 .1 .0) ∷ now (s .1 .1 .1 .1 .1 .1 .1 .1 .0) ∷ now (s .1 .1 .1 .1 .1 .1 .1 .1 .1 .0) ∷ []; left = lent (now (s .0)) (now (s .1 .0)) (now (s .1 .1 .0)) })
+    (rw (l .0, l .1 .0, l .1 .1 .0, l .1 .1 .1 .0, l .1 .1 .1 .1 .0, l .1 .1 .1 .1 .1 .0, l .1 .1 .1 .1 .1 .1) refl) r
+
+-- and an image, of a check
+pub check-drives : Follows yawlspar-check.Learnt (λ κ a x s.
+    (cs : List CCall) (m : Lent) → Driven (lent (now (s .0)) (now (s .1 .0)) (now (s .1 .1 .0))) cs m
+    → Driven (lent (now (a .0)) (now (a .1 .0)) (now (a .1 .1 .0))) (check (a .1 .1 .1 .0) (now (a .1 .1 .1 .1 .0)) (now (a .1 .1 .1 .1 .1 .0)) (now (a .1 .1 .1 .1 .1 .1 .0)) (now (a .1 .1 .1 .1 .1 .1 .1 .0)) (now (a .1 .1 .1 .1 .1 .1 .1 .1 .0)) (now (a .1 .1 .1 .1 .1 .1 .1 .1 .1 .0)) (now (a .1 .1 .1 .1 .1 .1 .1 .1 .1 .1 .0)) ∷ cs) m)
+check-drives κ a x s l cs m r =
+    calls {l = lent (now (a .0)) (now (a .1 .0)) (now (a .1 .1 .0))} {c = check (a .1 .1 .1 .0) (now (a .1 .1 .1 .1 .0)) (now (a .1 .1 .1 .1 .1 .0)) (now (a .1 .1 .1 .1 .1 .1 .0)) (now (a .1 .1 .1 .1 .1 .1 .1 .0)) (now (a .1 .1 .1 .1 .1 .1 .1 .1 .0)) (now (a .1 .1 .1 .1 .1 .1 .1 .1 .1 .0)) (now (a .1 .1 .1 .1 .1 .1 .1 .1 .1 .1 .0))}
     (record { answer = x; buffers = now (s .1 .1 .1 .1 .1 .1 .1 .0) ∷ now (s .1 .1 .1 .1 .1 .1 .1 .1 .0) ∷ now (s .1 .1 .1 .1 .1 .1 .1 .1 .1 .0) ∷ []; left = lent (now (s .0)) (now (s .1 .0)) (now (s .1 .1 .0)) })
     (rw (l .0, l .1 .0, l .1 .1 .0, l .1 .1 .1 .0, l .1 .1 .1 .1 .0, l .1 .1 .1 .1 .1 .0, l .1 .1 .1 .1 .1 .1) refl) r
 

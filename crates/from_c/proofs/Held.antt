@@ -24,8 +24,10 @@ use Rattle.yawlspar.specs.Face.{packed, transactAnswer, transactBytes, transact
 use Rattle.yawlspar_script.specs.Face.{scriptAnswer}
 use Rattle.yawlspar.proofs.Face.{unheld-bytes}
 use Rattle.yawlspar.proofs.Refused.{refused-bytes}
-use Rattle.script.specs.InBytes.{scriptOf, heldScript}
-use Rattle.from_c.specs.Driven.{Lent, lent, CCall, transact, tick, script, gives}
+use Rattle.script.specs.InBytes.{scriptOf, heldScript, scriptBytes}
+use Rattle.checker.specs.InBytes.{heldCheck}
+use Rattle.checker.proofs.InBytes.{same-run, image-left}
+use Rattle.from_c.specs.Driven.{Lent, lent, CCall, transact, tick, script, check, gives}
 
 -- the bytes hold the record p
 module _ (l : Lent) (p : Record) (e : recordIn (l .bytes) ≡ held p) where
@@ -85,6 +87,21 @@ unheld-script : (wp : ℕ) (i ls ts o n d : List ℕ) (l : Lent) → recordIn (l
 unfolding onHeld heldScript
 unheld-script wp i ls ts o n d l e = rw e refl
 
+-- a check leaves what its script leaves; with an image that is not as long as the array it leaves all as it was
+module _ (wp : ℕ) (i ls ts o n d image : List ℕ) (l : Lent) where
+  pub same-left : length image ≡ length (l .array) → gives (check wp i ls ts o n d image) l .left ≡ gives (script wp i ls ts o n d) l .left
+  same-left e =
+      ap (λ (w : Scripted). lent (scriptBytes (recordIn (l .bytes)) w (l .bytes)) (w .board .array) (w .board .rows)) (same-run (l .bytes) wp (scriptOf wp i ls ts) (l .array) (l .rows) o n d image e)
+
+  pub image-kept : (length image ≡ length (l .array) → ⊥) → gives (check wp i ls ts o n d image) l .left ≡ l
+  image-kept h =
+      let k = image-left (l .bytes) wp (scriptOf wp i ls ts) (l .array) (l .rows) o n d image h in
+      rw (← k .bytes, ← k .array, ← k .rows) refl
+
+  unheld-check : recordIn (l .bytes) .ok ≡ false → gives (check wp i ls ts o n d image) l .left ≡ l
+  unfolding onHeld heldCheck
+  unheld-check e = rw e refl
+
 -- where the bytes hold no record, no call changes anything
 pub unheld-left : (c : CCall) (l : Lent) → recordIn (l .bytes) .ok ≡ false → gives c l .left ≡ l
 unheld-left (transact wp i o) l e =
@@ -95,3 +112,4 @@ unheld-left (tick n) l e =
     let r = length (l .rows) in
     rw (← unheld-tick-bytes h e a r n (l .bytes), ← unheld-memory h e a r n Array (l .array), ← unheld-memory h e a r n Rows (l .rows)) refl
 unheld-left (script wp i ls ts o n d) l e = unheld-script wp i ls ts o n d l e
+unheld-left (check wp i ls ts o n d image) l e = unheld-check wp i ls ts o n d image l e

@@ -10,3 +10,4 @@ pub mod Reset
 pub mod Contracts
 pub mod LawsFromC
 pub mod RestartFromC
+pub mod AcceptsFromC

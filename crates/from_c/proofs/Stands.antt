@@ -1,6 +1,6 @@
 -- Each kind of call from C stands for its list of calls: from what holds a sound record these lead to what the call leaves, and C hears what it tells of their course.
 use Prim.Native.Nat.{ℕ}
-use mathlib.Core.Path.{_≡_, refl, ap, subst⁻¹, _∙_}
+use mathlib.Core.Path.{_≡_, refl, sym, ap, subst⁻¹, _∙_}
 use mathlib.Core.Bool.{Bool, true, false}
 use mathlib.Core.List.{List, [], _∷_}
 use native.Mathlib.Omega.{arith}
@@ -9,6 +9,7 @@ use lib.ListN.{length}
 use borrow.Author.Tests.{eqb-true, eqb-false}
 use Rattle.types.specs.declared.Record.{Record}
 use Rattle.words.specs.Logic.{_and_}
+use Rattle.paper.specs.Sizes.{arrayBytes}
 use Rattle.paper.specs.Soundness.{sound}
 use Rattle.paper.specs.Calls.{transacted, ticked}
 use Rattle.paper.specs.History.{Call, transaction}
@@ -18,8 +19,8 @@ use Rattle.history.specs.Run.{Run, done, sends, waits}
 use Rattle.history.specs.Course.{courseOf}
 use Rattle.history.proofs.Scripts.{script-laws}
 use Rattle.script.specs.InBytes.{scriptOf}
-use Rattle.from_c.specs.Driven.{Lent, CCall, transact, tick, script, Given, gives, callOf, heardOf, toldBy, InMemory}
-use Rattle.from_c.proofs.Held.{held-answer, held-transacted, held-ticks-answer, held-ticked, held-array, held-rows, came, held-script, no-level}
+use Rattle.from_c.specs.Driven.{Lent, CCall, transact, tick, script, check, Given, gives, callOf, heardOf, toldBy, InMemory}
+use Rattle.from_c.proofs.Held.{held-answer, held-transacted, held-ticks-answer, held-ticked, held-array, held-rows, came, held-script, no-level, same-left, image-kept}
 use Rattle.from_c.specs.Holding.{Holding}
 use Rattle.from_c.proofs.Holding.{in-bytes, run-holding}
 use Rattle.from_c.proofs.Leads.{Leads}
@@ -94,12 +95,27 @@ module _ (l : Lent) (p : Record) (h : Holding l p) where
         subst⁻¹ (StandsFor (script wp i ls ts o n d) l p) (held-script l p (in-bytes h) wp i ls ts o n d)
         (record { leads = record { next = left .board .state; run = script-run; holding = run-holding h script-run refl }; heard = script-heard level-ok its board o n d (h .is-sound) (h .array) (h .rows) })
 
+  -- a check: its script; with an image of another length nothing
+  module _ (wp : ℕ) (i ls ts o n d image : List ℕ) where
+    abbrev checked-call : CCall
+    checked-call = check wp i ls ts o n d image
+
+    check-leads : (t : Bool) → eqb (length image) (arrayBytes (p .part .blocks)) ≡ t → Leads l p (callOf checked-call p) (gives checked-call l .left)
+    check-leads true e =
+        rw (e, same-left wp i ls ts o n d image l (eqb-true _ _ e ∙ sym (h .array))) (script-stands wp i ls ts o n d .leads)
+    check-leads false e =
+        rw (e, image-kept wp i ls ts o n d image l (λ z. eqb-false _ _ e (z ∙ h .array))) (record { next = p; run = done; holding = h })
+
+    check-stands : StandsFor checked-call l p (gives checked-call l)
+    check-stands = record { leads = check-leads (eqb (length image) (arrayBytes (p .part .blocks))) refl; heard = λ few. refl }
+
 -- every kind
 module _ (l : Lent) (p : Record) (h : Holding l p) where
   kind-stands : (c : CCall) → StandsFor c l p (gives c l)
   kind-stands (transact wp i o) = transact-stands l p h wp i o
   kind-stands (tick n) = tick-stands l p h n
   kind-stands (script wp i ls ts o n d) = script-stands l p h wp i ls ts o n d
+  kind-stands (check wp i ls ts o n d image) = check-stands l p h wp i ls ts o n d image
 
   pub stands : (c : CCall) (g : Given) → g ≡ gives c l → StandsFor c l p g
   stands c g e = subst⁻¹ (StandsFor c l p) e (kind-stands c)

@@ -12,12 +12,15 @@ use Rattle.paper.specs.Sizes.{arrayBytes, rowsBytes}
 use Rattle.paper.specs.Soundness.{sound}
 use Rattle.paper.specs.History.{Call, transaction, ticks, recordAfterCalls}
 use Rattle.paper.specs.Script.{Scripted, scriptCalls}
+use Rattle.paper.specs.Check.{Checked, checkCalls}
 use Rattle.history.specs.Course.{Step, sent, waited, courseOf}
 use Rattle.record_bytes.specs.Read.{recordIn}
 use Rattle.ticks.specs.InBytes.{tickBytes, tickMemory}
 use Rattle.yawlspar.specs.Face.{packed, transactAnswer, transactBytes, transactOutput, tickAnswer}
 use Rattle.yawlspar_script.specs.Face.{scriptAnswer}
+use Rattle.yawlspar_check.specs.Face.{checkAnswer}
 use Rattle.script.specs.InBytes.{scriptOf, heldScript, scriptBytes}
+use Rattle.checker.specs.InBytes.{heldCheck}
 
 -- what every call is lent: the record's bytes, the array and the rows
 pub record Lent : Type 0 where
@@ -29,11 +32,12 @@ abbrev pub lent : List ℕ → List ℕ → List ℕ → Lent
 lent bs xs rs = record { bytes = bs; array = xs; rows = rs }
 
 -- a call from C: a transaction with the number that stands for the level of WP#, its input, and its output buffer as it is lent; so many ticks;
--- or a script with that number, its input, its lengths and its tick counts, and as they are lent its output buffer and the lists for the answers and the ticks done
+-- a script with that number, its input, its lengths and its tick counts, and as they are lent its output buffer and the lists for the answers and the ticks done; or a check of such a script, with an image
 pub data CCall : Type 0 where
   transact : ℕ → List ℕ → List ℕ → CCall
   tick : ℕ → CCall
   script : ℕ → List ℕ → List ℕ → List ℕ → List ℕ → List ℕ → List ℕ → CCall
+  check : ℕ → List ℕ → List ℕ → List ℕ → List ℕ → List ℕ → List ℕ → List ℕ → CCall
 
 -- what a call gives to C: its answer, the buffers that are its own, in their order, and what every call is lent, all as it leaves them
 pub record Given : Type 0 where
@@ -41,10 +45,14 @@ pub record Given : Type 0 where
   pub buffers : List (List ℕ)
   pub left : Lent
 
--- what a script gives that comes to w
-abbrev pub scriptGives : Lent → Scripted → Given
-scriptGives l w =
-    record { answer = scriptAnswer w; buffers = w .output ∷ w .answers ∷ w .done ∷ []; left = lent (scriptBytes (recordIn (l .bytes)) w (l .bytes)) (w .board .array) (w .board .rows) }
+-- what a script that comes to w leaves, and its answer with that
+abbrev pub scriptGives : Lent → ℕ → Scripted → Given
+scriptGives l answer w =
+    record { answer = answer; buffers = w .output ∷ w .answers ∷ w .done ∷ []; left = lent (scriptBytes (recordIn (l .bytes)) w (l .bytes)) (w .board .array) (w .board .rows) }
+
+-- what a check of it gives
+abbrev pub checkGives : Lent → Checked → Given
+checkGives l c = scriptGives l (checkAnswer (c .verdict)) (c .run)
 
 -- what a call's contract allows it to give
 abbrev pub gives : CCall → Lent → Given
@@ -52,13 +60,17 @@ gives (transact wp i o) l =
     record { answer = transactAnswer (recordIn (l .bytes)) (length (l .array)) (length (l .rows)) wp i (length o); buffers = transactOutput (recordIn (l .bytes)) (l .array) (l .rows) wp i o ∷ []; left = lent (transactBytes (recordIn (l .bytes)) (length (l .array)) (length (l .rows)) wp i (length o) (l .bytes)) (l .array) (l .rows) }
 gives (tick n) l =
     record { answer = tickAnswer (recordIn (l .bytes)) (length (l .array)) (length (l .rows)) n; buffers = []; left = lent (tickBytes (recordIn (l .bytes)) (length (l .array)) (length (l .rows)) n (l .bytes)) (tickMemory Array (recordIn (l .bytes)) (length (l .array)) (length (l .rows)) n (l .array)) (tickMemory Rows (recordIn (l .bytes)) (length (l .array)) (length (l .rows)) n (l .rows)) }
-gives (script wp i ls ts o n d) l = scriptGives l (heldScript (recordIn (l .bytes)) wp (scriptOf wp i ls ts) (l .array) (l .rows) o n d)
+gives (script wp i ls ts o n d) l =
+    let w = heldScript (recordIn (l .bytes)) wp (scriptOf wp i ls ts) (l .array) (l .rows) o n d in
+    scriptGives l (scriptAnswer w) w
+gives (check wp i ls ts o n d image) l = checkGives l (heldCheck (recordIn (l .bytes)) wp (scriptOf wp i ls ts) (l .array) (l .rows) o n d image)
 
 -- the calls that it stands for, on a part with the record p: WP# is low for 0 and high for 1; another number is no level, and the part does not see the call
 abbrev pub callOf : CCall → Record → List Call
 callOf (transact wp i o) p = cond (leb wp 1) (transaction (eqb wp 1) i (length o) ∷ []) []
 callOf (tick n) p = ticks n ∷ []
 callOf (script wp i ls ts o n d) p = scriptCalls (sound p and leb wp 1) (scriptOf wp i ls ts) p (length o) (length n) (length d)
+callOf (check wp i ls ts o n d image) p = checkCalls (sound p and leb wp 1) (scriptOf wp i ls ts) p (length o) (length n) (length d) (length image)
 
 -- what C hears of the first k steps of a script, by its lists n and d, where all of them were made whole: of each its answer, and its ticks done with the number 0
 abbrev pub heardWhole : ℕ → List ℕ → List ℕ → List ℕ
@@ -74,11 +86,12 @@ heardStop number answer done =
 abbrev pub heardSteps : ℕ → ℕ → List ℕ → List ℕ → List ℕ
 heardSteps number k n d = heardWhole k n d ++ heardStop number (getD n k 0) (getD d k 0)
 
--- what C hears of the answers of these calls; of a script by number and step, which its answer holds, and by its two lists
+-- what C hears of the answers of these calls; of a script by number and step, which its answer holds, and by its two lists; of a check nothing, since its answer is what it says of them all
 abbrev pub heardOf : CCall → Given → List ℕ
 heardOf (transact wp i o) g = cond (leb wp 1) (g .answer ∷ []) []
 heardOf (tick n) g = g .answer ∷ []
 heardOf (script wp i ls ts o n d) g = heardSteps (g .answer % 256) (g .answer / 256) (getD (g .buffers) 1 []) (getD (g .buffers) 2 [])
+heardOf (check wp i ls ts o n d image) g = []
 
 -- the calls that calls from C stand for, from the record p on
 abbrev pub callsOf : List CCall → Record → List Call
@@ -112,6 +125,7 @@ abbrev pub toldBy : CCall → List Step → List ℕ
 toldBy (transact wp i o) ss = packedSteps ss
 toldBy (tick n) ss = packedSteps ss
 toldBy (script wp i ls ts o n d) ss = scriptSteps ss
+toldBy (check wp i ls ts o n d image) ss = []
 
 -- the course of calls on a part with its own memory
 abbrev pub ownCourse : List Call → Record → List Step
@@ -127,16 +141,18 @@ abbrev pub InMemory : CCall → Type 0
 InMemory (transact wp i o) = Unit {0}
 InMemory (tick n) = Unit {0}
 InMemory (script wp i ls ts o n d) = length ls < 2 ^ 56
+InMemory (check wp i ls ts o n d image) = Unit {0}
 
 abbrev pub AllInMemory : List CCall → Type 0
 AllInMemory [] = Unit {0}
 AllInMemory (c ∷ cs) = InMemory c × AllInMemory cs
 
--- a call that is no script
+-- a call that is no script and no check
 abbrev pub isPlain : CCall → Bool
 isPlain (transact wp i o) = true
 isPlain (tick n) = true
 isPlain (script wp i ls ts o n d) = false
+isPlain (check wp i ls ts o n d image) = false
 
 -- ABh, then the calls b, 66h, the calls c and 99h, as one-byte transactions with the levels l1, l2 and l3, into buffers that hold x, y and z
 abbrev pub untilFromC : ℕ → ℕ → ℕ → ℕ → List CCall → List CCall → List CCall

@@ -3,3 +3,4 @@ pub mod Holding
 pub mod FromC
 pub mod LawsFromC
 pub mod RestartFromC
+pub mod AcceptsFromC
