@@ -8,8 +8,8 @@
 #                                is. rt starts provers in the background, where a shell lets nothing hear Ctrl-C
 #   prove NAME COMMAND CRATE..   `rt COMMAND CRATE` for each crate, with a line on standard error for each one as it is
 #                                proved. All that rt says goes to target/rt.log, and where it fails to standard error
-#   make_archive NAME            the archive that C links, `$archive`, of these sources: rt proves its libraries anew each time
-#                                that it makes one, so none is made where nothing has changed
+#   make_archive NAME            the archive that C links, `$archive`, of these sources: rt proves yawlspar and yawlspar_script
+#                                anew each time that it makes one, so none is made where nothing has changed
 #
 # NAME is that of the script, for what it says. The lock is one on the file .lock, which stays; what a script calls has
 # it too.
@@ -93,18 +93,18 @@ follow() { # NAME COMMAND CRATE..
     done
 }
 
-# Makes the archive, where it is not the one of these sources and this kit: three static libraries in one file. docs/SPEED.md
+# Makes the archive, where it is not the one of these sources and this kit: two static libraries in one file. docs/SPEED.md
 # says why scripts and checks are compiled apart.
 archive=target/archive/libyawlspar.a
 make_archive() { # NAME
     local sum=target/archive/sum kit toolchain
     take_lock "$1"
     if [ -f "$archive" ] && [ -f "$sum" ] && [ "$(archive_sum)" = "$(cat "$sum")" ]; then return; fi
-    prove "$1" staticlib yawlspar yawlspar_script yawlspar_check
+    prove "$1" staticlib yawlspar yawlspar_script
     find_kit "$1"
     mkdir -p target/archive
     rm -f -- "$archive"
-    "$toolchain/bin/llvm-ar" qcLs "$archive" target/staticlib/lib{yawlspar,yawlspar_script,yawlspar_check}.a
+    "$toolchain/bin/llvm-ar" qcLs "$archive" target/staticlib/libyawlspar.a target/staticlib/libyawlspar_script.a
     archive_sum >"$sum"
 }
 

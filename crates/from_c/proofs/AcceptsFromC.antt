@@ -18,7 +18,7 @@ use Rattle.paper.specs.Check.{failingStep, endsIdle, differingAddress, verdictO
 use Rattle.record_bytes.specs.Read.{recordIn, onHeld}
 use Rattle.script.specs.InBytes.{scriptOf}
 use Rattle.checker.specs.InBytes.{heldCheck}
-use Rattle.yawlspar_check.specs.Face.{checkAnswer}
+use Rattle.yawlspar_script.specs.Face.{checkAnswer}
 use Rattle.acceptance.proofs.Acceptance.{acceptance}
 use Rattle.from_c.specs.Driven.{Lent, check, Given, gives}
 use Rattle.from_c.specs.Holding.{Holding}

@@ -9,7 +9,7 @@ use Rattle.yawlspar.proofs.yawlspar_power_up.Reads as yawlspar-power-up
 use Rattle.yawlspar.proofs.yawlspar_transact.Reads as yawlspar-transact
 use Rattle.yawlspar.proofs.yawlspar_tick.Reads as yawlspar-tick
 use Rattle.yawlspar_script.proofs.yawlspar_script.Reads as yawlspar-script
-use Rattle.yawlspar_check.proofs.yawlspar_check.Reads as yawlspar-check
+use Rattle.yawlspar_script.proofs.yawlspar_check.Reads as yawlspar-check
 use Rattle.from_c.specs.Driven.{Lent, lent, CCall, transact, tick, script, check, Driven, calls}
 
 -- bytes, array, rows, level, input and output are a call's arguments

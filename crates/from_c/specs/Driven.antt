@@ -17,8 +17,7 @@ use Rattle.history.specs.Course.{Step, sent, waited, courseOf}
 use Rattle.record_bytes.specs.Read.{recordIn}
 use Rattle.ticks.specs.InBytes.{tickBytes, tickMemory}
 use Rattle.yawlspar.specs.Face.{packed, transactAnswer, transactBytes, transactOutput, tickAnswer}
-use Rattle.yawlspar_script.specs.Face.{scriptAnswer}
-use Rattle.yawlspar_check.specs.Face.{checkAnswer}
+use Rattle.yawlspar_script.specs.Face.{scriptAnswer, checkAnswer}
 use Rattle.script.specs.InBytes.{scriptOf, heldScript, scriptBytes}
 use Rattle.checker.specs.InBytes.{heldCheck}
 

@@ -2,6 +2,7 @@
 use denote.Ref.{now}
 use Rattle.words.proofs.Allowed.{OneResult, OneExit, agree}
 use Rattle.yawlspar_script.proofs.yawlspar_script.Reads as yawlspar-script
+use Rattle.yawlspar_script.proofs.yawlspar_check.Reads as yawlspar-check
 
 pub script-one : OneResult yawlspar-script.Learnt
 script-one κ a x y s t p q = agree (p .0) (q .0)
@@ -23,3 +24,24 @@ script-one-answers κ a x y s t p q = agree (p .1 .1 .1 .1 .1 .0) (q .1 .1 .1 .1
 
 pub script-one-done : OneExit yawlspar-script.Learnt (λ κ s. now (s .1 .1 .1 .1 .1 .1 .1 .1 .1 .0))
 script-one-done κ a x y s t p q = agree (p .1 .1 .1 .1 .1 .1) (q .1 .1 .1 .1 .1 .1)
+
+pub check-one : OneResult yawlspar-check.Learnt
+check-one κ a x y s t p q = agree (p .0) (q .0)
+
+pub check-one-bytes : OneExit yawlspar-check.Learnt (λ κ s. now (s .0))
+check-one-bytes κ a x y s t p q = agree (p .1 .0) (q .1 .0)
+
+pub check-one-array : OneExit yawlspar-check.Learnt (λ κ s. now (s .1 .0))
+check-one-array κ a x y s t p q = agree (p .1 .1 .0) (q .1 .1 .0)
+
+pub check-one-rows : OneExit yawlspar-check.Learnt (λ κ s. now (s .1 .1 .0))
+check-one-rows κ a x y s t p q = agree (p .1 .1 .1 .0) (q .1 .1 .1 .0)
+
+pub check-one-output : OneExit yawlspar-check.Learnt (λ κ s. now (s .1 .1 .1 .1 .1 .1 .1 .0))
+check-one-output κ a x y s t p q = agree (p .1 .1 .1 .1 .0) (q .1 .1 .1 .1 .0)
+
+pub check-one-answers : OneExit yawlspar-check.Learnt (λ κ s. now (s .1 .1 .1 .1 .1 .1 .1 .1 .0))
+check-one-answers κ a x y s t p q = agree (p .1 .1 .1 .1 .1 .0) (q .1 .1 .1 .1 .1 .0)
+
+pub check-one-done : OneExit yawlspar-check.Learnt (λ κ s. now (s .1 .1 .1 .1 .1 .1 .1 .1 .1 .0))
+check-one-done κ a x y s t p q = agree (p .1 .1 .1 .1 .1 .1) (q .1 .1 .1 .1 .1 .1)

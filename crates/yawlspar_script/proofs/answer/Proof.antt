@@ -1,9 +1,9 @@
--- `yawlspar_check::answer` meets its contract: each verdict is packed as the definition packs it.
+-- `yawlspar_script::answer` meets its contract: each verdict is packed as the definition packs it.
 use mathlib.Core.Path.{sym}
 use native.Mathlib.Nat.{add-zero}
 use borrow.Author.Needs.{needs}
-use Rattle.yawlspar_check.proofs.answer.Statement.{statement}
-use Rattle.yawlspar_check.proofs.answer.Tie as tie
+use Rattle.yawlspar_script.proofs.answer.Statement.{statement}
+use Rattle.yawlspar_script.proofs.answer.Tie as tie
 
 enum-told : tie.Need-enum-told
 enum-told c = search needs

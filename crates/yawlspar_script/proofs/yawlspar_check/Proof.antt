@@ -1,9 +1,9 @@
--- `yawlspar_check::yawlspar_check` meets its contract: what the check says is packed.
+-- `yawlspar_script::yawlspar_check` meets its contract: what the check says is packed.
 use mathlib.Core.Path.{ap, _∙_}
 use borrow.Author.Needs.{needs}
-use Rattle.yawlspar_check.specs.Face.{checkAnswer}
-use Rattle.yawlspar_check.proofs.yawlspar_check.Statement.{statement}
-use Rattle.yawlspar_check.proofs.yawlspar_check.Tie as tie
+use Rattle.yawlspar_script.specs.Face.{checkAnswer}
+use Rattle.yawlspar_script.proofs.yawlspar_check.Statement.{statement}
+use Rattle.yawlspar_script.proofs.yawlspar_check.Tie as tie
 
 check-requires : tie.Need-check-requires
 check-requires c κs = search needs
