@@ -4,7 +4,7 @@ use mathlib.Core.Path.{_≡_, refl, sym, ap, _∙_}
 use mathlib.Core.Bool.{Bool, true, false, not, cond, false≢true}
 use mathlib.Core.List.{List, [], _∷_}
 use native.Mathlib.Omega.{arith}
-use native.Mathlib.Nat.{mod-eq-of-lt}
+use native.Mathlib.Nat.{zero-add, mod-eq-of-lt}
 use lib.ListN.{length, getD}
 use lib.Bits.{and-comm, and-mask}
 use lib.Dec.{eqb}
@@ -40,12 +40,9 @@ isAligned other = true
 abbrev noErase : Job → Bool
 noErase j = not (isErase j)
 
--- one more, or none more
+-- one more
 more-than-none : (k : ℕ) → eqb (1 + k) 0 ≡ false
 more-than-none k = ne-eqb (1 + k) 0 (λ e. omega arith)
-
-none-more : (k : ℕ) → 0 + k ≡ k
-none-more k = omega arith
 
 -- of one address, whose wanted byte is w
 module _ (image : List ℕ) (a : ℕ) where
@@ -75,7 +72,7 @@ module _ (image : List ℕ) (a : ℕ) where
 
   programs-more : (k x : ℕ) (t : Bool) → narrowedBy k (cond t (narrowedByte x wanted) x) ≡ narrowedBy (bit t + k) x
   programs-more k x true = narrowed-again k x (eqb k 0) refl ∙ rw (more-than-none k) refl
-  programs-more k x false = rw (none-more k) refl
+  programs-more k x false = rw (zero-add k) refl
 
   programs-leave : (js : List Job) (x : ℕ) → every noErase js ≡ true → every (asWanted image) js ≡ true → byteByAll js a x ≡ narrowedBy (howMany (programsAt a) js) x
   programs-leave [] x n h = refl
@@ -85,14 +82,14 @@ module _ (image : List ℕ) (a : ℕ) where
       ap (byteByAll js a) (program-as c d x t refl (and-l _ _ h))
       ∙ programs-leave js (cond t (narrowedByte x wanted) x) (and-r _ _ n) (and-r _ _ h)
       ∙ programs-more (howMany (programsAt a) js) x t
-  programs-leave (other ∷ js) x n h = programs-leave js x (and-r _ _ n) (and-r _ _ h) ∙ rw (none-more (howMany (programsAt a) js)) refl
+  programs-leave (other ∷ js) x n h = programs-leave js x (and-r _ _ n) (and-r _ _ h) ∙ rw (zero-add (howMany (programsAt a) js)) refl
 
   -- programs erase nothing
   none-erased : (js : List Job) → every noErase js ≡ true → howMany (erasesAt sector) js ≡ 0
   none-erased [] n = refl
   none-erased (erases b ∷ js) n = absurd (false≢true (and-l _ _ n))
-  none-erased (programs c d ∷ js) n = none-more (howMany (erasesAt sector) js) ∙ none-erased js (and-r _ _ n)
-  none-erased (other ∷ js) n = none-more (howMany (erasesAt sector) js) ∙ none-erased js (and-r _ _ n)
+  none-erased (programs c d ∷ js) n = zero-add (howMany (erasesAt sector) js) ∙ none-erased js (and-r _ _ n)
+  none-erased (other ∷ js) n = zero-add (howMany (erasesAt sector) js) ∙ none-erased js (and-r _ _ n)
 
   -- an erase of a sector reaches the address if it is that of its sector
   in-sector : (b : ℕ) → isAligned (erases b) ≡ true → fromOn b sectorBytes a ≡ eqb b sector
@@ -112,7 +109,7 @@ module _ (image : List ℕ) (a : ℕ) where
 
   erases-more : (k x : ℕ) (t : Bool) → erasedBy k (cond t erasedByte x) ≡ erasedBy (bit t + k) x
   erases-more k x true = erases-again k (eqb k 0) refl ∙ rw (more-than-none k) refl
-  erases-more k x false = rw (none-more k) refl
+  erases-more k x false = rw (zero-add k) refl
 
   jobs-leave : (js : List Job) (x : ℕ) → erasesFirst js ≡ true → every isAligned js ≡ true → every (asWanted image) js ≡ true
       → byteByAll js a x ≡ narrowedBy (howMany (programsAt a) js) (erasedBy (howMany (erasesAt sector) js) x)
@@ -123,13 +120,13 @@ module _ (image : List ℕ) (a : ℕ) where
       ap (λ (u : Bool). byteByAll js a (cond u erasedByte x)) (in-sector b (and-l _ _ l))
       ∙ jobs-leave js (cond t erasedByte x) f (and-r _ _ l) (and-r _ _ h)
       ∙ ap (narrowedBy k) (erases-more (howMany (erasesAt sector) js) x t)
-      ∙ rw (none-more k) refl
+      ∙ rw (zero-add k) refl
   jobs-leave (programs c d ∷ js) x f l h =
       programs-leave (programs c d ∷ js) x (and-in refl f) h
-      ∙ rw (none-more (howMany (erasesAt sector) js), none-erased js f) refl
+      ∙ rw (zero-add (howMany (erasesAt sector) js), none-erased js f) refl
   jobs-leave (other ∷ js) x f l h =
       programs-leave (other ∷ js) x (and-in refl f) h
-      ∙ rw (none-more (howMany (erasesAt sector) js), none-erased js f) refl
+      ∙ rw (zero-add (howMany (erasesAt sector) js), none-erased js f) refl
 
   -- a byte that an erase leaves, or that has no bit to raise, is made the wanted one by narrowing it
   module _ (xs : List ℕ) (byte : wanted < 256) where

@@ -6,7 +6,7 @@ use mathlib.Core.List.{List, [], _∷_, _++_, append-nil}
 use native.Mathlib.Omega.{arith}
 use native.Mathlib.Nat.{mod-eq-of-lt, zero-add}
 use native.Mathlib.Numerals.{one-add}
-use borrow.Author.Tests.{eqb-true, eq-eqb, le-leb, ltb-true, ltb-false}
+use borrow.Author.Tests.{eq-eqb, le-leb, ltb-true, ltb-false}
 use lib.Dec.{ltb}
 use lib.ListN.{length, getD, length-append, List·getD-eq-default}
 use lib.Seq.{take-at, drop-at}
@@ -28,7 +28,7 @@ use Rattle.types.specs.declared.Operation.the-variants.{Program, Erase}
 use Rattle.types.specs.declared.Work.{Work}
 use Rattle.types.specs.declared.Work.the-variants.{At}
 use Rattle.types.specs.declared.Record.{Record}
-use Rattle.words.proofs.Tests.{and-r, and-in}
+use Rattle.words.proofs.Tests.{and-in}
 use Rattle.paper.specs.Sizes.{isLarge, sizeOk, arrayBytes, pageBytes, tickLimit}
 use Rattle.paper.specs.Address.{highFirst, addressCount, bankBase, addressIn}
 use Rattle.paper.specs.Program.{pageBase, pagePlace, dataSent, keptCount, passedCount, programOf}
@@ -39,9 +39,8 @@ use Rattle.paper.specs.Table.{decoded, columns, addressing, lengthOk}
 use Rattle.paper.specs.Commands.{begins}
 use Rattle.paper.proofs.Addresses.{high-first-none, high-first-snoc}
 use Rattle.paper.proofs.Sizes.{by-size, limit-range}
-use Rattle.paper.proofs.Bits.{large-as}
 use Rattle.paper.proofs.Table.{answered}
-use Rattle.paper.proofs.Soundness.{sound-parts}
+use Rattle.paper.proofs.Soundness.{sound-parts, without-large}
 use Rattle.laws.specs.Writes.{addressingBy, dataOf}
 use Rattle.acceptance.specs.Flasher.{Sending, Job, erases, programs, other, sectorBytes, begunAs, lengthAs, commandOf, workOf, workJob, jobOf, withinPage, allowsTicks, rightCommand}
 use Rattle.acceptance.specs.Construction.{addressFor, addressed, sentFor, ticksFor}
@@ -172,9 +171,7 @@ module _ (p : Record) (s : sound p ≡ true) where
 
   -- the bank register of the others is 0
   no-bank : large ≡ false → p .part .bank ≡ 0
-  no-bank e =
-      let h = sym (large-as n (p .part .stored .function) (p .part .bank)) ∙ sound-parts p s .large in
-      eqb-true _ _ (and-r _ _ (rw e at h))
+  no-bank e = without-large p s e .1
 
   -- so it has these codes
   sector-coded : Coded n (p .part .bank) large (cond large 0x21 0x20) (Erases Sector) (Exactly (1 + addressCount g))

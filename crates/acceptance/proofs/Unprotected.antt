@@ -10,21 +10,16 @@ use borrow.Author.Tests.{eqb-true, eqb-false, eq-eqb, ne-eqb, lt-leb}
 use Rattle.types.specs.declared.Blocks.{Blocks}
 use Rattle.types.specs.declared.Record.{Record}
 use Rattle.words.specs.Logic.{_or_}
-use Rattle.words.proofs.Tests.{and-l}
 use Rattle.paper.specs.Sizes.{isLarge}
 use Rattle.paper.specs.Registers.{TBS}
 use Rattle.paper.specs.Protection.{codeOf, wholeCode, blocksAsked, ruleBlocks, largeAsked, largeBlocks, protectedBlocks}
-use Rattle.paper.specs.Soundness.{largeOk, sound}
+use Rattle.paper.specs.Soundness.{sound}
 use Rattle.paper.proofs.Sizes.{size-range}
-use Rattle.paper.proofs.Protected.{table-is-rule, none-counted, fifteen-counted}
-use Rattle.paper.proofs.Soundness.{sound-parts}
+use Rattle.paper.proofs.Protected.{table-is-rule, large-asks, none-counted, fifteen-counted}
+use Rattle.paper.proofs.Soundness.{sound-parts, without-large}
 use Rattle.acceptance.specs.Accepts.{UnprotectedCodes}
 
--- any other code asks for some blocks: by the rule of the large part, and by that of the others
-large-asks : (c : ℕ) → (c ≡ 0 → ⊥) → 1 ≤ largeAsked c
-unfolding largeAsked
-large-asks c h = rw (ne-eqb c 0 h) (pow-mono {i = 0} {j = c - 1} (omega arith))
-
+-- any other code asks for some blocks, by the rule of the smaller parts too
 asks-as : (c : ℕ) (t : Bool) → 1 ≤ cond t (2 ^ (c - 1)) (2 ^ (14 - c))
 asks-as c true = pow-mono {i = 0} {j = c - 1} (omega arith)
 asks-as c false = pow-mono {i = 0} {j = 14 - c} (omega arith)
@@ -48,8 +43,7 @@ module _ (p : Record) (s : sound p ≡ true) where
 
   -- other parts than the large one have no top or bottom bit
   no-top : isLarge blocks ≡ false → top ≡ 0
-  unfolding largeOk _or_
-  no-top e = eqb-true _ _ (rw e at (and-l _ _ (sound-parts p s .large)))
+  no-top e = without-large p s e .0
 
   few-codes : (t : Bool) → isLarge blocks ≡ t → code + 16 * top ≤ cond t 31 15
   few-codes true e = omega arith

@@ -8,8 +8,6 @@ use lib.ListN.{length, getD}
 use lib.Seq.{ext-getD}
 use lib.Dec.{eqb, ltb}
 use borrow.Author.Tests.{eqb-true, eqb-false, eq-eqb, le-ltb, ltb-false, not-false}
-use Rattle.types.specs.declared.Phase.{Phase}
-use Rattle.types.specs.declared.Phase.the-variants.{Idle, Busy, Suspended, Nested}
 use Rattle.types.specs.declared.Verdict.{Verdict}
 use Rattle.types.specs.declared.Verdict.the-variants.{Yes, Step, Address, Refused}
 use Rattle.words.specs.Logic.{_and_, _or_, whenZero}
@@ -21,6 +19,7 @@ use Rattle.paper.specs.Soundness.{sound}
 use Rattle.paper.specs.Board.{Board}
 use Rattle.paper.specs.Script.{Script, Scripted, afterSteps, unstepped, scripted, stopBefore, callsBefore}
 use Rattle.paper.specs.Check.{stopsAt, stepFails, failingStep, endsIdle, differingAddress, verdictOn, checkRefusalOf, uncheckedBy, checkedRun, Checked, checked}
+use Rattle.paper.proofs.Phases.{idle-is}
 use Rattle.paper.proofs.Numbers.{ScriptTaken, script-taken, check-taken}
 use Rattle.history.specs.ScriptLaws.{StepsTold}
 use Rattle.history.proofs.Told.{run-told}
@@ -32,13 +31,6 @@ neither : (a b : Bool) → (a or b) ≡ false → (a ≡ false) × (b ≡ false)
 unfolding _or_
 neither true b e = absurd (false≢true (sym e))
 neither false b e = (refl, e)
-
--- idle is one phase
-idle-is : (f : Phase) → isIdle f ≡ true → f ≡ Idle
-idle-is Idle e = refl
-idle-is (Busy o) e = absurd (false≢true e)
-idle-is (Suspended o) e = absurd (false≢true e)
-idle-is (Nested o e) h = absurd (false≢true h)
 
 -- what a verdict of yes says of a run of n steps
 abbrev isYes : Verdict → Bool

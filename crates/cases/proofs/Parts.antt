@@ -5,30 +5,24 @@ use mathlib.Core.Bool.{Bool, true, false, cond}
 use mathlib.Core.List.{[], _∷_}
 use native.Mathlib.Omega.{arith}
 use lib.ListN.{length, getD, length-replicate, getD-replicate}
-use borrow.Author.Tests.{eqb-true}
 use Rattle.types.specs.declared.Addressing.the-variants.{Three}
 use Rattle.types.specs.declared.Named.the-variants.{Place}
 use Rattle.types.specs.declared.Command.{Command}
 use Rattle.types.specs.declared.Decoded.the-variants.{Known}
 use Rattle.types.specs.declared.Record.{Record}
 use Rattle.words.specs.Logic.{_or_}
-use Rattle.words.proofs.Tests.{and-l, and-r}
 use Rattle.paper.specs.Sizes.{tickLimit}
 use Rattle.paper.specs.Protection.{codeOf, wholeCode, protectedAt}
 use Rattle.paper.specs.Registers.{TBS}
-use Rattle.paper.specs.Soundness.{largeOk}
 use Rattle.paper.specs.Table.{codes, lookUp, decoded, addressing}
-use Rattle.paper.proofs.Soundness.{sound-parts}
+use Rattle.paper.proofs.Soundness.{without-large}
 use Rattle.laws.proofs.Commanded.{did, enabled, enables, enabled-sound}
 use Rattle.cases.proofs.Paper.{send, Ready, Free, filled}
 
 module _ (p : Record) (r : Ready p) where
   -- the large part alone has TBS and a bank register
   without : (TBS (p .part .stored .function) ≡ 0) × (p .part .bank ≡ 0)
-  unfolding largeOk _or_
-  without =
-      let h = rw (r .listed) at (sound-parts p (r .is-sound) .large) in
-      (eqb-true _ _ (and-l _ _ h), eqb-true _ _ (and-r _ _ (and-r _ _ h)))
+  without = without-large p (r .is-sound) (r .listed)
 
   no-bank : p .part .bank ≡ 0
   no-bank = without .1

@@ -230,7 +230,7 @@ unfolding ruleBlocks
 rule-from-zero c n e = from-zero (protectsTop c) n (blocksAsked c) (top-asks c) e
 
 -- a code of the large part but 0 asks for some
-large-asks : (c : ℕ) → (c ≡ 0 → ⊥) → 1 ≤ largeAsked c
+pub large-asks : (c : ℕ) → (c ≡ 0 → ⊥) → 1 ≤ largeAsked c
 unfolding largeAsked
 large-asks c h = rw (ne-eqb c 0 h) (pow-mono {i = 0} {j = c - 1} (omega arith))
 

@@ -3,7 +3,7 @@ use Prim.Native.Nat.{ℕ, _<_}
 use mathlib.Core.Path.{_≡_, refl, sym, ap, _∙_}
 use mathlib.Core.Bool.{Bool, true, false}
 use mathlib.Core.List.{List}
-use borrow.Author.Tests.{ltb-true, lt-ltb}
+use borrow.Author.Tests.{eqb-true, ltb-true, lt-ltb}
 use Rattle.types.specs.declared.Operation.{Operation}
 use Rattle.types.specs.declared.Phase.{Phase}
 use Rattle.types.specs.declared.Phase.the-variants.{Idle, Busy, Suspended, Nested}
@@ -14,8 +14,9 @@ use Rattle.types.specs.declared.Part.{Part}
 use Rattle.types.specs.declared.Record.{Record}
 use Rattle.words.specs.Logic.{_or_}
 use Rattle.words.proofs.Tests.{and-l, and-r, and-in}
-use Rattle.paper.specs.Sizes.{sizeOk}
+use Rattle.paper.specs.Sizes.{isLarge, sizeOk}
 use Rattle.paper.specs.Phases.{running, halted, isProgram, isErase}
+use Rattle.paper.specs.Registers.{TBS}
 use Rattle.paper.specs.Records.{marked, withLive}
 use Rattle.paper.specs.Operations.{ticksInAll, ticksDone, aligned, inside, targetFree, canSuspend, outside}
 use Rattle.paper.proofs.Phases.{no-work-at, at-same}
@@ -44,6 +45,13 @@ sound-parts p h =
     let h3 = and-r _ _ h2 in
     let h4 = and-r _ _ h3 in
     record { size = and-l _ _ h0; sleep = and-l _ _ h1; latch = and-l _ _ h2; phase-ok = and-l _ _ h3; bits = and-l _ _ h4; large = and-r _ _ h4; page-ok = and-r _ _ h }
+
+-- the large part alone has TBS and a bank register
+pub without-large : (p : Record) → sound p ≡ true → isLarge (p .part .blocks) ≡ false → (TBS (p .part .stored .function) ≡ 0) × (p .part .bank ≡ 0)
+unfolding largeOk _or_
+without-large p s e =
+    let h = rw e at (sound-parts p s .large) in
+    (eqb-true _ _ (and-l _ _ h), eqb-true _ _ (and-r _ _ (and-r _ _ h)))
 
 pub part-whole : (p : Part) (f : Phase) (g : List ℕ) → Sound p f g → partSound p f ≡ true
 unfolding partSound
