@@ -776,9 +776,7 @@ static void begin_with(const void *sent, size_t length, uint32_t ticks)
     memcpy(message, sent, length);
     call.input = call.output = length;
     make_call(&call);
-    call = fitting(TICK);
-    call.ticks = ticks;
-    make_call(&call);
+    make_ticks(ticks);
 }
 
 static void not_ready(void)
@@ -1546,17 +1544,12 @@ static void check_send(bool wp_high, const uint8_t *sent, size_t length)
 /* The ticks of the last step, or those of a status read if it has some. */
 static void check_wait(uint32_t ticks)
 {
-    struct call call = fitting(TICK);
-
-    if (steps == 0 || ticks > 65535) {
-        run_steps();
-        call.ticks = ticks;
-        make_call(&call);
+    if (fits_step(ticks)) {
+        add_ticks(ticks);
         return;
     }
-    if (script.ticks[steps - 1] != 0)
-        add_code(0x05, 0);
-    script.ticks[steps - 1] = (uint16_t)ticks;
+    run_steps();
+    make_ticks(ticks);
 }
 
 static void check_power_up(const struct call *call)

@@ -839,17 +839,12 @@ static void script_send(bool wp_high, const uint8_t *sent, size_t length)
  * then, a call of their own. */
 static void script_wait(uint32_t ticks)
 {
-    struct call call = fitting(TICK);
-
-    if (steps == 0 || ticks > 65535 || one_in(50)) {
-        run_steps();
-        call.ticks = ticks;
-        make_call(&call);
+    if (fits_step(ticks) && !one_in(50)) {
+        add_ticks(ticks);
         return;
     }
-    if (script.ticks[steps - 1] != 0)
-        add_code(0x05, 0);
-    script.ticks[steps - 1] = (uint16_t)ticks;
+    run_steps();
+    make_ticks(ticks);
 }
 
 static void script_power_up(const struct call *call)

@@ -36,6 +36,18 @@ void add_code(uint8_t code, uint32_t ticks)
     add(&code, 1, ticks);
 }
 
+bool fits_step(uint32_t ticks)
+{
+    return steps > 0 && ticks <= 65535;
+}
+
+void add_ticks(uint32_t ticks)
+{
+    if (script.ticks[steps - 1] != 0)
+        add_code(0x05, 0);
+    script.ticks[steps - 1] = (uint16_t)ticks;
+}
+
 struct call whole_call(enum call_kind kind)
 {
     struct call call = fitting(kind);
@@ -54,6 +66,14 @@ void make_call(const struct call *call)
     again = call_model(&single, call);
     if (got != again)
         fail_result(call, got, again);
+}
+
+void make_ticks(uint32_t ticks)
+{
+    struct call call = fitting(TICK);
+
+    call.ticks = ticks;
+    make_call(&call);
 }
 
 void fresh(uint8_t status, uint8_t function)

@@ -15,11 +15,18 @@ void add(const void *sent, size_t length, uint32_t ticks);
 void add_long(uint8_t code, size_t length, uint32_t ticks);
 void add_code(uint8_t code, uint32_t ticks);
 
+/* Whether ticks can go with the last step: there is one, and 16 bits hold them. And they do: where it has some, with a
+ * status read after it. */
+bool fits_step(uint32_t ticks);
+void add_ticks(uint32_t ticks);
+
 /* A call of this kind that is handed all of it: a script or a check. */
 struct call whole_call(enum call_kind kind);
 
 /* A call that is no script and no check, made on all three sides. */
 void make_call(const struct call *call);
+
+void make_ticks(uint32_t ticks);
 
 /* A fresh part on all three sides; array and rows are as they were. */
 void fresh(uint8_t status, uint8_t function);
