@@ -8,9 +8,10 @@ use lib.Dec.{eqb, leb}
 use lib.ListN.{length}
 use borrow.Author.Tests.{eqb-true, eqb-false}
 use Rattle.types.specs.declared.Record.{Record}
-use Rattle.words.specs.Logic.{_and_}
+use Rattle.words.specs.Logic.{_and_, unless}
 use Rattle.paper.specs.Sizes.{arrayBytes}
 use Rattle.paper.specs.Soundness.{sound}
+use Rattle.paper.specs.Numbers.{imageNumber}
 use Rattle.paper.specs.Calls.{transacted, ticked}
 use Rattle.paper.specs.History.{Call, transaction}
 use Rattle.paper.specs.Board.{Board, boardOf}
@@ -101,6 +102,7 @@ module _ (l : Lent) (p : Record) (h : Holding l p) where
     checked-call = check wp i ls ts o n d image
 
     check-leads : (t : Bool) → eqb (length image) (arrayBytes (p .part .blocks)) ≡ t → Leads l p (callOf checked-call p) (gives checked-call l .left)
+    unfolding imageNumber unless
     check-leads true e =
         rw (e, same-left wp i ls ts o n d image l (eqb-true _ _ e ∙ sym (h .array))) (script-stands wp i ls ts o n d .leads)
     check-leads false e =

@@ -11,7 +11,7 @@ use Rattle.words.specs.Logic.{_and_, _or_, whenZero}
 use Rattle.words.specs.Lists.{firstOf, differAt}
 use Rattle.paper.specs.Sizes.{arrayBytes}
 use Rattle.paper.specs.Phases.{isIdle}
-use Rattle.paper.specs.Numbers.{checkRefusal}
+use Rattle.paper.specs.Numbers.{imageNumber, checkRefusal}
 use Rattle.paper.specs.History.{Call}
 use Rattle.paper.specs.Board.{Board}
 use Rattle.paper.specs.Script.{Script, Scripted, unstepped, scripted, scriptCalls}
@@ -71,4 +71,4 @@ checked sound s b o n d image =
 -- the calls that it makes, of a record that is sound or is not, with the part's own memory lent, and an output, two lists and an image of o, n, d and m bytes or entries: its script's; refused by 38, it makes none
 abbrev pub checkCalls : Bool → Script → Record → ℕ → ℕ → ℕ → ℕ → List Call
 checkCalls sound s p o n d m =
-    cond (eqb m (arrayBytes (p .part .blocks))) (scriptCalls sound s p o n d) []
+    whenZero (imageNumber m (arrayBytes (p .part .blocks))) (scriptCalls sound s p o n d) []
