@@ -47,8 +47,8 @@ module _ (wp : Bool) (p : Record) (xs image : List ℕ) (s : sound p ≡ true) (
   script-right : flashes p xs image script ≡ true
   unfolding flashes
   script-right =
-      and-in (ap (inTwos p) (read-back steps) ∙ steps-right p jobs all-sent)
-      (ap (rightJobs xs image) (ap (jobsIn p) (read-back steps) ∙ steps-jobs p jobs all-sent) ∙ jobs-right xs image)
+      and-in (ap (inTwos p) (read-back wp steps) ∙ steps-right p jobs all-sent)
+      (ap (rightJobs xs image) (ap (jobsIn p) (read-back wp steps) ∙ steps-jobs p jobs all-sent) ∙ jobs-right xs image)
 
   -- and is not refused
   script-unrefused : (b : Board) (o n d : List ℕ) → Rested b → b .array ≡ xs → length o ≡ length (script .input) → length n ≡ length (script .lengths) → length d ≡ length (script .lengths)

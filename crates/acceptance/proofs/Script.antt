@@ -1,27 +1,47 @@
 -- Scripts of steps: the steps can be read off them again, and what is sent for jobs makes a script of them.
 use Prim.Native.Nat.{ℕ, zero, suc, _+_, _^_, _<_}
 use mathlib.Core.Path.{_≡_, refl, sym, ap, _∙_}
-use mathlib.Core.Bool.{true}
+use mathlib.Core.Bool.{Bool, true}
 use mathlib.Core.List.{List, [], _∷_, _++_}
 use native.Mathlib.Omega.{arith}
 use borrow.Author.Tests.{le-leb}
-use lib.ListN.{length, getD, length-append}
-use lib.Seq.{take-append-seam, drop-append-seam}
+use lib.ListN.{length, getD, take, drop, length-append}
+use lib.Seq.{drop-drop, take-append-seam, drop-append-seam}
 use Rattle.types.specs.declared.Record.{Record}
-use Rattle.words.specs.Lists.{sumTo}
+use Rattle.words.specs.Lists.{sumTo, between}
 use Rattle.words.proofs.Tests.{and-in}
 use Rattle.words.proofs.Sums.{sum-cons}
 use Rattle.paper.specs.Sizes.{tickLimit}
-use Rattle.acceptance.specs.Flasher.{Sending, Job, sendings, inTwos, jobsIn}
-use Rattle.acceptance.specs.Construction.{sentFor, ticksFor, sendingsFor, inputOf, lengthsOf, ticksOf}
+use Rattle.paper.specs.Script.{Script}
+use Rattle.acceptance.specs.Flasher.{Sending, Job, sendingAt, sendingsTo, sendingsOf, inTwos, jobsIn}
+use Rattle.acceptance.specs.Construction.{sentFor, ticksFor, sendingsFor, inputOf, lengthsOf, ticksOf, scriptFor}
 use Rattle.acceptance.specs.Accepts.{AreBytes}
 use Rattle.acceptance.proofs.Plan.{Each}
 use Rattle.acceptance.proofs.Sent.{bytes-both, bytes-one, Sent}
 
+-- a script with one step more in front
+module _ (wp : Bool) (l t : ℕ) (ls ts i : List ℕ) where
+  abbrev whole : Script
+  whole = record { wp = wp; input = i; lengths = l ∷ ls; ticks = t ∷ ts }
+
+  abbrev later : Script
+  later = record { wp = wp; input = drop l i; lengths = ls; ticks = ts }
+
+  sending-later : (k : ℕ) → sendingAt whole (suc k) ≡ sendingAt later k
+  sending-later k =
+      ap (λ (at : ℕ). record { sent = between at (getD ls k 0) i; ticks = getD ts k 0 }) (sum-cons l ls k)
+      ∙ ap (λ (xs : List ℕ). record { sent = take (getD ls k 0) xs; ticks = getD ts k 0 }) (sym (drop-drop (sumTo ls k) l i))
+
+  sendings-later : (k : ℕ) → sendingsTo whole (suc k) ≡ sendingAt whole 0 ∷ sendingsTo later k
+  sendings-later zero = refl
+  sendings-later (suc k) = rw (sendings-later k, sending-later k) refl
+
 -- the steps of a script of steps
-pub read-back : (es : List Sending) → sendings (lengthsOf es) (ticksOf es) (inputOf es) ≡ es
-read-back [] = refl
-read-back (e ∷ es) = rw (take-append-seam, drop-append-seam, read-back es)
+pub read-back : (wp : Bool) (es : List Sending) → sendingsOf (scriptFor wp es) ≡ es
+read-back wp [] = refl
+read-back wp (e ∷ es) =
+    sendings-later wp (length (e .sent)) (e .ticks) (lengthsOf es) (ticksOf es) (e .sent ++ inputOf es) (length (lengthsOf es))
+    ∙ rw (take-append-seam, drop-append-seam, read-back wp es)
 
 -- its lists are as long as each other
 pub same-length : (es : List Sending) → length (ticksOf es) ≡ length (lengthsOf es)

@@ -1,8 +1,8 @@
 -- The flasher's right script, request 13: "A script that erases exactly the sectors where some bit must go from 0 to 1, then programs every byte that still differs, and no other, with its wanted value, within page borders, sets write enable each time, allows the ticks of 01 and does nothing more". Each clause is a test that can be computed. What a step does goes by what it begins on the part, not by its code.
-use Prim.Native.Nat.{ℕ, _+_, _*_, _/_, _%_}
+use Prim.Native.Nat.{ℕ, zero, suc, _+_, _*_, _/_, _%_}
 use mathlib.Core.Bool.{Bool, true, false, not, cond}
-use mathlib.Core.List.{List, [], _∷_}
-use lib.ListN.{length, getD, take, drop}
+use mathlib.Core.List.{List, [], _∷_, _++_}
+use lib.ListN.{length, getD}
 use lib.Dec.{eqb, leb}
 use Rattle.types.specs.declared.Memory.{Memory}
 use Rattle.types.specs.declared.Memory.the-variants.{Array, Rows}
@@ -17,15 +17,15 @@ use Rattle.types.specs.declared.Decoded.the-variants.{Known, Unknown}
 use Rattle.types.specs.declared.Part.{Part}
 use Rattle.types.specs.declared.Record.{Record}
 use Rattle.words.specs.Logic.{_and_, bit}
-use Rattle.words.specs.Lists.{every, allBelow}
+use Rattle.words.specs.Lists.{every, between, allBelow}
 use Rattle.paper.specs.Sizes.{pageBytes, tickLimit, downTo, fromOn}
 use Rattle.paper.specs.Program.{narrowedByte}
-use Rattle.paper.specs.Erase.{erasedByte}
+use Rattle.paper.specs.Erase.{unitBytes, erasedByte}
 use Rattle.paper.specs.Operations.{ticksInAll}
 use Rattle.paper.specs.Protection.{wholeCode, protectedBlocks}
 use Rattle.paper.specs.Table.{decoded, columns, lengthOk}
 use Rattle.paper.specs.Commands.{begun}
-use Rattle.paper.specs.Script.{Script}
+use Rattle.paper.specs.Script.{Script, stepAt, stepLength}
 use Rattle.laws.specs.Writes.{dataOf}
 
 -- "an unprotected part": no block is protected
@@ -37,13 +37,16 @@ pub record Sending : Type 0 where
   pub sent : List ℕ
   pub ticks : ℕ
 
--- those of a script's steps, in order, by its lengths, its tick counts and its input
-abbrev pub sendings : List ℕ → List ℕ → List ℕ → List Sending
-sendings [] ts i = []
-sendings (l ∷ ls) ts i = record { sent = take l i; ticks = getD ts 0 0 } ∷ sendings ls (drop 1 ts) (drop l i)
+-- those of step k of a script, of its first k steps, and of all
+abbrev pub sendingAt : Script → ℕ → Sending
+sendingAt s k = record { sent = between (stepAt s k) (stepLength s k) (s .input); ticks = getD (s .ticks) k 0 }
+
+abbrev pub sendingsTo : Script → ℕ → List Sending
+sendingsTo s zero = []
+sendingsTo s (suc k) = sendingsTo s k ++ (sendingAt s k ∷ [])
 
 abbrev pub sendingsOf : Script → List Sending
-sendingsOf s = sendings (s .lengths) (s .ticks) (s .input)
+sendingsOf s = sendingsTo s (length (s .lengths))
 
 -- what a first byte that was decoded begins on a part, with the input i; and whether the length is one that the command table asks for
 abbrev pub begunAs : Decoded → Part → List ℕ → Work
@@ -132,9 +135,9 @@ jobsIn p (e ∷ w ∷ ss) = jobOf p (w .sent) ∷ jobsIn p ss
 abbrev pub mustRise : ℕ → ℕ → Bool
 mustRise old wanted = not (eqb (narrowedByte old wanted) wanted)
 
--- a sector has 4,096 bytes
+-- a sector's size, which is the same on every part
 abbrev pub sectorBytes : ℕ
-sectorBytes = 4096
+sectorBytes = unitBytes Sector 1
 
 -- some bit of the sector that begins at b must, so that the array xs becomes the image
 abbrev pub mustErase : List ℕ → List ℕ → ℕ → Bool

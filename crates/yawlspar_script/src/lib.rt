@@ -1,12 +1,12 @@
 // Scripts and checks for C, which include/yawlspar.h declares. They are a static library of their own, for the speed of single
 // calls (docs/SPEED.md), and a part of the archive that C links.
 ghost use mathlib.Core.Path.{_≡_};
+ghost use Prim.Native.Nat.{_+_, _*_, _%_, _^_, _≤_};
 ghost use Rattle.record_bytes.specs.Read.{recordIn};
 ghost use Rattle.script.specs.InBytes.{scriptOf, heldScript, scriptBytes};
-ghost use Rattle.yawlspar_script.specs.Face.{scriptAnswer, checkAnswer};
-ghost use Prim.Native.Nat.{_+_, _*_, _%_, _^_, _≤_};
 ghost use Rattle.checker.specs.InBytes.{heldCheck};
 ghost use Rattle.yawlspar.specs.Face.{packed};
+ghost use Rattle.yawlspar_script.specs.Face.{scriptAnswer, checkAnswer};
 use types::Verdict;
 
 // A result has 56 bits above its number.
