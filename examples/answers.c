@@ -48,6 +48,10 @@ static const char *words_of(uint64_t number)
         return "ignored: not an address of a row";
     case YAWLSPAR_PROTECTED:
         return "ignored: protected, locked, being erased, or barred by WP#";
+    case YAWLSPAR_BAD_MAP:
+        return "refused: the map has not one bit for each page";
+    case YAWLSPAR_BAD_PAGE:
+        return "refused: the part has no such page";
     case YAWLSPAR_BAD_IMAGE:
         return "refused: the image is not as long as the array";
     default:
@@ -105,6 +109,14 @@ static uint64_t check_script(size_t image_len)
                           ticks, 1, output, 1, answers, 1, done, 1, image, image_len);
 }
 
+/* A search for a blank page from this one on, in a map of this length. */
+static uint64_t next_blank(size_t map_len, uint64_t page)
+{
+    static const uint8_t map[YAWLSPAR_MAP_BYTES(BLOCKS)];
+
+    return yawlspar_map_next(BLOCKS, map, map_len, page);
+}
+
 /* ---- The numbers ---- */
 
 static void show(uint64_t expected, const char *what, uint64_t result)
@@ -118,7 +130,7 @@ static void show(uint64_t expected, const char *what, uint64_t result)
     }
 }
 
-/* A wrong call is answered 1 to 7, or 38. The part has not seen it, and no byte is changed. */
+/* A wrong call is answered 1 to 7, or 36 to 38. The part has not seen it, and no byte is changed. */
 static void show_refusals(void)
 {
     static const uint8_t enable[] = {0x06};
@@ -188,6 +200,8 @@ int main(void)
     show_refusals();
     show_ways();
     show_protected();
+    show(YAWLSPAR_BAD_MAP, "a map with a byte missing", next_blank(YAWLSPAR_MAP_BYTES(BLOCKS) - 1, 0));
+    show(YAWLSPAR_BAD_PAGE, "page 1,024 of a part of 1,024 pages", next_blank(YAWLSPAR_MAP_BYTES(BLOCKS), 1024));
     show(YAWLSPAR_BAD_IMAGE, "a check with a byte of the image missing", check_script(sizeof array - 1));
     return 0;
 }

@@ -26,14 +26,14 @@ extern "C" {
  * program should check once that both are the same: if YAWLSPAR_MATCHES() is 0, it was compiled with the header
  * of one version and linked to the archive of another, and nothing below holds.
  */
-#define YAWLSPAR_VERSION 1008
+#define YAWLSPAR_VERSION 1009
 uint64_t yawlspar_version(void);
 #define YAWLSPAR_MATCHES() (yawlspar_version() == YAWLSPAR_VERSION)
 
 /*
- * The numbers that a call answers. 0 means that the call was executed. 1 to 7 and 38 are refusals: the call was wrong,
- * and the part has not seen it. A script that answers 3 or 6 stopped at a step that was wrong, and the part has seen
- * what came before. 20 to 28 mean that the part ignored a transaction.
+ * The numbers that a call answers. 0 means that the call was executed. 1 to 7 and 36 to 38 are refusals: the call was
+ * wrong, and the part has not seen it. A script that answers 3 or 6 stopped at a step that was wrong, and the part has
+ * seen what came before. 20 to 28 mean that the part ignored a transaction.
  */
 enum yawlspar_number {
     YAWLSPAR_EXECUTED = 0,
@@ -54,6 +54,8 @@ enum yawlspar_number {
     YAWLSPAR_NO_SUCH_ROW = 27,  /* the address is not that of an information row */
     YAWLSPAR_PROTECTED = 28,    /* protected, locked, in the unit of a suspended erase, a chip erase with a BP bit
                                    set, or barred by WP# */
+    YAWLSPAR_BAD_MAP = 36,      /* the map has not one bit for each page */
+    YAWLSPAR_BAD_PAGE = 37,     /* the part has no page of that number */
     YAWLSPAR_BAD_IMAGE = 38     /* the image is not as long as the array */
 };
 
@@ -126,8 +128,8 @@ uint64_t yawlspar_protected(uint64_t code, uint64_t blocks, uint64_t address);
 uint64_t yawlspar_page_place(uint64_t start, uint64_t index);
 
 /*
- * The five calls. A part's state is a record of YAWLSPAR_RECORD_BYTES bytes that the caller keeps;
- * yawlspar_power_up makes it, and the other four read it and write the next one back. Copying the bytes
+ * The calls. A part's state is a record of YAWLSPAR_RECORD_BYTES bytes that the caller keeps;
+ * yawlspar_power_up makes it, and the others read it and write the next one back. Copying the bytes
  * copies the part. The array, blocks * 65536 bytes, and the four information rows, 1,024 bytes, also belong to
  * the caller.
  *
@@ -141,18 +143,20 @@ uint64_t yawlspar_page_place(uint64_t start, uint64_t index);
  * size.
  *
  * The result r of a call is two numbers in one: YAWLSPAR_NUMBER(r), the answer, 0 for a call that was
- * executed, and above it the place, the count or the step that is described at the call. Of a check it is three: above
- * the number are the verdict and where it is. If several numbers apply, the lowest is the answer, except that a script
- * looks for 7 before 4, and for 3 and 6 at each step, after all others, and that a check looks for 38 right after 1.
- * A call that is refused, with 1 to 7 or 38, leaves every byte of every buffer as it was, and the bits above the number
- * are 0. Only a script that stops at one of its steps, with 3 or 6, has done the steps before it; a check of such a
- * script is not refused, and has done them too.
+ * executed, and above it the place, the count, the step or the page that is described at the call. Of a check it is
+ * three: above the number are the verdict and where it is. If several numbers apply, the lowest is the answer, except
+ * that a script looks for 7 before 4, and for 3 and 6 at each step, after all others, that a check looks for 38 right
+ * after 1, and that a call that is lent a map looks for 36 right after 1.
+ * A call that is refused, with 1 to 7 or 36 to 38, leaves every byte of every buffer as it was, and the bits above the
+ * number are 0. Only a script that stops at one of its steps, with 3 or 6, has done the steps before it; a check of such
+ * a script is not refused, and has done them too.
  */
 #define YAWLSPAR_RECORD_BYTES 322
 #define YAWLSPAR_NUMBER(r) ((r) & 255)
 #define YAWLSPAR_PLACE(r) ((r) >> 8)
 #define YAWLSPAR_TICKS(r) ((r) >> 8)
 #define YAWLSPAR_STEP(r) ((r) >> 8)
+#define YAWLSPAR_PAGE(r) ((r) >> 8)
 #define YAWLSPAR_VERDICT(r) (((r) >> 8) & 255)
 #define YAWLSPAR_WHERE(r) ((r) >> 16)
 
@@ -331,6 +335,104 @@ uint64_t yawlspar_check(uint8_t *record, size_t record_len, uint8_t *array, size
                         const uint16_t *ticks, size_t ticks_len, uint8_t *output, size_t output_len,
                         uint8_t *answers, size_t answers_len, uint16_t *done, size_t done_len,
                         const uint8_t *image, size_t image_len);
+
+/*
+ * The map of blank pages, for a program that looks for pages it can program without an erase. It is a buffer of
+ * YAWLSPAR_MAP_BYTES(blocks) bytes that belongs to the caller, with one bit for each page of 256 bytes, low bit first:
+ * page p, the bytes from p * 256 on, is bit p % 8 of byte p / 8. A part has blocks * 256 pages. A map is right if each
+ * bit is 1 exactly if all bytes of its page are FFh.
+ *
+ * yawlspar_map_rebuild makes the right map of an array. yawlspar_tick_map and yawlspar_script_map keep it: they do what
+ * yawlspar_tick and yawlspar_script do, and of the map they change only bits of pages that a working tick reached. These
+ * are right afterwards, whatever the map held; all other bits are as they were. So a right map stays right, and a wrong
+ * bit stays wrong until a tick reaches its page. A tick of a program reaches the page that it programs, even where it
+ * leaves FFh there, and a tick of an erase the page that it sets. A tick that works on a row or a register reaches no
+ * page of the array.
+ *
+ * A transaction never writes the array: yawlspar_transact leaves a right map right and is not lent one. Whoever changes
+ * the array in another way, by yawlspar_tick, yawlspar_script or yawlspar_check or by hand, makes the map anew.
+ */
+#define YAWLSPAR_MAP_BYTES(blocks) ((blocks) * 32)
+
+/*
+ * Makes the map of an array.
+ *
+ *   blocks   the size of the array in blocks: 1, 4, 8, 16 or 512
+ *   array    blocks * 65536 bytes, which are only read
+ *   map      YAWLSPAR_MAP_BYTES(blocks) bytes, all of which are written. What they held does not matter
+ *
+ * The map does not overlap the array. The number is
+ *   0   if the map was made: it is then right;
+ *   1   if blocks is not 1, 4, 8, 16 or 512, or array_len is not blocks * 65536;
+ *   36  if map_len is not YAWLSPAR_MAP_BYTES(blocks).
+ * The bits above the number are 0.
+ */
+uint64_t yawlspar_map_rebuild(uint64_t blocks, const uint8_t *array, size_t array_len, uint8_t *map, size_t map_len);
+
+/*
+ * Gives the first blank page at or after a page, by the map alone: the first page from it on whose bit is 1.
+ *
+ *   blocks   the size of the array in blocks: 1, 4, 8, 16 or 512
+ *   map      YAWLSPAR_MAP_BYTES(blocks) bytes, which are only read
+ *   page     the page to begin at: below blocks * 256
+ *
+ * The number is
+ *   0   if the question was answered;
+ *   1   if blocks is not 1, 4, 8, 16 or 512;
+ *   36  if map_len is not YAWLSPAR_MAP_BYTES(blocks);
+ *   37  if page is blocks * 256 or more.
+ * YAWLSPAR_PAGE is the page, which may be the given one; or blocks * 256, the number of pages, if the bits of the given
+ * page and of all after it are 0.
+ */
+uint64_t yawlspar_map_next(uint64_t blocks, const uint8_t *map, size_t map_len, uint64_t page);
+
+/*
+ * Time passes, as in yawlspar_tick, and the map is kept.
+ *
+ *   record to ticks   as in yawlspar_tick, in the same order
+ *   map               the map of the array: YAWLSPAR_MAP_BYTES bytes of the record's size
+ *
+ * Record, array, rows and map are written: none of them overlaps another. Record, array and rows end as yawlspar_tick
+ * leaves them, and the result is what it gives, but for 36. These are looked for, in this order, and the first that
+ * applies is the number:
+ *   1   if the array's length is not that of the record's size, or that size is not valid;
+ *   36  if map_len is not YAWLSPAR_MAP_BYTES of that size;
+ *   2   if rows_len is not 1,024;
+ *   5   if the bytes hold no record, or the record is not sound;
+ *   6   if ticks is above 4,096, on a part of 512 blocks above 131,072.
+ * Otherwise it is 0. If the bytes hold no record, there is no size to check, neither by the array nor by the map: the
+ * number is then 2 or 5, whatever the map's length. YAWLSPAR_TICKS is how many of the ticks did work.
+ */
+uint64_t yawlspar_tick_map(uint8_t *record, size_t record_len, uint8_t *array, size_t array_len,
+                           uint8_t *rows, size_t rows_len, uint64_t ticks, uint8_t *map, size_t map_len);
+
+/*
+ * A script, as in yawlspar_script, and the map is kept.
+ *
+ *   record to done   as in yawlspar_script, in the same order
+ *   map              the map of the array: YAWLSPAR_MAP_BYTES bytes of the record's size
+ *
+ * Record, array, rows, output, answers, done and map are written: none of them overlaps another, nor the input, lengths
+ * or ticks. All but the map end as yawlspar_script leaves them, and the result is what it gives, but for 36. Before the
+ * first step these are looked for, in this order, and the first that applies is the number:
+ *   1   if the array's length is not that of the record's size, or that size is not valid;
+ *   36  if map_len is not YAWLSPAR_MAP_BYTES of that size;
+ *   2   if rows_len is not 1,024;
+ *   7   if the four lists differ in length, or the lengths do not add up to input_len;
+ *   4   if output_len is not input_len;
+ *   5   if the bytes hold no record, the record is not sound, or wp_high is neither 0 nor 1.
+ * Nothing is then written, and YAWLSPAR_STEP is 0. If the bytes hold no record, there is no size to check, neither by the
+ * array nor by the map: the number is then 2, 7, 4 or 5, whatever the map's length.
+ *
+ * Otherwise the steps are done in turn, each of them yawlspar_transact and then yawlspar_tick_map. Where the script stops
+ * at a step, with 3 or 6, the map has what the ticks before the stop made of it.
+ */
+uint64_t yawlspar_script_map(uint8_t *record, size_t record_len, uint8_t *array, size_t array_len,
+                             uint8_t *rows, size_t rows_len, uint64_t wp_high, const uint8_t *input,
+                             size_t input_len, const uint16_t *lengths, size_t lengths_len,
+                             const uint16_t *ticks, size_t ticks_len, uint8_t *output, size_t output_len,
+                             uint8_t *answers, size_t answers_len, uint16_t *done, size_t done_len,
+                             uint8_t *map, size_t map_len);
 
 #ifdef __cplusplus
 }

@@ -1,15 +1,15 @@
 /*
- * Times the functions of yawlspar.h beside the reference model, and beside memcpy and memset where those move
- * the same bytes. All of it runs in one process on the same memory.
+ * Times the functions of yawlspar.h beside the reference model, and beside memcpy, memset or a plain loop where those
+ * do the same with the same bytes. All of it runs in one process on the same memory.
  *
  *   perf                        print the table
  *   perf list                   print each job's number, its sides and its name
  *   perf run JOB SIDE TIMES     set up, do the job TIMES times on one side, and end: for counting instructions
  *
- * A job is a driver's errand: one call, or the calls that belong together; 64 calls beside a script of the same; and a
- * check of a script beside that script with memcmp after it.
- * The sides are model, reference and bytes, which is memcpy or memset. The numbers are no test: the exit status is 0
- * whatever they are.
+ * A job is a driver's errand: one call, or the calls that belong together; 64 calls beside a script of the same; a
+ * check of a script beside that script with memcmp after it; and writes with a map of blank pages beside those without.
+ * The sides are model, reference and bytes, which is memcpy, memset or the plain loop. The numbers are no test: the exit
+ * status is 0 whatever they are.
  */
 #include <stdbool.h>
 #include <stddef.h>
@@ -46,6 +46,7 @@ extern int clock_gettime(int clock, struct timespec *time);
 static uint8_t record[YAWLSPAR_RECORD_BYTES];
 static struct part part;
 static uint8_t array[BLOCKS_MOST * REF_BLOCK], rows[REF_ROWS];
+static uint8_t map[YAWLSPAR_MAP_BYTES(BLOCKS_MOST)];
 static uint8_t input[REF_MOST], output[REF_MOST];
 static uint16_t lengths[STEPS], ticks_asked[STEPS], ticks_done[STEPS];
 static uint8_t answers[STEPS];
@@ -160,17 +161,65 @@ static uint64_t reference_check(void)
     return (uint64_t)number + 256 * (uint64_t)verdict + 65536 * (uint64_t)where;
 }
 
+static size_t map_length(void)
+{
+    return YAWLSPAR_MAP_BYTES(array_length / REF_BLOCK);
+}
+
+static uint64_t model_tick_map(uint32_t ticks)
+{
+    return YAWLSPAR_TICKS(yawlspar_tick_map(record, sizeof record, array, array_length, rows, sizeof rows, ticks, map,
+                                            map_length()));
+}
+
+static uint64_t reference_tick_map(uint32_t ticks)
+{
+    uint32_t worked;
+
+    ref_tick_map(&part, array, array_length, rows, sizeof rows, ticks, &worked, map, map_length());
+    return worked;
+}
+
+static uint64_t model_rebuild(void)
+{
+    return yawlspar_map_rebuild(array_length / REF_BLOCK, array, array_length, map, map_length());
+}
+
+static uint64_t reference_rebuild(void)
+{
+    return (uint64_t)ref_map_rebuild(array_length / REF_BLOCK, array, array_length, map, map_length());
+}
+
+/* Gives the page. */
+static uint64_t model_next(uint64_t page)
+{
+    return YAWLSPAR_PAGE(yawlspar_map_next(array_length / REF_BLOCK, map, map_length(), page));
+}
+
+static uint64_t reference_next(uint64_t page)
+{
+    uint32_t next;
+
+    ref_map_next(array_length / REF_BLOCK, map, map_length(), page, &next);
+    return next;
+}
+
 struct one_model {
     uint64_t (*transact)(size_t length);
     uint64_t (*tick)(uint32_t ticks);
     uint64_t (*script)(size_t length);
     uint64_t (*flash)(void);
     uint64_t (*check)(void);
+    uint64_t (*tick_map)(uint32_t ticks);
+    uint64_t (*rebuild)(void);
+    uint64_t (*next)(uint64_t page);
 };
 
-static const struct one_model the_model = {model_transact, model_tick, model_script, model_flash, model_check};
-static const struct one_model the_reference = {reference_transact, reference_tick, reference_script, reference_flash,
-                                               reference_check};
+static const struct one_model the_model = {model_transact, model_tick,     model_script,  model_flash,
+                                           model_check,    model_tick_map, model_rebuild, model_next};
+static const struct one_model the_reference = {reference_transact, reference_tick,     reference_script,
+                                               reference_flash,    reference_check,    reference_tick_map,
+                                               reference_rebuild,  reference_next};
 
 /* ---- Jobs ---- */
 
@@ -235,6 +284,11 @@ static void add_write(uint8_t code, uint32_t address, const uint8_t *data, size_
     flash_bytes += 5 + count;
 }
 
+static uint32_t following(uint32_t number)
+{
+    return number * 1664525 + 1013904223;
+}
+
 /* An array of any bytes, and an image of any bytes but FFh: every sector is erased, and every page programmed whole. The
  * first job leaves the image, and those after it find it there: they do the same. */
 static void begin_flash(const struct one_model *on)
@@ -243,7 +297,7 @@ static void begin_flash(const struct one_model *on)
 
     (void)on;
     for (i = 0; i < REF_BLOCK; i++) {
-        number = number * 1664525 + 1013904223;
+        number = following(number);
         array[i] = (uint8_t)(number >> 24);
         flash.image[i] = (uint8_t)((number >> 8) % 255);
     }
@@ -395,7 +449,7 @@ static void enter_far(const struct one_model *on)
     must_be(on->transact(1), 0);
 }
 
-static void write_job(const struct one_model *on, size_t length, uint32_t ticks)
+static void start_write(const struct one_model *on, size_t length)
 {
     uint8_t code = input[0];
 
@@ -403,13 +457,32 @@ static void write_job(const struct one_model *on, size_t length, uint32_t ticks)
     must_be(on->transact(1), 0);
     input[0] = code;
     must_be(on->transact(length), 0);
+}
+
+static void write_job(const struct one_model *on, size_t length, uint32_t ticks)
+{
+    start_write(on, length);
     must_be(on->tick(ticks), ticks);
+}
+
+/* The same, and the map is kept. */
+static void write_map_job(const struct one_model *on, size_t length, uint32_t ticks)
+{
+    start_write(on, length);
+    must_be(on->tick_map(ticks), ticks);
 }
 
 static void program_job(const struct one_model *on)
 {
     put(0x02, 0x001200);
     write_job(on, 260, 256);
+}
+
+/* FFh is programmed over FFh: all of the page is looked at. */
+static void program_map_job(const struct one_model *on)
+{
+    put(0x02, 0x001200);
+    write_map_job(on, 260, 256);
 }
 
 static void far_program_job(const struct one_model *on)
@@ -422,6 +495,12 @@ static void sector_job(const struct one_model *on)
 {
     put(0xD7, 0x002000);
     write_job(on, 4, 16);
+}
+
+static void sector_map_job(const struct one_model *on)
+{
+    put(0xD7, 0x002000);
+    write_map_job(on, 4, 16);
 }
 
 static void sector_steps_job(const struct one_model *on)
@@ -440,6 +519,96 @@ static void chip_job(const struct one_model *on)
 {
     input[0] = 0xC7;
     write_job(on, 1, (uint32_t)(array_length / REF_PAGE));
+}
+
+static void chip_map_job(const struct one_model *on)
+{
+    input[0] = 0xC7;
+    write_map_job(on, 1, (uint32_t)(array_length / REF_PAGE));
+}
+
+/* ---- Maps of blank pages ---- */
+
+#define FROM_PAGE 3  /* a query begins here */
+#define NEAR_PAGE 20 /* and finds this page, or none */
+
+static void begin_map(const struct one_model *on)
+{
+    must_be(on->rebuild(), 0);
+}
+
+static void begin_any_bytes(const struct one_model *on)
+{
+    uint32_t number = 1;
+    size_t i;
+
+    (void)on;
+    for (i = 0; i < array_length; i++) {
+        number = following(number);
+        array[i] = (uint8_t)(number >> 24);
+    }
+}
+
+static void begin_full_map(const struct one_model *on)
+{
+    memset(array, 0x00, array_length);
+    begin_map(on);
+}
+
+static void begin_near_map(const struct one_model *on)
+{
+    memset(array, 0x00, array_length);
+    memset(array + NEAR_PAGE * REF_PAGE, 0xFF, REF_PAGE);
+    begin_map(on);
+}
+
+static void rebuild_job(const struct one_model *on)
+{
+    must_be(on->rebuild(), 0);
+}
+
+static void next_none_job(const struct one_model *on)
+{
+    must_be(on->next(FROM_PAGE), array_length / REF_PAGE);
+}
+
+static void next_near_job(const struct one_model *on)
+{
+    must_be(on->next(FROM_PAGE), NEAR_PAGE);
+}
+
+/* The plain loop: each page is compared with a blank one. */
+static void rebuild_bytes(void)
+{
+    static uint8_t blank[REF_PAGE];
+    size_t page;
+
+    memset(blank, 0xFF, sizeof blank);
+    memset(map, 0, map_length());
+    for (page = 0; page < array_length / REF_PAGE; page++)
+        if (memcmp(array + page * REF_PAGE, blank, sizeof blank) == 0)
+            map[page / 8] |= (uint8_t)(1u << page % 8);
+}
+
+/* The plain loop: bytes that are 0 are passed over, and in the others the bits are looked at one by one. */
+static size_t plain_next(size_t page)
+{
+    while (page < 8 * map_length()) {
+        if ((map[page / 8] >> page % 8 & 1) != 0)
+            break;
+        page = map[page / 8] == 0 ? (page / 8 + 1) * 8 : page + 1;
+    }
+    return page;
+}
+
+static void next_none_bytes(void)
+{
+    must_be(plain_next(FROM_PAGE), array_length / REF_PAGE);
+}
+
+static void next_near_bytes(void)
+{
+    must_be(plain_next(FROM_PAGE), NEAR_PAGE);
 }
 
 /* The calls go through pointers, so that the compiler cannot leave one out. */
@@ -503,6 +672,13 @@ static const struct job jobs[] = {
     {"06h, D7h, 16 ticks, 16 blocks", 16, 4096, NULL, sector_job, sector_bytes},
     {"06h, D7h, 16 times 1 tick", 16, 4096, NULL, sector_steps_job, NULL},
     {"06h, C7h, 4,096 ticks, 16 blocks", 16, 1048576, NULL, chip_job, chip_bytes},
+    {"06h, 02h, 256 ticks, with a map", 16, 256, begin_map, program_map_job, NULL},
+    {"06h, D7h, 16 ticks, with a map", 16, 4096, begin_map, sector_map_job, sector_bytes},
+    {"06h, C7h, 4,096 ticks, with a map", 16, 1048576, begin_map, chip_map_job, chip_bytes},
+    {"rebuild of a map, blank, 16 blocks", 16, 1048576, NULL, rebuild_job, rebuild_bytes},
+    {"rebuild of a map, random, 16 blocks", 16, 1048576, begin_any_bytes, rebuild_job, rebuild_bytes},
+    {"next blank page, none, 16 blocks", 16, 512, begin_full_map, next_none_job, next_none_bytes},
+    {"next blank page, near, 16 blocks", 16, 3, begin_near_map, next_near_job, next_near_bytes},
     {"05h of 2 bytes, 512 blocks", 512, 1, NULL, status_job, NULL},
     {"03h of 4,096 bytes, 512 blocks", 512, 4092, NULL, read_job, read_bytes},
     {"13h of 4,096 bytes, 512 blocks", 512, 4091, NULL, far_read_job, far_read_bytes},

@@ -16,7 +16,7 @@ struct side model, reference, single;
 struct part part;
 uint8_t message[MESSAGE_ROOM];
 struct script script;
-uint64_t calls, scripts, script_steps, checks, check_steps;
+uint64_t calls, scripts, script_steps, checks, check_steps, map_calls;
 
 static const char *run_name;
 static uint64_t run_seed, run_calls;
@@ -65,21 +65,39 @@ static void tell_list(const char *name, const uint16_t *list, size_t length)
 static void tell_script(const struct call *call)
 {
     printf("yawlspar_%s(record of %zu, array of %zu, rows of %zu, wp_high %llu, ",
-           call->kind == CHECK ? "check" : "script", call->record, call->array, call->rows,
-           (unsigned long long)call->wp_high);
+           call->kind == CHECK ? "check" : call->kind == SCRIPT_MAP ? "script_map" : "script", call->record,
+           call->array, call->rows, (unsigned long long)call->wp_high);
     tell_input(script.input, call->input);
     tell_list("lengths", script.lengths, call->lengths);
     tell_list("ticks", script.ticks, call->tick_counts);
     printf("output of %zu, answers of %zu, done of %zu", call->output, call->answers, call->done);
     if (call->kind == CHECK)
         printf(", image of %zu", call->image);
+    if (call->kind == SCRIPT_MAP)
+        printf(", map of %zu", call->map);
     printf(")\n");
 }
 
 static void tell_tick(const struct call *call)
 {
-    printf("yawlspar_tick(record of %zu, array of %zu, rows of %zu, ticks %llu)\n", call->record, call->array,
-           call->rows, (unsigned long long)call->ticks);
+    printf("yawlspar_%s(record of %zu, array of %zu, rows of %zu, ticks %llu",
+           call->kind == TICK_MAP ? "tick_map" : "tick", call->record, call->array, call->rows,
+           (unsigned long long)call->ticks);
+    if (call->kind == TICK_MAP)
+        printf(", map of %zu", call->map);
+    printf(")\n");
+}
+
+static void tell_rebuild(const struct call *call)
+{
+    printf("yawlspar_map_rebuild(blocks %llu, array of %zu, map of %zu)\n", (unsigned long long)call->blocks,
+           call->array, call->map);
+}
+
+static void tell_next(const struct call *call)
+{
+    printf("yawlspar_map_next(blocks %llu, map of %zu, page %llu)\n", (unsigned long long)call->blocks, call->map,
+           (unsigned long long)call->page);
 }
 
 static void tell(const struct call *call)
@@ -95,7 +113,14 @@ static void tell(const struct call *call)
         break;
     case SCRIPT:
     case CHECK:
+    case SCRIPT_MAP:
         tell_script(call);
+        break;
+    case MAP_REBUILD:
+        tell_rebuild(call);
+        break;
+    case MAP_NEXT:
+        tell_next(call);
         break;
     default:
         tell_tick(call);
@@ -242,6 +267,7 @@ void begin_run(const char *name, uint64_t seed, uint32_t blocks)
     memset(&part, 0, sizeof part);
     memset(message, 0, sizeof message);
     model.image = reference.image = single.image = NULL;
+    model.map = reference.map = single.map = NULL;
     make_side(&model, 0, seed);
     make_side(&reference, 1, seed);
     fill(model.array, blocks * REF_BLOCK, &chance);
@@ -269,12 +295,26 @@ void begin_images(void)
     single.image = reference.image;
 }
 
+void begin_maps(void)
+{
+    static uint8_t maps[2][MAP_ROOM + AROUND];
+
+    model.map = place_in(maps[0], MAP_ROOM, (uint32_t)(run_seed * 5 % SKEWS));
+    reference.map = place_in(maps[1], MAP_ROOM, (uint32_t)(run_seed * 5 % SKEWS));
+    single.map = reference.map;
+}
+
 /* ---- Comparing ---- */
 
 /* A script or a check of one. */
 static bool has_steps(const struct call *call)
 {
-    return call->kind == SCRIPT || call->kind == CHECK;
+    return call->kind == SCRIPT || call->kind == CHECK || call->kind == SCRIPT_MAP;
+}
+
+static bool is_tick(const struct call *call)
+{
+    return call->kind == TICK || call->kind == TICK_MAP;
 }
 
 /* Compares `length` bytes from `from` on, and tells the first difference. `whole` is the buffer's lent length. */
@@ -323,9 +363,16 @@ static void same_list(const struct call *call, const char *what, const uint16_t 
     same_buffer(call, what, (const uint8_t *)got, (const uint8_t *)expected, 2 * length, 0);
 }
 
+static size_t map_length(void)
+{
+    return YAWLSPAR_MAP_BYTES((size_t)run_blocks);
+}
+
 static void same_but_array(const struct call *call)
 {
     same_buffer(call, "rows", model.rows, reference.rows, call->rows, REF_ROWS);
+    if (model.map != NULL)
+        same_buffer(call, "map", model.map, reference.map, call->map, map_length());
     if (call->kind == TRANSACT || has_steps(call)) {
         same_buffer(call, "input", model.input, reference.input, call->input, 0);
         same_buffer(call, "output", model.output, reference.output, call->output, 0);
@@ -360,7 +407,7 @@ void same_record(const struct call *call)
  * larger arrays are compared more rarely, so that each size costs the same. */
 static bool whole_is_due(const struct call *call, uint64_t expected)
 {
-    return is_refusal(expected) || has_steps(call) || (call->kind == TICK && YAWLSPAR_TICKS(expected) > 0) ||
+    return is_refusal(expected) || has_steps(call) || (is_tick(call) && YAWLSPAR_TICKS(expected) > 0) ||
            run_calls % run_blocks == 0;
 }
 
@@ -424,7 +471,7 @@ static void same_window(const struct call *call)
 
 static void compare_large_array(const struct call *call, const struct part *before, uint64_t expected)
 {
-    bool worked = has_steps(call) || (call->kind == TICK && YAWLSPAR_TICKS(expected) > 0);
+    bool worked = has_steps(call) || (is_tick(call) && YAWLSPAR_TICKS(expected) > 0);
 
     same_window(call);
     if (worked && is_on_array(&before->op))
@@ -554,10 +601,14 @@ static uint64_t expect_five(const struct call *call)
     return call->output != call->input ? 4 : 5;
 }
 
-/* A level that is neither 0 nor 1 is a 5, and the record's size is judged first. */
+/* A level that is neither 0 nor 1 is a 5, and what goes by the record's size is judged first: 1, and of a map 36. */
 static uint64_t expect_bad_level(const struct call *call)
 {
-    return call->array != (size_t)part.size * REF_BLOCK ? 1 : expect_five(call);
+    if (call->array != (size_t)part.size * REF_BLOCK)
+        return 1;
+    if (call->kind == SCRIPT_MAP && call->map != YAWLSPAR_MAP_BYTES((size_t)part.size))
+        return 36;
+    return expect_five(call);
 }
 
 static uint64_t expect_transact(const struct call *call)
@@ -581,7 +632,11 @@ static uint64_t expect_tick(const struct call *call)
 
     if (!holds_record(call))
         return call->rows != REF_ROWS ? 2 : 5;
-    number = ref_tick(&part, reference.array, call->array, reference.rows, call->rows, ticks, &worked);
+    if (call->kind == TICK_MAP)
+        number = ref_tick_map(&part, reference.array, call->array, reference.rows, call->rows, ticks, &worked,
+                              reference.map, call->map);
+    else
+        number = ref_tick(&part, reference.array, call->array, reference.rows, call->rows, ticks, &worked);
     return (uint64_t)number + 256 * (uint64_t)worked;
 }
 
@@ -594,10 +649,16 @@ static uint64_t expect_script(const struct call *call)
         return expect_five(call);
     if (call->wp_high > 1)
         return expect_bad_level(call);
-    number = ref_script(&part, reference.array, call->array, reference.rows, call->rows, call->wp_high == 1,
-                        reference.input, call->input, reference.lengths, call->lengths, reference.ticks,
-                        call->tick_counts, reference.output, call->output, reference.answers, call->answers,
-                        reference.done, call->done, &at);
+    if (call->kind == SCRIPT_MAP)
+        number = ref_script_map(&part, reference.array, call->array, reference.rows, call->rows, call->wp_high == 1,
+                                reference.input, call->input, reference.lengths, call->lengths, reference.ticks,
+                                call->tick_counts, reference.output, call->output, reference.answers, call->answers,
+                                reference.done, call->done, &at, reference.map, call->map);
+    else
+        number = ref_script(&part, reference.array, call->array, reference.rows, call->rows, call->wp_high == 1,
+                            reference.input, call->input, reference.lengths, call->lengths, reference.ticks,
+                            call->tick_counts, reference.output, call->output, reference.answers, call->answers,
+                            reference.done, call->done, &at);
     return (uint64_t)number + 256 * (uint64_t)at;
 }
 
@@ -618,6 +679,19 @@ static uint64_t expect_check(const struct call *call)
     return (uint64_t)number + 256 * (uint64_t)verdict + 65536 * (uint64_t)where;
 }
 
+static uint64_t expect_rebuild(const struct call *call)
+{
+    return (uint64_t)ref_map_rebuild(call->blocks, reference.array, call->array, reference.map, call->map);
+}
+
+static uint64_t expect_next(const struct call *call)
+{
+    uint32_t next;
+    int number = ref_map_next(call->blocks, reference.map, call->map, call->page, &next);
+
+    return (uint64_t)number + 256 * (uint64_t)next;
+}
+
 static uint64_t expect(const struct call *call)
 {
     switch (call->kind) {
@@ -626,9 +700,14 @@ static uint64_t expect(const struct call *call)
     case TRANSACT:
         return expect_transact(call);
     case SCRIPT:
+    case SCRIPT_MAP:
         return expect_script(call);
     case CHECK:
         return expect_check(call);
+    case MAP_REBUILD:
+        return expect_rebuild(call);
+    case MAP_NEXT:
+        return expect_next(call);
     default:
         return expect_tick(call);
     }
@@ -638,7 +717,9 @@ static uint64_t expect(const struct call *call)
 
 bool is_refusal(uint64_t result)
 {
-    return (YAWLSPAR_NUMBER(result) >= 1 && YAWLSPAR_NUMBER(result) <= 7) || YAWLSPAR_NUMBER(result) == 38;
+    uint64_t number = YAWLSPAR_NUMBER(result);
+
+    return (number >= 1 && number <= 7) || (number >= 36 && number <= 38);
 }
 
 struct call fitting(enum call_kind kind)
@@ -647,12 +728,12 @@ struct call fitting(enum call_kind kind)
                         .record = YAWLSPAR_RECORD_BYTES,
                         .array = array_length(),
                         .rows = REF_ROWS,
-                        .input = kind == SCRIPT || kind == CHECK ? 0 : 1,
-                        .output = kind == SCRIPT || kind == CHECK ? 0 : 1,
                         .image = array_length(),
+                        .map = map_length(),
                         .wp_high = 1,
                         .blocks = run_blocks};
 
+    call.input = call.output = has_steps(&call) ? 0 : 1;
     return call;
 }
 
@@ -681,6 +762,23 @@ uint64_t call_model(const struct side *side, const struct call *call)
                               call->wp_high, side->input, call->input, side->lengths, call->lengths, side->ticks,
                               call->tick_counts, side->output, call->output, side->answers, call->answers, side->done,
                               call->done, side->image, call->image);
+    case MAP_REBUILD:
+        map_calls++;
+        return yawlspar_map_rebuild(call->blocks, side->array, call->array, side->map, call->map);
+    case MAP_NEXT:
+        map_calls++;
+        return yawlspar_map_next(call->blocks, side->map, call->map, call->page);
+    case TICK_MAP:
+        map_calls++;
+        return yawlspar_tick_map(side->record, call->record, side->array, call->array, side->rows, call->rows,
+                                 call->ticks, side->map, call->map);
+    case SCRIPT_MAP:
+        map_calls++;
+        script_steps += call->lengths;
+        return yawlspar_script_map(side->record, call->record, side->array, call->array, side->rows, call->rows,
+                                   call->wp_high, side->input, call->input, side->lengths, call->lengths, side->ticks,
+                                   call->tick_counts, side->output, call->output, side->answers, call->answers,
+                                   side->done, call->done, side->map, call->map);
     default:
         return yawlspar_tick(side->record, call->record, side->array, call->array, side->rows, call->rows,
                              call->ticks);

@@ -2,8 +2,8 @@
  * The functions of yawlspar.h and the reference model, run in step.
  *
  * Each call is made of both, on memory of its own for each, and the two are compared: the result, every
- * byte of the output, the array and the rows, and of a script every entry of its lists. Guard bytes stand
- * around each buffer. At the first difference the program tells the call and what differs, and ends with
+ * byte of the output, the array, the rows and the map, and of a script every entry of its lists. Guard bytes
+ * stand around each buffer. At the first difference the program tells the call and what differs, and ends with
  * status 1.
  *
  * An array of 512 blocks is compared in part after most calls, and whole when a run ends: see both.c.
@@ -23,19 +23,22 @@
 #define RECORD_ROOM (YAWLSPAR_RECORD_BYTES + 64u)
 #define ARRAY_ROOM ((REF_LARGE + 1u) * REF_BLOCK)
 #define ROWS_ROOM (2u * REF_ROWS)
+#define MAP_ROOM YAWLSPAR_MAP_BYTES(REF_LARGE + 1u)
 #define MESSAGE_ROOM (2u * REF_MOST)
 #define SCRIPT_ROOM (1u << 20) /* bytes of a script's input */
 #define STEPS_ROOM 66000u      /* entries of its lists: more than 16 bits count */
 
-enum call_kind { POWER_UP, TRANSACT, TICK, SCRIPT, CHECK };
+enum call_kind { POWER_UP, TRANSACT, TICK, SCRIPT, CHECK, MAP_REBUILD, MAP_NEXT, TICK_MAP, SCRIPT_MAP };
 
 /* One call, with the lengths that it is lent. The input's bytes are those of `message`; a script's are those of
- * `script`, with its lists, and so are a check's. */
+ * `script`, with its lists, and so are a check's and those of a script that is lent a map. */
 struct call {
     enum call_kind kind;
     size_t record, array, rows, input, output;
     size_t lengths, tick_counts, answers, done; /* entries of a script's lists */
     size_t image;                               /* of a check */
+    size_t map;
+    uint64_t page; /* where a query begins */
     uint64_t wp_high;
     uint64_t ticks;
     uint64_t blocks, maker, type, capacity, device, status, function, extended;
@@ -46,12 +49,13 @@ struct side {
     uint8_t *record, *array, *rows, *input, *output, *answers;
     uint16_t *lengths, *ticks, *done;
     uint8_t *image; /* none before begin_images */
+    uint8_t *map;   /* none before begin_maps */
 };
 
 /* The reference's side keeps the record's bytes as they were before the call. Where all calls are made of the model
  * alone, the two sides are two parts: see writes.h. The side `single` is for calls that the model makes one by one
- * where it also makes a script of them, and for scripts that it makes where it also checks them: see scripts.c and
- * check.c. It has the reference's image. */
+ * where it also makes a script of them, for scripts that it makes where it also checks them, and for calls without a
+ * map where it also makes them with one: see scripts.c, check.c and maps.c. It has the reference's image and map. */
 extern struct side model, reference, single;
 
 /* The reference's record. Its size is 0 as long as there was no power-up: the record's bytes are then junk. */
@@ -64,9 +68,9 @@ extern struct script {
     uint16_t lengths[STEPS_ROOM], ticks[STEPS_ROOM];
 } script;
 
-/* How many calls were made of the model and compared; how many of them were scripts, and the steps that these had; and
- * the same of checks. */
-extern uint64_t calls, scripts, script_steps, checks, check_steps;
+/* How many calls were made of the model and compared; how many of them were scripts, and the steps that these had; the
+ * same of checks; and how many were lent a map. */
+extern uint64_t calls, scripts, script_steps, checks, check_steps, map_calls;
 
 /* What the program calls itself in a report. Each program has its own. */
 extern const char *const program_name;
@@ -82,6 +86,9 @@ void begin_single(void);
 /* Makes the images, with the model's array in them. What changes an image later has to change both. */
 void begin_images(void);
 
+/* Makes the maps, with junk in them. What changes a map later has to change both. */
+void begin_maps(void);
+
 /* Fills stored bytes: with FFh, or with any. */
 void fill(uint8_t *bytes, size_t length, struct chance *chance);
 
@@ -89,7 +96,7 @@ void fill(uint8_t *bytes, size_t length, struct chance *chance);
 void end_run(void);
 
 /* A call with the right lengths: a transaction with WP# high and one byte, 0 ticks, a power-up with zeros, a script or a
- * check of no steps with WP# high. */
+ * check of no steps with WP# high, a query from page 0. */
 struct call fitting(enum call_kind kind);
 
 /* Makes the call of both and compares. Gives the result. */
@@ -98,7 +105,7 @@ uint64_t step(const struct call *call);
 /* Makes the call of the model alone, on the memory of a side. */
 uint64_t call_model(const struct side *side, const struct call *call);
 
-/* The number of a result is one of the refusals 1 to 7 and 38. */
+/* The number of a result is one of the refusals 1 to 7 and 36 to 38. */
 bool is_refusal(uint64_t result);
 
 /* A script's four lists have one length, and its lengths add up to its input's. */

@@ -771,11 +771,7 @@ static void each_harmless(void)
 
 static void begin_with(const void *sent, size_t length, uint32_t ticks)
 {
-    struct call call = fitting(TRANSACT);
-
-    memcpy(message, sent, length);
-    call.input = call.output = length;
-    make_call(&call);
+    make_transaction(sent, length);
     make_ticks(ticks);
 }
 
@@ -1487,11 +1483,6 @@ static void right_and_wrong(uint64_t seed, uint32_t blocks)
 
 /* ---- Random scripts ---- */
 
-static uint64_t level;      /* of WP#, in the script that is being put together */
-static size_t steps_enough; /* it is run when it has so many */
-
-#define BYTES_ENOUGH 200000u
-
 static void begin_random(void)
 {
     begin_sides();
@@ -1532,11 +1523,7 @@ static void run_steps(void)
 
 static void check_send(bool wp_high, const uint8_t *sent, size_t length)
 {
-    if (steps >= steps_enough || bytes + length > BYTES_ENOUGH)
-        run_steps();
-    if (steps == 0)
-        level = wp_high;
-    add(sent, length, 0);
+    gather(wp_high, sent, length, run_steps);
     if (one_in(300))
         add_long(0x05, one_in(2) ? 0 : 2, 4097);
 }

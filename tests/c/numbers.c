@@ -2,7 +2,7 @@
  * Compares the five functions of yawlspar.h that are on numbers alone with their rules, which are
  * written out here in C. Those of the protection question are also compared with the block table,
  * which is worked out by hand, with the reference model, and with one another. And the archive's
- * version is the header's, and the header's macros take a result apart.
+ * version is the header's, the header's macros take a result apart, and a map has a bit for each page.
  *
  * It prints the first differences, if there are any, and then one line with the number of
  * comparisons and of differences. The exit status is 0 if there is no difference, and else 1.
@@ -482,7 +482,7 @@ static void part_is(const char *macro, uint64_t result, uint64_t got, uint64_t w
 /* The number has 8 bits. What is above it is one number, or in a check a verdict of 8 bits and a number of 48. */
 static void results(void)
 {
-    static const uint64_t numbers[] = {0, 1, 7, 28, 38, 255}, verdicts[] = {0, 1, 2, 255};
+    static const uint64_t numbers[] = {0, 1, 7, 28, 36, 37, 38, 255}, verdicts[] = {0, 1, 2, 255};
     static const uint64_t wheres[] = {0, 1, 255, 256, 65535, 65536, 33554431, TWO_TO(32), TWO_TO(48) - 1};
     for (uint64_t i = 0; i < COUNT(numbers); i++)
         for (uint64_t j = 0; j < COUNT(verdicts); j++)
@@ -492,6 +492,7 @@ static void results(void)
                 part_is("YAWLSPAR_PLACE", result, YAWLSPAR_PLACE(result), above);
                 part_is("YAWLSPAR_TICKS", result, YAWLSPAR_TICKS(result), above);
                 part_is("YAWLSPAR_STEP", result, YAWLSPAR_STEP(result), above);
+                part_is("YAWLSPAR_PAGE", result, YAWLSPAR_PAGE(result), above);
                 part_is("YAWLSPAR_VERDICT", result, YAWLSPAR_VERDICT(result), verdicts[j]);
                 part_is("YAWLSPAR_WHERE", result, YAWLSPAR_WHERE(result), wheres[k]);
             }
@@ -500,10 +501,19 @@ static void results(void)
     part_is("YAWLSPAR_VERDICT", 0, YAWLSPAR_VERDICT(UINT64_C(0)), YAWLSPAR_YES);
 }
 
+/* One bit for each page of 256 bytes. */
+static void lengths_of_maps(void)
+{
+    static const uint64_t sizes[] = {1, 4, 8, 16, LARGE}, wanted[] = {32, 128, 256, 512, 16384};
+    for (uint64_t i = 0; i < COUNT(sizes); i++)
+        part_is("YAWLSPAR_MAP_BYTES", sizes[i], YAWLSPAR_MAP_BYTES(sizes[i]), wanted[i]);
+}
+
 int main(void)
 {
     version();
     results();
+    lengths_of_maps();
     fixed_cases();
     protection();
     protected_blocks();

@@ -779,11 +779,6 @@ void directed_scripts(void)
 
 /* ---- Random scripts ---- */
 
-static uint64_t level;      /* of WP#, in the script that is being put together: that of its first step */
-static size_t steps_enough; /* it is run when it has so many */
-
-#define BYTES_ENOUGH 200000u
-
 static void begin_scripts(void)
 {
     begin_single();
@@ -826,11 +821,7 @@ static void add_wrong_step(void)
 
 static void script_send(bool wp_high, const uint8_t *sent, size_t length)
 {
-    if (steps >= steps_enough || bytes + length > BYTES_ENOUGH)
-        run_steps();
-    if (steps == 0)
-        level = wp_high;
-    add(sent, length, 0);
+    gather(wp_high, sent, length, run_steps);
     if (one_in(400))
         add_wrong_step();
 }

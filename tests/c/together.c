@@ -68,6 +68,15 @@ void make_call(const struct call *call)
         fail_result(call, got, again);
 }
 
+void make_transaction(const void *sent, size_t length)
+{
+    struct call call = fitting(TRANSACT);
+
+    memcpy(message, sent, length);
+    call.input = call.output = length;
+    make_call(&call);
+}
+
 void make_ticks(uint32_t ticks)
 {
     struct call call = fitting(TICK);
@@ -123,10 +132,21 @@ static void spoil_image(struct call *call, uint32_t which)
         call->image++;
 }
 
+/* The map is longer or shorter by one, it is empty, or that of another size. */
+static void spoil_map(struct call *call, uint32_t which)
+{
+    static const uint32_t sizes[] = {0, 1, 4, 8, 16, REF_LARGE};
+    size_t other = YAWLSPAR_MAP_BYTES((size_t)sizes[which / 3 % COUNT(sizes)]);
+
+    call->map = which % 3 == 2 && other != call->map ? other : by_one(call->map, which);
+}
+
 void spoil_call(struct call *call, uint32_t faults, uint32_t which)
 {
     if ((faults & ARRAY) != 0)
         call->array = by_one(call->array, which);
+    if ((faults & MAP) != 0)
+        spoil_map(call, which);
     call->image = call->array;
     if ((faults & IMAGE) != 0)
         spoil_image(call, which);
@@ -146,6 +166,8 @@ uint64_t refused_with(uint32_t faults, bool record)
 {
     if (record && (faults & ARRAY) != 0)
         return 1;
+    if (record && (faults & MAP) != 0)
+        return 36;
     if ((faults & IMAGE) != 0)
         return 38;
     if ((faults & ROWS) != 0)
@@ -162,4 +184,20 @@ size_t no_record_length(uint32_t which)
     static const size_t lengths[] = {0, 1, YAWLSPAR_RECORD_BYTES - 1, YAWLSPAR_RECORD_BYTES + 1, RECORD_ROOM};
 
     return lengths[which % COUNT(lengths)];
+}
+
+/* ---- Steps of random traffic ---- */
+
+#define BYTES_ENOUGH 200000u
+
+uint64_t level;
+size_t steps_enough;
+
+void gather(bool wp_high, const uint8_t *sent, size_t length, void (*run_steps)(void))
+{
+    if (steps >= steps_enough || bytes + length > BYTES_ENOUGH)
+        run_steps();
+    if (steps == 0)
+        level = wp_high;
+    add(sent, length, 0);
 }

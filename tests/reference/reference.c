@@ -957,8 +957,66 @@ static void one_tick(struct part *part, uint8_t *array, uint8_t *rows)
         make_idle(part);
 }
 
-int ref_tick(struct part *part, uint8_t *array, size_t array_length, uint8_t *rows,
-             size_t rows_length, uint32_t ticks, uint32_t *worked)
+/* Request 12 of 02: each page has a bit in the map, low bit first. */
+static void set_bit(uint8_t *map, uint32_t page, bool bit)
+{
+    uint8_t in_its_byte = (uint8_t)(1u << (page % 8));
+
+    if (bit)
+        map[page / 8] = map[page / 8] | in_its_byte;
+    else
+        map[page / 8] = map[page / 8] & (uint8_t)~in_its_byte;
+}
+
+/* All FFh. */
+static bool is_blank(const uint8_t *array, uint32_t page)
+{
+    uint32_t i;
+
+    for (i = 0; i < REF_PAGE; i++)
+        if (array[page * REF_PAGE + i] != 0xFF)
+            return false;
+    return true;
+}
+
+/* Makes the bit of the page right. */
+static void see_page(uint8_t *map, const uint8_t *array, uint32_t page)
+{
+    set_bit(map, page, is_blank(array, page));
+}
+
+/* Does the next tick of a busy part reach a page of the array? */
+static bool reaches_a_page(const struct part *part, uint32_t *page)
+{
+    switch (part->op.kind) {
+    case PP:
+        *page = part->op.base / REF_PAGE;
+        return true;
+    case SER:
+    case BER32:
+    case BER64:
+    case CER:
+        *page = part->op.base / REF_PAGE + part->op.done;
+        return true;
+    default: /* rows and registers */
+        return false;
+    }
+}
+
+/* A tick, and the bit of the page that it reached. */
+static void one_tick_with_map(struct part *part, uint8_t *array, uint8_t *rows, uint8_t *map)
+{
+    uint32_t page;
+    bool reaches = reaches_a_page(part, &page);
+
+    one_tick(part, array, rows);
+    if (reaches)
+        see_page(map, array, page);
+}
+
+/* A tick call that is lent a map, or none: then `map` is NULL. */
+static int tick_call(struct part *part, uint8_t *array, size_t array_length, uint8_t *rows,
+                     size_t rows_length, uint32_t ticks, uint32_t *worked, uint8_t *map)
 {
     int answer;
     uint32_t asked;
@@ -973,11 +1031,20 @@ int ref_tick(struct part *part, uint8_t *array, size_t array_length, uint8_t *ro
         return 6;
     for (asked = 0; asked < ticks; asked++) {
         if (is_busy(part)) {
-            one_tick(part, array, rows);
+            if (map == NULL)
+                one_tick(part, array, rows);
+            else
+                one_tick_with_map(part, array, rows, map);
             *worked = *worked + 1;
         }
     }
     return 0;
+}
+
+int ref_tick(struct part *part, uint8_t *array, size_t array_length, uint8_t *rows,
+             size_t rows_length, uint32_t ticks, uint32_t *worked)
+{
+    return tick_call(part, array, array_length, rows, rows_length, ticks, worked, NULL);
 }
 
 /* ---- Request 2 of 02: a script ---- */
@@ -999,10 +1066,12 @@ static bool stops(int answer)
     return answer >= 1 && answer <= 6;
 }
 
-int ref_script(struct part *part, uint8_t *array, size_t array_length, uint8_t *rows, size_t rows_length,
-               bool wp_high, const uint8_t *in, size_t in_length, const uint16_t *lengths, size_t lengths_count,
-               const uint16_t *ticks, size_t ticks_count, uint8_t *out, size_t out_length, uint8_t *answers,
-               size_t answers_count, uint16_t *done, size_t done_count, size_t *step)
+/* A script that is lent a map, or none: then `map` is NULL. */
+static int script_call(struct part *part, uint8_t *array, size_t array_length, uint8_t *rows, size_t rows_length,
+                       bool wp_high, const uint8_t *in, size_t in_length, const uint16_t *lengths,
+                       size_t lengths_count, const uint16_t *ticks, size_t ticks_count, uint8_t *out,
+                       size_t out_length, uint8_t *answers, size_t answers_count, uint16_t *done, size_t done_count,
+                       size_t *step, uint8_t *map)
 {
     int answer;
     size_t first, from = 0;
@@ -1030,13 +1099,22 @@ int ref_script(struct part *part, uint8_t *array, size_t array_length, uint8_t *
         done[*step] = 0;
         if (stops(answer))
             return answer;
-        answer = ref_tick(part, array, array_length, rows, rows_length, ticks[*step], &worked);
+        answer = tick_call(part, array, array_length, rows, rows_length, ticks[*step], &worked, map);
         done[*step] = (uint16_t)worked;
         if (stops(answer))
             return answer;
         from = from + length;
     }
     return 0;
+}
+
+int ref_script(struct part *part, uint8_t *array, size_t array_length, uint8_t *rows, size_t rows_length,
+               bool wp_high, const uint8_t *in, size_t in_length, const uint16_t *lengths, size_t lengths_count,
+               const uint16_t *ticks, size_t ticks_count, uint8_t *out, size_t out_length, uint8_t *answers,
+               size_t answers_count, uint16_t *done, size_t done_count, size_t *step)
+{
+    return script_call(part, array, array_length, rows, rows_length, wp_high, in, in_length, lengths, lengths_count,
+                       ticks, ticks_count, out, out_length, answers, answers_count, done, done_count, step, NULL);
 }
 
 /* ---- Request 13 of 02: a check of a script ---- */
@@ -1095,4 +1173,84 @@ int ref_check(struct part *part, uint8_t *array, size_t array_length, uint8_t *r
     else
         *where = 0;
     return 0;
+}
+
+/* ---- Request 12 of 02: a map of blank pages ---- */
+
+/* The pages of a part, and the bytes of its map; asked of good sizes only. */
+static uint32_t pages_of(uint32_t size)
+{
+    return array_bytes(size) / REF_PAGE;
+}
+
+static size_t map_bytes(uint32_t size)
+{
+    return pages_of(size) / 8;
+}
+
+/* 36 "after 1"; the others are those of the call without a map. */
+static int map_wrong(const struct part *part, size_t array_length, size_t map_length)
+{
+    if (lent_wrong(part, array_length, REF_ROWS) != 0)
+        return 1;
+    return map_length != map_bytes(part->size) ? 36 : 0;
+}
+
+int ref_map_rebuild(uint64_t size, const uint8_t *array, size_t array_length, uint8_t *map, size_t map_length)
+{
+    uint32_t page;
+
+    if (!ref_size_ok(size) || array_length != array_bytes((uint32_t)size))
+        return 1;
+    if (map_length != map_bytes((uint32_t)size))
+        return 36;
+    for (page = 0; page < pages_of((uint32_t)size); page++)
+        see_page(map, array, page);
+    return 0;
+}
+
+int ref_map_next(uint64_t size, const uint8_t *map, size_t map_length, uint64_t page, uint32_t *next)
+{
+    uint32_t pages;
+
+    *next = 0;
+    if (!ref_size_ok(size))
+        return 1;
+    if (map_length != map_bytes((uint32_t)size))
+        return 36;
+    pages = pages_of((uint32_t)size);
+    if (page >= pages)
+        return 37;
+    *next = (uint32_t)page;
+    while (*next < pages && ((map[*next / 8] >> (*next % 8)) & 1u) == 0)
+        *next = *next + 1;
+    return 0;
+}
+
+int ref_tick_map(struct part *part, uint8_t *array, size_t array_length, uint8_t *rows, size_t rows_length,
+                 uint32_t ticks, uint32_t *worked, uint8_t *map, size_t map_length)
+{
+    int answer;
+
+    *worked = 0;
+    answer = map_wrong(part, array_length, map_length);
+    if (answer != 0)
+        return answer;
+    return tick_call(part, array, array_length, rows, rows_length, ticks, worked, map);
+}
+
+int ref_script_map(struct part *part, uint8_t *array, size_t array_length, uint8_t *rows, size_t rows_length,
+                   bool wp_high, const uint8_t *in, size_t in_length, const uint16_t *lengths, size_t lengths_count,
+                   const uint16_t *ticks, size_t ticks_count, uint8_t *out, size_t out_length, uint8_t *answers,
+                   size_t answers_count, uint16_t *done, size_t done_count, size_t *step, uint8_t *map,
+                   size_t map_length)
+{
+    int answer;
+
+    *step = 0;
+    answer = map_wrong(part, array_length, map_length);
+    if (answer != 0)
+        return answer;
+    return script_call(part, array, array_length, rows, rows_length, wp_high, in, in_length, lengths, lengths_count,
+                       ticks, ticks_count, out, out_length, answers, answers_count, done, done_count, step, map);
 }

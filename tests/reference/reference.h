@@ -111,6 +111,24 @@ int ref_check(struct part *part, uint8_t *array, size_t array_length, uint8_t *r
               size_t answers_count, uint16_t *done, size_t done_count, const uint8_t *image, size_t image_length,
               enum verdict *verdict, size_t *where);
 
+/* Request 12 of 02: a map of blank pages. Page p is bit p % 8 of byte p / 8 of the map, which is 1 exactly when the page
+ * is all FFh. */
+
+/* Makes the map from the array. */
+int ref_map_rebuild(uint64_t size, const uint8_t *array, size_t array_length, uint8_t *map, size_t map_length);
+
+/* *next is the first blank page at or after `page`, or how many pages there are; 0 when refused. */
+int ref_map_next(uint64_t size, const uint8_t *map, size_t map_length, uint64_t page, uint32_t *next);
+
+/* Ticks and a script that keep the map: of each page that a working tick reaches the bit is made right. */
+int ref_tick_map(struct part *part, uint8_t *array, size_t array_length, uint8_t *rows, size_t rows_length,
+                 uint32_t ticks, uint32_t *worked, uint8_t *map, size_t map_length);
+int ref_script_map(struct part *part, uint8_t *array, size_t array_length, uint8_t *rows, size_t rows_length,
+                   bool wp_high, const uint8_t *in, size_t in_length, const uint16_t *lengths, size_t lengths_count,
+                   const uint16_t *ticks, size_t ticks_count, uint8_t *out, size_t out_length, uint8_t *answers,
+                   size_t answers_count, uint16_t *done, size_t done_count, size_t *step, uint8_t *map,
+                   size_t map_length);
+
 /* The protection question, of a code and a size in blocks. The code is BP3..BP0; on 512 blocks its bit 4 is TBS.
  * *first is the first protected block, and *count is how many are protected from it on. Both are 0 for none, and
  * when refused. */

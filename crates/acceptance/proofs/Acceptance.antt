@@ -8,7 +8,7 @@ use lib.ListN.{length, getD, take}
 use lib.Seq.{ext-getD, getD-take}
 use borrow.Author.Tests.{eqb-true}
 use Rattle.words.specs.Logic.{whenZero}
-use Rattle.words.specs.Lists.{every}
+use Rattle.words.specs.Lists.{every, AreBytes}
 use Rattle.words.proofs.Tests.{and-l, and-r}
 use Rattle.paper.specs.History.{Call}
 use Rattle.paper.specs.Board.{Board, afterCalls}
@@ -17,7 +17,7 @@ use Rattle.paper.specs.Check.{checkRefusalOf, Checked}
 use Rattle.history.specs.ScriptLaws.{answersIn, stepsMade, courseFrom}
 use Rattle.laws.specs.Writes.{Rested}
 use Rattle.acceptance.specs.Flasher.{unprotected, sendingsOf, inTwos, jobsIn, sectorBytes, rightJobs, flashes}
-use Rattle.acceptance.specs.Accepts.{RunsRight, AreBytes, Accepts, Acceptance}
+use Rattle.acceptance.specs.Accepts.{RunsRight, Accepts, Acceptance}
 use Rattle.acceptance.proofs.Bytes.{wanted-left}
 use Rattle.acceptance.proofs.Steps.{mayBeSent, allCalls, unstopped, calls-sent}
 use Rattle.acceptance.proofs.Writes.{all-aligned, all-may}

@@ -8,6 +8,7 @@ use lib.ListN.{length}
 use Rattle.types.specs.declared.Record.{Record}
 use Rattle.words.specs.Logic.{_and_, unless, _orElse_}
 use Rattle.words.proofs.Tests.{and-in}
+use Rattle.words.specs.Lists.{AreBytes}
 use Rattle.paper.specs.Sizes.{sizeOk, arrayBytes}
 use Rattle.paper.specs.Soundness.{sound}
 use Rattle.paper.specs.Numbers.{sizeNumber, rowsNumber, listsNumber, outputNumber, soundNumber, laterScriptRefusal, scriptRefusal}
@@ -19,7 +20,7 @@ use Rattle.paper.proofs.Soundness.{sound-parts}
 use Rattle.laws.specs.Writes.{Rested}
 use Rattle.acceptance.specs.Flasher.{Sending, Job, inTwos, jobsIn, rightJobs, flashes}
 use Rattle.acceptance.specs.Construction.{jobsFor, sendingsFor, scriptFor, flasherFor}
-use Rattle.acceptance.specs.Accepts.{AreBytes, IsMade, Makes}
+use Rattle.acceptance.specs.Accepts.{IsMade, Makes}
 use Rattle.acceptance.proofs.Plan.{Each, each-so, Sendable, all-sendable, jobs-right}
 use Rattle.acceptance.proofs.Sent.{job-sent}
 use Rattle.acceptance.proofs.Script.{read-back, same-length, lengths-sum, IsSent, steps-right, steps-jobs, steps-bytes, steps-lengths, steps-ticks}

@@ -8,14 +8,13 @@ use borrow.Author.Tests.{le-leb}
 use lib.ListN.{length, getD, take, drop, length-append}
 use lib.Seq.{drop-drop, take-append-seam, drop-append-seam}
 use Rattle.types.specs.declared.Record.{Record}
-use Rattle.words.specs.Lists.{sumTo, between}
+use Rattle.words.specs.Lists.{sumTo, between, AreBytes}
 use Rattle.words.proofs.Tests.{and-in}
 use Rattle.words.proofs.Sums.{sum-cons}
 use Rattle.paper.specs.Sizes.{tickLimit}
 use Rattle.paper.specs.Script.{Script}
 use Rattle.acceptance.specs.Flasher.{Sending, Job, sendingAt, sendingsTo, sendingsOf, inTwos, jobsIn}
 use Rattle.acceptance.specs.Construction.{sentFor, ticksFor, sendingsFor, inputOf, lengthsOf, ticksOf, scriptFor}
-use Rattle.acceptance.specs.Accepts.{AreBytes}
 use Rattle.acceptance.proofs.Plan.{Each}
 use Rattle.acceptance.proofs.Sent.{bytes-both, bytes-one, Sent}
 

@@ -29,6 +29,7 @@ use Rattle.types.specs.declared.Work.{Work}
 use Rattle.types.specs.declared.Work.the-variants.{At}
 use Rattle.types.specs.declared.Record.{Record}
 use Rattle.words.proofs.Tests.{and-in}
+use Rattle.words.specs.Lists.{AreBytes}
 use Rattle.paper.specs.Sizes.{isLarge, sizeOk, arrayBytes, pageBytes, tickLimit}
 use Rattle.paper.specs.Address.{highFirst, addressCount, bankBase, addressIn}
 use Rattle.paper.specs.Program.{pageBase, pagePlace, dataSent, keptCount, passedCount, programOf}
@@ -44,7 +45,6 @@ use Rattle.paper.proofs.Soundness.{sound-parts, without-large}
 use Rattle.laws.specs.Writes.{addressingBy, dataOf}
 use Rattle.acceptance.specs.Flasher.{Sending, Job, erases, programs, other, sectorBytes, begunAs, lengthAs, commandOf, workOf, workJob, jobOf, withinPage, allowsTicks, rightCommand}
 use Rattle.acceptance.specs.Construction.{addressFor, addressed, sentFor, ticksFor}
-use Rattle.acceptance.specs.Accepts.{AreBytes}
 use Rattle.acceptance.proofs.Plan.{Planned, Sendable}
 
 -- two lists of bytes make one, and one byte does

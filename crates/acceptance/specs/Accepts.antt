@@ -8,6 +8,7 @@ use lib.ListN.{length, getD}
 use Rattle.types.specs.declared.Phase.the-variants.{Idle}
 use Rattle.types.specs.declared.Record.{Record}
 use Rattle.types.specs.declared.Verdict.the-variants.{Yes}
+use Rattle.words.specs.Lists.{AreBytes}
 use Rattle.paper.specs.Sizes.{isLarge, arrayBytes}
 use Rattle.paper.specs.Protection.{codeOf}
 use Rattle.paper.specs.Soundness.{sound}
@@ -36,10 +37,6 @@ YesExactly =
 abbrev pub UnprotectedCodes : Type 0
 UnprotectedCodes =
     (p : Record) → sound p ≡ true → (unprotected p ≡ true) ↔ ((codeOf (p .part .stored .status) ≡ 0) ⊎ ((codeOf (p .part .stored .status) ≡ 15) × (isLarge (p .part .blocks) ≡ false)))
-
--- bytes, each below 256
-abbrev pub AreBytes : List ℕ → Type 0
-AreBytes xs = (a : ℕ) → getD xs a 0 < 256
 
 -- "is always accepted on an unprotected part that starts idle and awake"
 abbrev pub Accepts : Type 0

@@ -101,6 +101,7 @@ pub fn check(
         let number = image_refusal(bytes, array.len());
         return Verdict::Refused(number);
     }
+    let mut none = [0u8; 0];
     let ran = script::run(
         bytes,
         array,
@@ -112,6 +113,7 @@ pub fn check(
         output,
         answers,
         done,
+        &mut none,
     );
     if !has_run(ran.number) {
         return Verdict::Refused(ran.number);

@@ -14,7 +14,7 @@ use Rattle.paper.proofs.CallKept.{call-size}
 use Rattle.yawlspar.specs.Face.{packed}
 use Rattle.history.specs.Run.{done}
 use Rattle.history.specs.Course.{Step, sent, waited, courseOf}
-use Rattle.from_c.specs.Driven.{Lent, CCall, transact, tick, script, check, callOf, callsOf, Driven, ended, calls, heard, packedSteps, toldBy, ownCourse, toldOf, InMemory, AllInMemory, isPlain}
+use Rattle.from_c.specs.Driven.{Lent, CCall, transact, tick, script, check, tickMap, scriptMap, callOf, callsOf, Driven, ended, calls, heard, packedSteps, toldBy, ownCourse, toldOf, InMemory, AllInMemory, isPlain}
 use Rattle.from_c.specs.Holding.{Holding}
 use Rattle.from_c.proofs.Leads.{Leads, leads-told, leads-on}
 use Rattle.from_c.proofs.Stands.{stands}
@@ -61,12 +61,14 @@ packed-append [] ts = refl
 packed-append (sent a ∷ ss) ts = ap (λ (ks : List ℕ). packed (a .number) (a .first) ∷ ks) (packed-append ss ts)
 packed-append (waited t us ∷ ss) ts = ap (λ (ks : List ℕ). packed (t .number) (t .done) ∷ ks) (packed-append ss ts)
 
--- calls that are no scripts and no checks tell the whole course
+-- calls that are no scripts, with a map or without, and no checks tell the whole course
 plain-by : (c : CCall) → isPlain c ≡ true → (ss : List Step) → toldBy c ss ≡ packedSteps ss
 plain-by (transact wp i o) h ss = refl
 plain-by (tick n) h ss = refl
 plain-by (script wp i ls ts o n d) h ss = absurd (false≢true h)
 plain-by (check wp i ls ts o n d image) h ss = absurd (false≢true h)
+plain-by (tickMap n k) h ss = refl
+plain-by (scriptMap wp i ls ts o n d k) h ss = absurd (false≢true h)
 
 plain-told : (cs : List CCall) (p : Record) → every isPlain cs ≡ true → toldOf cs p ≡ packedSteps (ownCourse (callsOf cs p) p)
 plain-told [] p h = refl
@@ -82,6 +84,8 @@ plain-small (transact wp i o) h = tt
 plain-small (tick n) h = tt
 plain-small (script wp i ls ts o n d) h = absurd (false≢true h)
 plain-small (check wp i ls ts o n d image) h = absurd (false≢true h)
+plain-small (tickMap n k) h = tt
+plain-small (scriptMap wp i ls ts o n d k) h = absurd (false≢true h)
 
 plain-all : (cs : List CCall) → every isPlain cs ≡ true → AllInMemory cs
 plain-all [] h = tt

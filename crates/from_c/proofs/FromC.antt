@@ -1,4 +1,4 @@
--- Demand 3 from C: a part is powered up by yawlspar_power_up, unrefused, and driven by any calls of yawlspar_transact, yawlspar_tick, yawlspar_script and yawlspar_check on its own record's bytes and memory. The bytes then hold the record that the calls tell, every stored byte is what the history says, and what was protected or locked throughout is kept.
+-- Demand 3 from C: a part is powered up by yawlspar_power_up, unrefused, and driven by any calls of yawlspar_transact, yawlspar_tick, yawlspar_script, yawlspar_check, yawlspar_tick_map and yawlspar_script_map on its own record's bytes and memory. The bytes then hold the record that the calls tell, every stored byte is what the history says, and what was protected or locked throughout is kept.
 use Prim.Native.Nat.{ℕ}
 use mathlib.Core.Path.{_≡_, refl, sym, ap, _∙_}
 use mathlib.Core.List.{List}

@@ -15,19 +15,22 @@ use Rattle.paper.specs.Soundness.{sound}
 use Rattle.paper.specs.Calls.{transacted, transactedOutput, ticked, tickedMemory}
 use Rattle.paper.specs.Board.{boardOf}
 use Rattle.paper.specs.Script.{Scripted, scripted}
+use Rattle.paper.specs.Map.{MapTicked, MapScripted, mapTicked, mapScripted}
 use Rattle.paper.proofs.Numbers.{transaction-taken}
 use Rattle.record_bytes.specs.Layout.{recordBytes}
 use Rattle.record_bytes.specs.Read.{held, recordIn, onHeld}
-use Rattle.ticks.specs.InBytes.{heldWorked, tickBytes, tickMemory}
+use Rattle.ticks.specs.InBytes.{tickBytes, tickMemory}
 use Rattle.ticks.proofs.InBytes.{unheld-tick-bytes, unheld-memory}
 use Rattle.yawlspar.specs.Face.{packed, transactAnswer, transactBytes, transactOutput, tickAnswer}
 use Rattle.yawlspar_script.specs.Face.{scriptAnswer}
+use Rattle.yawlspar_map.specs.Face.{mapTickAnswer}
 use Rattle.yawlspar.proofs.Face.{unheld-bytes}
 use Rattle.yawlspar.proofs.Refused.{refused-bytes}
 use Rattle.script.specs.InBytes.{scriptOf, heldScript, scriptBytes}
 use Rattle.checker.specs.InBytes.{heldCheck}
 use Rattle.checker.proofs.InBytes.{same-run, image-left}
-use Rattle.from_c.specs.Driven.{Lent, lent, CCall, transact, tick, script, check, gives}
+use Rattle.mapped.specs.InBytes.{heldMapTicked, heldMapScripted}
+use Rattle.from_c.specs.Driven.{Lent, lent, CCall, transact, tick, script, check, tickMap, scriptMap, gives}
 
 -- the bytes hold the record p
 module _ (l : Lent) (p : Record) (e : recordIn (l .bytes) ≡ held p) where
@@ -54,7 +57,7 @@ module _ (l : Lent) (p : Record) (e : recordIn (l .bytes) ≡ held p) where
     ran = ticked p (length (l .array)) (length (l .rows)) n
 
     pub held-ticks-answer : gives (tick n) l .answer ≡ packed (ran .number) (ran .done)
-    unfolding onHeld heldWorked tickAnswer
+    unfolding onHeld tickAnswer
     held-ticks-answer = rw e refl
 
     pub held-ticked : gives (tick n) l .left .bytes ≡ recordBytes (ran .next)
@@ -78,6 +81,24 @@ module _ (l : Lent) (p : Record) (e : recordIn (l .bytes) ≡ held p) where
     unfolding onHeld heldScript
     held-script = rw e refl
 
+    -- with a map
+    module _ (k : List ℕ) where
+      abbrev pub cameMap : MapScripted
+      cameMap = mapScripted (sound p and leb wp 1) (scriptOf wp i ls ts) (boardOf p (l .array) (l .rows)) o n d k
+
+      pub held-script-map : gives (scriptMap wp i ls ts o n d k) l ≡ record { answer = scriptAnswer (cameMap .run); buffers = cameMap .run .output ∷ cameMap .run .answers ∷ cameMap .run .done ∷ cameMap .map ∷ []; left = lent (recordBytes (cameMap .run .board .state)) (cameMap .run .board .array) (cameMap .run .board .rows) }
+      unfolding onHeld heldMapScripted
+      held-script-map = rw e refl
+
+  -- ticks with a map
+  module _ (n : ℕ) (k : List ℕ) where
+    abbrev pub ranMap : MapTicked
+    ranMap = mapTicked (boardOf p (l .array) (l .rows)) n k
+
+    pub held-tick-map : gives (tickMap n k) l ≡ record { answer = mapTickAnswer ranMap; buffers = ranMap .map ∷ []; left = lent (recordBytes (ranMap .board .state)) (ranMap .board .array) (ranMap .board .rows) }
+    unfolding onHeld heldMapTicked
+    held-tick-map = rw e refl
+
 -- a transaction whose level is none changes nothing
 pub no-level : (l : Lent) (wp : ℕ) (i o : List ℕ) → leb wp 1 ≡ false → gives (transact wp i o) l .left .bytes ≡ l .bytes
 no-level l wp i o e =
@@ -86,6 +107,14 @@ no-level l wp i o e =
 unheld-script : (wp : ℕ) (i ls ts o n d : List ℕ) (l : Lent) → recordIn (l .bytes) .ok ≡ false → gives (script wp i ls ts o n d) l .left ≡ l
 unfolding onHeld heldScript
 unheld-script wp i ls ts o n d l e = rw e refl
+
+unheld-script-map : (wp : ℕ) (i ls ts o n d k : List ℕ) (l : Lent) → recordIn (l .bytes) .ok ≡ false → gives (scriptMap wp i ls ts o n d k) l .left ≡ l
+unfolding onHeld heldMapScripted
+unheld-script-map wp i ls ts o n d k l e = rw e refl
+
+unheld-tick-map : (n : ℕ) (k : List ℕ) (l : Lent) → recordIn (l .bytes) .ok ≡ false → gives (tickMap n k) l .left ≡ l
+unfolding onHeld heldMapTicked
+unheld-tick-map n k l e = rw e refl
 
 -- a check leaves what its script leaves; with an image that is not as long as the array it leaves all as it was
 module _ (wp : ℕ) (i ls ts o n d image : List ℕ) (l : Lent) where
@@ -113,3 +142,5 @@ unheld-left (tick n) l e =
     rw (← unheld-tick-bytes h e a r n (l .bytes), ← unheld-memory h e a r n Array (l .array), ← unheld-memory h e a r n Rows (l .rows)) refl
 unheld-left (script wp i ls ts o n d) l e = unheld-script wp i ls ts o n d l e
 unheld-left (check wp i ls ts o n d image) l e = unheld-check wp i ls ts o n d image l e
+unheld-left (tickMap n k) l e = unheld-tick-map n k l e
+unheld-left (scriptMap wp i ls ts o n d k) l e = unheld-script-map wp i ls ts o n d k l e

@@ -26,7 +26,7 @@ use Rattle.from_c.proofs.Chained.{driven-run, driven-heard, plain-heard
 use Rattle.from_c.proofs.FromC.{up-unrefused, up-holds}
 
 -- a transaction at either level
-level-call : (wp : Bool) (i : List ℕ) (o : ℕ) (p : Record) → callOf (transact (bit wp) i (replicate o 0)) p ≡ transaction wp i o ∷ []
+pub level-call : (wp : Bool) (i : List ℕ) (o : ℕ) (p : Record) → callOf (transact (bit wp) i (replicate o 0)) p ≡ transaction wp i o ∷ []
 level-call true i o p = ap (λ (n : ℕ). transaction true i n ∷ []) (length-replicate o 0)
 level-call false i o p = ap (λ (n : ℕ). transaction false i n ∷ []) (length-replicate o 0)
 

@@ -11,3 +11,4 @@ pub mod Contracts
 pub mod LawsFromC
 pub mod RestartFromC
 pub mod AcceptsFromC
+pub mod MapFromC

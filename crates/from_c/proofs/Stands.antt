@@ -1,29 +1,38 @@
 -- Each kind of call from C stands for its list of calls: from what holds a sound record these lead to what the call leaves, and C hears what it tells of their course.
-use Prim.Native.Nat.{ℕ}
+use Prim.Native.Nat.{ℕ, _/_, _%_, _^_, _<_}
 use mathlib.Core.Path.{_≡_, refl, sym, ap, subst⁻¹, _∙_}
-use mathlib.Core.Bool.{Bool, true, false}
+use mathlib.Core.Bool.{Bool, true, false, cond}
 use mathlib.Core.List.{List, [], _∷_}
 use native.Mathlib.Omega.{arith}
 use lib.Dec.{eqb, leb}
 use lib.ListN.{length}
-use borrow.Author.Tests.{eqb-true, eqb-false}
+use borrow.Author.Tests.{eqb-true, eqb-false, leb-true, ne-eqb}
 use Rattle.types.specs.declared.Record.{Record}
 use Rattle.words.specs.Logic.{_and_, unless}
-use Rattle.paper.specs.Sizes.{arrayBytes}
+use Rattle.paper.specs.Sizes.{arrayBytes, mapBytes, tickLimit}
 use Rattle.paper.specs.Soundness.{sound}
-use Rattle.paper.specs.Numbers.{imageNumber}
+use Rattle.paper.specs.Numbers.{imageNumber, mapNumber}
+use Rattle.paper.specs.Ticks.{workingTicks}
 use Rattle.paper.specs.Calls.{transacted, ticked}
 use Rattle.paper.specs.History.{Call, transaction}
-use Rattle.paper.specs.Board.{Board, boardOf}
+use Rattle.paper.specs.Board.{Board, boardOf, waited, afterCalls}
 use Rattle.paper.specs.Script.{Script, Scripted, afterSteps, unstepped, refusalOf}
+use Rattle.paper.specs.Map.{MapTicked, MapScripted}
+use Rattle.paper.proofs.Answers.{ticks-run, ticks-refused}
+use Rattle.record_bytes.specs.Layout.{recordBytes}
 use Rattle.history.specs.Run.{Run, done, sends, waits}
 use Rattle.history.specs.Course.{courseOf}
+use Rattle.history.proofs.Joined.{run-exists}
 use Rattle.history.proofs.Scripts.{script-laws}
+use Rattle.map_laws.proofs.Stands.{ticks-stand, scripts-stand}
+use Rattle.map_laws.proofs.Answers.{ticks-answer, ticks-36, script-answer, script-36}
 use Rattle.script.specs.InBytes.{scriptOf}
-use Rattle.from_c.specs.Driven.{Lent, CCall, transact, tick, script, check, Given, gives, callOf, heardOf, toldBy, InMemory}
-use Rattle.from_c.proofs.Held.{held-answer, held-transacted, held-ticks-answer, held-ticked, held-array, held-rows, came, held-script, no-level, same-left, image-kept}
+use Rattle.yawlspar.specs.Face.{packed}
+use Rattle.yawlspar_script.specs.Face.{scriptAnswer}
+use Rattle.from_c.specs.Driven.{Lent, lent, CCall, transact, tick, script, check, tickMap, scriptMap, Given, gives, callOf, heardOf, heardSteps, packedSteps, scriptSteps, toldBy, InMemory}
+use Rattle.from_c.proofs.Held.{held-answer, held-transacted, held-ticks-answer, held-ticked, held-array, held-rows, came, held-script, cameMap, held-script-map, ranMap, held-tick-map, no-level, same-left, image-kept}
 use Rattle.from_c.specs.Holding.{Holding}
-use Rattle.from_c.proofs.Holding.{in-bytes, run-holding}
+use Rattle.from_c.proofs.Holding.{in-bytes, holding-own, run-holding}
 use Rattle.from_c.proofs.Leads.{Leads}
 use Rattle.from_c.proofs.ScriptHeard.{script-heard}
 
@@ -111,6 +120,67 @@ module _ (l : Lent) (p : Record) (h : Holding l p) where
     check-stands : StandsFor checked-call l p (gives checked-call l)
     check-stands = record { leads = check-leads (eqb (length image) (arrayBytes (p .part .blocks))) refl; heard = λ few. refl }
 
+-- a map: ticks and scripts that are lent one
+module _ (l : Lent) (p : Record) (h : Holding l p) where
+  abbrev whole : Board
+  whole = boardOf p (l .array) (l .rows)
+
+  -- the calls that a board follows from lead to it
+  board-leads : (cs : List Call) (c : Board) → c ≡ afterCalls cs whole → Leads l p cs (lent (recordBytes (c .state)) (c .array) (c .rows))
+  board-leads cs c e =
+      let run : Run p (l .array) (l .rows) cs (c .state) (c .array) (c .rows) = subst⁻¹ (λ (d : Board). Run p (l .array) (l .rows) cs (d .state) (d .array) (d .rows)) e (run-exists cs whole) in
+      record { next = c .state; run = run; holding = run-holding h run refl }
+
+  module _ (n : ℕ) (k : List ℕ) where
+    abbrev tally : MapTicked
+    tally = ranMap l p (in-bytes h) n k
+
+    -- what plain ticks answer is not 36
+    not-36 : (t : Bool) → leb n (tickLimit (p .part .blocks)) ≡ t → eqb (packed (waited whole n .number) (waited whole n .done)) 36 ≡ false
+    not-36 true e =
+        rw (h .array, h .rows, ticks-run p (h .is-sound) n (leb-true _ _ e)) (ne-eqb (packed 0 (workingTicks n p)) 36 (λ z. omega arith))
+    not-36 false e = rw (h .array, h .rows, ticks-refused p (h .is-sound) n e) refl
+
+    tick-map-heard : (t : Bool) → eqb (length k) (mapBytes (p .part .blocks)) ≡ t
+        → cond (eqb (packed (tally .number) (tally .done)) 36) [] (packed (tally .number) (tally .done) ∷ []) ≡ packedSteps (courseOf (callOf (tickMap n k) p) p (length (l .array)) (length (l .rows)))
+    unfolding mapNumber unless
+    tick-map-heard true e =
+        let a = ticks-answer n whole k (holding-own h) e in
+        rw (e, a .0, a .1, not-36 (leb n (tickLimit (p .part .blocks))) refl) refl
+    tick-map-heard false e =
+        let a = ticks-36 n whole k (holding-own h) e in
+        rw (e, a .0, a .1) refl
+
+    tick-map-stands : StandsFor (tickMap n k) l p (gives (tickMap n k) l)
+    tick-map-stands =
+        subst⁻¹ (StandsFor (tickMap n k) l p) (held-tick-map l p (in-bytes h) n k)
+        (record { leads = board-leads (callOf (tickMap n k) p) (tally .board) (ticks-stand n whole k (holding-own h) .part); heard = λ few. tick-map-heard (eqb (length k) (mapBytes (p .part .blocks))) refl })
+
+  module _ (wp : ℕ) (i ls ts o n d k : List ℕ) where
+    abbrev mapped-call : CCall
+    mapped-call = scriptMap wp i ls ts o n d k
+
+    abbrev trace : MapScripted
+    trace = cameMap l p (in-bytes h) wp i ls ts o n d k
+
+    abbrev heardBy : Scripted → List ℕ
+    heardBy w = heardSteps (scriptAnswer w % 256) (scriptAnswer w / 256) (w .answers) (w .done)
+
+    script-map-heard : length ls < 2 ^ 56 → (t : Bool) → eqb (length k) (mapBytes (p .part .blocks)) ≡ t
+        → heardBy (trace .run) ≡ scriptSteps (courseOf (callOf mapped-call p) p (length (l .array)) (length (l .rows)))
+    unfolding mapNumber unless scriptAnswer
+    script-map-heard few true e =
+        rw e
+        (ap heardBy (script-answer (sound p and leb wp 1) (scriptOf wp i ls ts) whole o n d k (holding-own h) e)
+        ∙ script-heard (sound p and leb wp 1) (scriptOf wp i ls ts) whole o n d (h .is-sound) (h .array) (h .rows) few)
+    script-map-heard few false e =
+        rw e (ap heardBy (script-36 (sound p and leb wp 1) (scriptOf wp i ls ts) whole o n d k (holding-own h) e))
+
+    script-map-stands : StandsFor mapped-call l p (gives mapped-call l)
+    script-map-stands =
+        subst⁻¹ (StandsFor mapped-call l p) (held-script-map l p (in-bytes h) wp i ls ts o n d k)
+        (record { leads = board-leads (callOf mapped-call p) (trace .run .board) (scripts-stand (sound p and leb wp 1) (scriptOf wp i ls ts) whole o n d k (holding-own h) .part); heard = λ few. script-map-heard few (eqb (length k) (mapBytes (p .part .blocks))) refl })
+
 -- every kind
 module _ (l : Lent) (p : Record) (h : Holding l p) where
   kind-stands : (c : CCall) → StandsFor c l p (gives c l)
@@ -118,6 +188,8 @@ module _ (l : Lent) (p : Record) (h : Holding l p) where
   kind-stands (tick n) = tick-stands l p h n
   kind-stands (script wp i ls ts o n d) = script-stands l p h wp i ls ts o n d
   kind-stands (check wp i ls ts o n d image) = check-stands l p h wp i ls ts o n d image
+  kind-stands (tickMap n k) = tick-map-stands l p h n k
+  kind-stands (scriptMap wp i ls ts o n d k) = script-map-stands l p h wp i ls ts o n d k
 
   pub stands : (c : CCall) (g : Given) → g ≡ gives c l → StandsFor c l p g
   stands c g e = subst⁻¹ (StandsFor c l p) e (kind-stands c)

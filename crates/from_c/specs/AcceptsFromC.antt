@@ -7,10 +7,10 @@ use mathlib.Core.Logic.{_↔_}
 use lib.Dec.{leb}
 use Rattle.types.specs.declared.Record.{Record}
 use Rattle.types.specs.declared.Verdict.the-variants.{Yes}
+use Rattle.words.specs.Lists.{AreBytes}
 use Rattle.paper.specs.Check.{checkRefusalOf, checked}
 use Rattle.script.specs.InBytes.{scriptOf}
 use Rattle.acceptance.specs.Flasher.{unprotected, flashes}
-use Rattle.acceptance.specs.Accepts.{AreBytes}
 use Rattle.from_c.specs.Driven.{Lent, check, Given, gives}
 use Rattle.from_c.specs.Holding.{Holding}
 use Rattle.from_c.specs.LawsFromC.{boardIn, RestedIn}

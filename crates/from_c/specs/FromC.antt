@@ -25,7 +25,7 @@ pub record EndsExecuted (answers : List ℕ) : Type 0 where
 
 -- the numbers that yawlspar_power_up was given, and the buffer that it was lent
 module _ (q : Asked) (bs : List ℕ) where
-  -- what calls from C leave: the bytes are those of a record, and hold it; the part was powered up and sent the calls that they stand for, and has that record; every stored byte is what the history says; and C heard what its calls tell of the part's course, all of it where none is a script or a check
+  -- what calls from C leave: the bytes are those of a record, and hold it; the part was powered up and sent the calls that they stand for, and has that record; every stored byte is what the history says; and C heard what its calls tell of the part's course, all of it where none is a script, with a map or without, or a check
   pub record FromC {ds : List CCall} {xs rs : List ℕ} {m : Lent} (chain : Driven (lent (powerUpBytes q bs) xs rs) ds m) : Type 0 where
     pub next : Record
     pub bytes : m .bytes ≡ recordBytes next

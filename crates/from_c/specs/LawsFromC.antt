@@ -1,4 +1,4 @@
--- The laws for the driver team from C: for chained calls of yawlspar_transact, yawlspar_tick, yawlspar_script and yawlspar_check that stand for writes, on the bytes of an idle, awake part's record and on memory of its own lengths.
+-- The laws for the driver team from C: for chained calls of yawlspar_transact, yawlspar_tick, yawlspar_script, yawlspar_check, yawlspar_tick_map and yawlspar_script_map that stand for writes, on the bytes of an idle, awake part's record and on memory of its own lengths.
 use Prim.Native.Nat.{ℕ}
 use mathlib.Core.Path.{_≡_}
 use mathlib.Core.Bool.{true, false}
@@ -31,7 +31,7 @@ inC [] = []
 inC (transaction wp i o ∷ cs) = transact (bit wp) i (replicate o 0) ∷ inC cs
 inC (ticks n ∷ cs) = tick n ∷ inC cs
 
--- what calls from C make of what is lent: what the calls that they stand for make of the part, with the bytes of its record; and C hears what it tells of their course, all of it where no call is a script or a check
+-- what calls from C make of what is lent: what the calls that they stand for make of the part, with the bytes of its record; and C hears what it tells of their course, all of it where no call is a script, with a map or without, or a check
 pub record MadeFromC (p : Record) {l m : Lent} {cs : List CCall} (chain : Driven l cs m) : Type 0 where
   pub next : Record
   pub holding : Holding m next

@@ -4,3 +4,4 @@ pub mod FromC
 pub mod LawsFromC
 pub mod RestartFromC
 pub mod AcceptsFromC
+pub mod MapFromC

@@ -1,4 +1,4 @@
--- An interrupted erase, done over, from C: chained calls of yawlspar_transact, yawlspar_tick, yawlspar_script and yawlspar_check, and yawlspar_power_up again on the same array and rows after a loss of power.
+-- An interrupted erase, done over, from C: chained calls of yawlspar_transact, yawlspar_tick, yawlspar_script, yawlspar_check, yawlspar_tick_map and yawlspar_script_map, and yawlspar_power_up again on the same array and rows after a loss of power.
 use Prim.Native.Nat.{ℕ, _≤_}
 use mathlib.Core.Path.{_≡_}
 use mathlib.Core.Bool.{true, false}

@@ -14,7 +14,7 @@ use Rattle.paper.specs.History.{Call, transaction, ticks, recordAfterCall, reac
 use Rattle.paper.proofs.CallKept.{call-size}
 use Rattle.history.specs.Run.{Run, done, sends, waits}
 use Rattle.history.specs.Course.{Step, sent, waited, course, courseOf, endOf, reached}
-use Rattle.history.proofs.Touches.{ticked-length}
+use Rattle.paper.proofs.Touches.{ticked-length}
 
 -- memories of the same lengths tell the same course
 course-as : (cs : List Call) (p : Record) {a a′ r r′ : ℕ} → a ≡ a′ → r ≡ r′ → courseOf cs p a r ≡ courseOf cs p a′ r′

@@ -1,6 +1,5 @@
 pub mod Calls
 pub mod PageKept
-pub mod Touches
 pub mod Told
 pub mod Shielded
 pub mod Contracts
@@ -9,3 +8,4 @@ pub mod Course
 pub mod Joined
 pub mod ScriptSteps
 pub mod Scripts
+pub mod ScriptMap

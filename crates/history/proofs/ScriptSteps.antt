@@ -34,7 +34,7 @@ use Rattle.paper.specs.Reads.{undrivenByte, undriven, outputByte, outputOf}
 use Rattle.paper.specs.Calls.{executed, ignored, outcomeTo, outcomeOf, transacted, outputTo, outputAfter, ticked}
 use Rattle.paper.specs.History.{Call, transaction, ticks, reachedBy}
 use Rattle.paper.specs.Board.{Board, answerTo, waited, afterCalls}
-use Rattle.paper.specs.Script.{stopping, stepSent, Made, made}
+use Rattle.paper.specs.Script.{stopping, stepSent, stepCalls, Made, made}
 use Rattle.paper.proofs.Soundness.{sound-parts}
 use Rattle.paper.proofs.Answers.{ticks-run, ticks-refused}
 use Rattle.paper.proofs.TransactionKept.{transaction-sound, transaction-size}
@@ -214,9 +214,12 @@ module _ (wp : Bool) (i : List ℕ) (t : ℕ) (b : Board) (o : List ℕ) (s : so
       ap (λ (n : ℕ). n orElse stopping (ran .number)) answer-stops
       ∙ ap (λ (n : ℕ). lengthNumber (length o) orElse n) (ran-stops ∙ ran-number)
 
+  pub step-calls : stepCalls wp i b (length o) t ≡ ownCalls wp i t (length o)
+  step-calls = ap (λ (n : ℕ). transaction wp i (length o) ∷ whenZero n (ticks t ∷ []) []) answer-stops
+
   pub step-board : made wp i t b o .board ≡ afterCalls (ownCalls wp i t (length o)) b
   unfolding made
-  step-board = ap (λ (n : ℕ). afterCalls (transaction wp i (length o) ∷ whenZero n (ticks t ∷ []) []) b) answer-stops
+  step-board = ap (λ (cs : List Call). afterCalls cs b) step-calls
 
   pub step-output : length (made wp i t b o .output) ≡ length o
   unfolding made

@@ -18,7 +18,7 @@ use Rattle.paper.specs.History.{Call, transaction, ticks, recordAfterCall, reco
 use Rattle.paper.proofs.CallKept.{call-sound, call-size}
 use Rattle.paper.proofs.Histories.{bytes-append}
 use Rattle.history.specs.Run.{Run, done, sends, waits}
-use Rattle.history.proofs.Touches.{memory-at, ticked-length}
+use Rattle.paper.proofs.Touches.{memory-at, ticked-length}
 
 -- a tick call on a part's own memory, refused or not
 module _ (p : Record) (n : ℕ) where

@@ -2,3 +2,4 @@ pub mod Run
 pub mod PageData
 pub mod Course
 pub mod ScriptLaws
+pub mod ScriptMap

@@ -1,22 +1,15 @@
 -- A sound part with its own memory, and what a run of calls leaves of it.
 use Prim.Native.Nat.{ℕ, _<_}
 use mathlib.Core.Path.{_≡_, sym, ap, _∙_}
-use mathlib.Core.Bool.{true}
 use mathlib.Core.List.{List}
 use lib.ListN.{length, getD}
 use Rattle.types.specs.declared.Memory.{Memory}
 use Rattle.types.specs.declared.Memory.the-variants.{Array, Rows}
-use Rattle.paper.specs.Sizes.{arrayBytes, rowsBytes}
-use Rattle.paper.specs.Soundness.{sound}
+use Rattle.paper.specs.Sizes.{arrayBytes}
 use Rattle.paper.specs.History.{Call, history, byteAfterAll}
-use Rattle.paper.specs.Board.{Board}
+use Rattle.paper.specs.Board.{Board, Own}
 use Rattle.history.proofs.Told.{Told, run-told}
 use Rattle.laws.specs.Writes.{Rested, Makes, memoryIn}
-
-pub record Own (b : Board) : Type 0 where
-  pub is-sound : sound (b .state) ≡ true
-  pub own-array : length (b .array) ≡ arrayBytes (b .state .part .blocks)
-  pub own-rows : length (b .rows) ≡ rowsBytes
 
 pub rested-own : (b : Board) → Rested b → Own b
 rested-own b r = record { is-sound = r .is-sound; own-array = r .own-array; own-rows = r .own-rows }

@@ -26,7 +26,7 @@ use Rattle.paper.specs.Calls.{refused, executed, ignored, outcomeTo, out
 use Rattle.paper.proofs.Soundness.{sound-parts}
 
 module _ (p : Record) (s : sound p ≡ true) where
-  size-fits : sizeNumber (p .part .blocks) (arrayBytes (p .part .blocks)) ≡ 0
+  pub size-fits : sizeNumber (p .part .blocks) (arrayBytes (p .part .blocks)) ≡ 0
   unfolding sizeNumber _and_ unless
   size-fits = rw (sound-parts p s .size, eq-eqb (arrayBytes (p .part .blocks)) (arrayBytes (p .part .blocks)) refl)
 

@@ -23,6 +23,11 @@ pub mod TickCalls
 pub mod LocksKept
 pub mod ErrorsKept
 pub mod Histories
+pub mod Touches
+pub mod Reached
+pub mod BlankPages
+pub mod Map
+pub mod BlankQuery
 pub mod Nested
 pub mod ByPlace
 pub mod RunToEnd

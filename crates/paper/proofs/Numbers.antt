@@ -17,7 +17,7 @@ use Rattle.words.proofs.Tests.{and-l, and-r, unless-zero, orElse-zero, orElse-o
 use Rattle.paper.specs.Sizes.{sizeOk, arrayBytes, rowsBytes, transactionLimit, tickLimit}
 use Rattle.paper.specs.Phases.{eraseHalted, isBusy, isSuspended}
 use Rattle.paper.specs.Table.{addressingOn, lengthOk, takenAsleep, takenBusy, takenSuspended}
-use Rattle.paper.specs.Numbers.{sizeNumber, rowsNumber, lengthNumber, outputNumber, soundNumber, ticksNumber, listsNumber, transactionRefusal, tickNumber, imageNumber, laterScriptRefusal, scriptRefusal, laterCheckRefusal, checkRefusal, stateOk, addressOk, freeOk, commandNumber}
+use Rattle.paper.specs.Numbers.{sizeNumber, rowsNumber, lengthNumber, outputNumber, soundNumber, ticksNumber, listsNumber, transactionRefusal, tickNumber, imageNumber, laterScriptRefusal, scriptRefusal, laterCheckRefusal, checkRefusal, stateOk, addressOk, freeOk, commandNumber, mapNumber, rebuildNumber, mapTickNumber, mapScriptRefusal}
 
 -- a tick call that is not refused, of a record of b blocks that is sound or is not
 pub record TicksTaken (b : ℕ) (sound : Bool) (a r n : ℕ) : Type 0 where
@@ -161,3 +161,17 @@ command-taken k w p f i wp e =
     let g = orElse-zero _ _ (m .1) in
     let h = orElse-zero _ _ (g .1) in
     record { not-asleep = unless-zero _ 20 (a .0); not-busy = unless-zero _ 21 (b .0); not-suspended = unless-zero _ 22 (c .0); length-ok = unless-zero _ 23 (d .0); state-ok = unless-zero _ 24 (m .0); latch-ok = unless-zero _ 25 (g .0); address-ok = unless-zero _ 26 (h .0); free-ok = unless-zero _ 27 (h .1) }
+
+-- calls that are lent a map: 1 and 36 come first, as a rebuild gives them, and then what the plain call gives
+first-two : (s m r : ℕ) → (s orElse m orElse r) ≡ ((s orElse m) orElse (s orElse r))
+unfolding _orElse_
+first-two zero m r = refl
+first-two (suc s) m r = refl
+
+pub map-tick-order : (n : ℕ) (s : Bool) (a r m t : ℕ) → mapTickNumber n s a r m t ≡ (rebuildNumber n a m orElse tickNumber n s a r t)
+unfolding mapTickNumber rebuildNumber tickNumber
+map-tick-order n s a r m t = first-two (sizeNumber n a) (mapNumber n m) (rowsNumber r orElse soundNumber s orElse ticksNumber n t)
+
+pub map-script-order : (b : ℕ) (s : Bool) (m a r : ℕ) (ls : List ℕ) (t n d i o : ℕ) → mapScriptRefusal b s m a r ls t n d i o ≡ (rebuildNumber b a m orElse scriptRefusal b s a r ls t n d i o)
+unfolding mapScriptRefusal rebuildNumber scriptRefusal
+map-script-order b s m a r ls t n d i o = first-two (sizeNumber b a) (mapNumber b m) (laterScriptRefusal s r ls t n d i o)

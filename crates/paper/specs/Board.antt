@@ -1,12 +1,15 @@
 -- A part with its memory, and what calls make of it.
 use Prim.Native.Nat.{ℕ}
+use mathlib.Core.Path.{_≡_}
 use mathlib.Core.List.{List, [], _∷_}
-use mathlib.Core.Bool.{Bool}
+use mathlib.Core.Bool.{Bool, true}
 use lib.ListN.{length}
 use Rattle.types.specs.declared.Memory.the-variants.{Array, Rows}
 use Rattle.types.specs.declared.Record.{Record}
 use Rattle.types.specs.declared.Answer.{Answer}
 use Rattle.types.specs.declared.Ticked.{Ticked}
+use Rattle.paper.specs.Sizes.{arrayBytes, rowsBytes}
+use Rattle.paper.specs.Soundness.{sound}
 use Rattle.paper.specs.Reads.{undriven}
 use Rattle.paper.specs.Calls.{transacted, transactedOutput, ticked, tickedMemory}
 use Rattle.paper.specs.History.{Call, transaction, ticks}
@@ -19,6 +22,12 @@ pub record Board : Type 0 where
 
 abbrev pub boardOf : Record → List ℕ → List ℕ → Board
 boardOf p xs rs = record { state = p; array = xs; rows = rs }
+
+-- a sound part with its own memory
+pub record Own (b : Board) : Type 0 where
+  pub is-sound : sound (b .state) ≡ true
+  pub own-array : length (b .array) ≡ arrayBytes (b .state .part .blocks)
+  pub own-rows : length (b .rows) ≡ rowsBytes
 
 -- the answer to a transaction with an output buffer of o bytes, and to a tick call
 abbrev pub answerTo : Board → Bool → List ℕ → ℕ → Answer

@@ -16,6 +16,7 @@ pub mod Ticks
 pub mod BlockTable
 pub mod Protection
 pub mod Suspend
+pub mod Reached
 pub mod History
 pub mod Halted
 pub mod ByPlace
@@ -23,4 +24,5 @@ pub mod CBench
 pub mod Board
 pub mod Script
 pub mod Check
+pub mod Map
 pub mod Bench

@@ -3,7 +3,7 @@ use Prim.Native.Nat.{ℕ}
 use mathlib.Core.List.{List}
 use mathlib.Core.Bool.{Bool, true, not}
 use lib.ListN.{length}
-use lib.Dec.{eqb, leb}
+use lib.Dec.{eqb, ltb, leb}
 use Rattle.types.specs.declared.Register.{Register}
 use Rattle.types.specs.declared.Register.the-variants.{Status, Function, Extended}
 use Rattle.types.specs.declared.Operation.{Operation}
@@ -23,7 +23,7 @@ use Rattle.types.specs.declared.Wanted.the-variants.{Any, Running, Halted, Arme
 use Rattle.types.specs.declared.Columns.{Columns}
 use Rattle.words.specs.Logic.{_and_, _or_, unless, _orElse_}
 use Rattle.words.specs.Lists.{sumTo}
-use Rattle.paper.specs.Sizes.{isLarge, sizeOk, arrayBytes, rowsBytes, transactionLimit, tickLimit}
+use Rattle.paper.specs.Sizes.{isLarge, sizeOk, arrayBytes, arrayPages, mapBytes, rowsBytes, transactionLimit, tickLimit}
 use Rattle.paper.specs.Address.{rowOk}
 use Rattle.paper.specs.Protection.{barred}
 use Rattle.paper.specs.Registers.{bitAt, bitsAt, TBS}
@@ -64,6 +64,14 @@ listsNumber ls t n d i =
     and eqb n (length ls)
     and eqb d (length ls)
     and eqb (sumTo ls (length ls)) i) 7
+
+-- 36: a map, of m bytes, isn't one bit per page of n blocks in length
+unfoldable pub mapNumber : ℕ → ℕ → ℕ
+mapNumber n m = unless (eqb m (mapBytes n)) 36
+
+-- 37: a query's page is beyond the part
+unfoldable pub pageNumber : ℕ → ℕ → ℕ
+pageNumber n q = unless (ltb q (arrayPages n)) 37
 
 -- 38: the lengths of a wanted image, m bytes, and of the array, a bytes, differ
 unfoldable pub imageNumber : ℕ → ℕ → ℕ
@@ -112,6 +120,24 @@ laterCheckRefusal sound m a r ls t n d i o = imageNumber m a orElse laterScriptR
 -- and its 1, 38, 2, 7, 4 and 5, which are tested before the first step
 unfoldable pub checkRefusal : ℕ → Bool → ℕ → ℕ → ℕ → List ℕ → ℕ → ℕ → ℕ → ℕ → ℕ → ℕ
 checkRefusal b sound m a r ls t n d i o = sizeNumber b a orElse laterCheckRefusal sound m a r ls t n d i o
+
+-- a rebuild of a map can give only 1 and 36
+unfoldable pub rebuildNumber : ℕ → ℕ → ℕ → ℕ
+rebuildNumber n a m = sizeNumber n a orElse mapNumber n m
+
+-- a query of a map only 1, for a size that is none, 36 and 37
+unfoldable pub queryNumber : ℕ → ℕ → ℕ → ℕ
+queryNumber n m q = unless (sizeOk n) 1 orElse mapNumber n m orElse pageNumber n q
+
+-- ticks that are lent a map only 1, 36, 2, 5 and 6
+unfoldable pub mapTickNumber : ℕ → Bool → ℕ → ℕ → ℕ → ℕ → ℕ
+mapTickNumber n sound a r m ticks =
+    sizeNumber n a orElse mapNumber n m orElse rowsNumber r orElse soundNumber sound orElse ticksNumber n ticks
+
+-- 1, 36, 2, 7, 4 and 5 of a script that is lent a map, which are tested before the first step
+unfoldable pub mapScriptRefusal : ℕ → Bool → ℕ → ℕ → ℕ → List ℕ → ℕ → ℕ → ℕ → ℕ → ℕ → ℕ
+mapScriptRefusal b sound m a r ls t n d i o =
+    sizeNumber b a orElse mapNumber b m orElse laterScriptRefusal sound r ls t n d i o
 
 -- 25: nothing running that can be suspended, nothing to resume, or 99h not armed
 abbrev pub stateOk : Wanted → Part → Phase → Bool

@@ -77,6 +77,11 @@ abbrev pub madeAt : Script → ℕ → Scripted → Made
 madeAt s k w =
     made (s .wp) (between (stepAt s k) (stepLength s k) (s .input)) (getD (s .ticks) k 0) (w .board) (between (stepAt s k) (stepLength s k) (w .output))
 
+-- the calls that it makes
+abbrev pub callsAt : Script → ℕ → Scripted → List Call
+callsAt s k w =
+    stepCalls (s .wp) (between (stepAt s k) (stepLength s k) (s .input)) (w .board) (length (between (stepAt s k) (stepLength s k) (w .output))) (getD (s .ticks) k 0)
+
 -- its output and its entries written
 unfoldable pub stepped : Script → ℕ → Scripted → Made → Scripted
 stepped s k w m =

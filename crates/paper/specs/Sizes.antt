@@ -50,6 +50,14 @@ memoryBytes Rows n = rowsBytes
 abbrev pub pageBytes : ℕ
 pageBytes = 256
 
+-- an array of n blocks, in pages
+abbrev pub arrayPages : ℕ → ℕ
+arrayPages n = n * 256
+
+-- a map of its pages, one bit for each, in bytes
+abbrev pub mapBytes : ℕ → ℕ
+mapBytes n = n * 32
+
 -- the last multiple of a size that is not above a place: where the page, or the unit, of that size begins that holds the place
 abbrev pub downTo : ℕ → ℕ → ℕ
 downTo size a = a / size * size

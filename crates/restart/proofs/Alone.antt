@@ -27,8 +27,8 @@ use Rattle.paper.proofs.CallKept.{call-sound, call-size}
 use Rattle.paper.proofs.TickCalls.{ticks-pass}
 use Rattle.paper.proofs.ByPlace.{from-on}
 use Rattle.paper.proofs.RunToEnd.{run-ends}
-use Rattle.paper.specs.Board.{Board}
-use Rattle.laws.proofs.Boards.{Own, rested-own, made-told, made-own}
+use Rattle.paper.specs.Board.{Board, Own}
+use Rattle.laws.proofs.Boards.{rested-own, made-told, made-own}
 use Rattle.restart.specs.Cuts.{upAgain, poweredAgain, Event, calls, power, Lives, over, sent, up, historyThrough, within, blanks, nothingElse, NoOther, RunsAlone, AloneThrough}
 use Rattle.restart.specs.Restart.{NothingElse, NothingElseThrough}
 use Rattle.restart.proofs.Lives.{up-size, up-own}

@@ -22,7 +22,7 @@ use Rattle.paper.specs.Records.{fresh}
 use Rattle.paper.specs.Soundness.{sound}
 use Rattle.paper.specs.Calls.{poweredUp}
 use Rattle.paper.specs.History.{Call, recordAfterCalls, history, byteAfterAll}
-use Rattle.paper.specs.Board.{Board, answerTo, afterCall}
+use Rattle.paper.specs.Board.{Board, Own, answerTo, afterCall}
 use Rattle.paper.proofs.Table.{known}
 use Rattle.paper.proofs.Soundness.{sound-parts}
 use Rattle.paper.proofs.Kept.{powered-fresh}
@@ -37,7 +37,7 @@ use Rattle.suspended.specs.UnderWay.{doneIn, neverIdle}
 use Rattle.suspended.proofs.UnderWay.{under-in-order, under-not-idle, never-first}
 use Rattle.suspended.proofs.Proceeds.{Proceeds, calls-proceed, done-in-unit}
 use Rattle.laws.specs.Writes.{erase, Write, steps, atStart, Begun, Rested, Makes, memoryIn}
-use Rattle.laws.proofs.Boards.{Own, rested-own, made-told, made-own, told-length, told-bytes}
+use Rattle.laws.proofs.Boards.{rested-own, made-told, made-own, told-length, told-bytes}
 use Rattle.laws.proofs.Begun.{start-sound, start-size, steps-record, steps-bytes}
 use Rattle.restart.specs.Cuts.{upAgain, Cut, by-reset, by-power, registersAfter, alone, aim}
 use Rattle.restart.specs.Restart.{inAimed, inFinished, CutAt, AtTheCut, ResetCuts}

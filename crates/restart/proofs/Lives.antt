@@ -9,11 +9,11 @@ use Rattle.types.specs.declared.Stored.{Stored}
 use Rattle.types.specs.declared.Record.{Record}
 use Rattle.paper.specs.Sizes.{arrayBytes}
 use Rattle.paper.specs.History.{recordAfterCalls, history, byteAfterAll}
-use Rattle.paper.specs.Board.{Board}
+use Rattle.paper.specs.Board.{Board, Own}
 use Rattle.paper.proofs.Kept.{power-up-sound, powered-fresh}
 use Rattle.paper.proofs.Histories.{bytes-append}
 use Rattle.laws.specs.Writes.{memoryIn}
-use Rattle.laws.proofs.Boards.{Own, made-told, made-own, told-length, told-bytes}
+use Rattle.laws.proofs.Boards.{made-told, made-own, told-length, told-bytes}
 use Rattle.restart.specs.Cuts.{upAgain, poweredAgain, Event, Lives, over, sent, up, recordAfterEvents, historyThrough}
 
 -- a power-up that is not refused

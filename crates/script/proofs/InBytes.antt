@@ -13,6 +13,7 @@ use Rattle.paper.specs.Soundness.{sound}
 use Rattle.paper.specs.Numbers.{sizeNumber, laterScriptRefusal, scriptRefusal}
 use Rattle.paper.specs.Board.{boardOf}
 use Rattle.paper.specs.Script.{Script, Scripted, afterSteps, unstepped, scripted}
+use Rattle.paper.specs.Map.{mapSteps, scriptMap}
 use Rattle.paper.proofs.Numbers.{ScriptTaken, script-taken}
 use Rattle.record_bytes.specs.declared.Found.{Found}
 use Rattle.record_bytes.specs.Layout.{recordBytes}
@@ -21,7 +22,7 @@ use Rattle.record_bytes.proofs.Back.{held-bytes, found-sound, on-none, on-held}
 use Rattle.script.specs.declared.Ran.{Ran}
 use Rattle.script.specs.declared.State.{State}
 use Rattle.script.specs.Steps.{world, Ready, Fit}
-use Rattle.script.specs.InBytes.{heldScript, ranOf, scriptBytes}
+use Rattle.script.specs.InBytes.{heldScript, ranOf, scriptBytes, heldMap}
 
 -- what a script gives, of its answer and of each buffer but the record's bytes
 pub record Gives (given : Scripted) (number step : ℕ) (xs rs o n d : List ℕ) : Type 0 where
@@ -60,6 +61,10 @@ module _ (bs : List ℕ) (x : Found) (ex : x ≡ found (recordIn bs)) (wp : ℕ)
       pub unheld-left : bs ≡ scriptBytes (recordIn bs) given bs
       unheld-left = sym (on-none (recordIn bs) _ bs e)
 
+      pub unheld-map : (m : List ℕ) → m ≡ heldMap (recordIn bs) wp s xs rs o n d m
+      unfolding heldMap
+      unheld-map m = sym (on-none (recordIn bs) _ m e)
+
     -- a record held
     module _ (e : recordIn bs .ok ≡ true) where
       abbrev held : Record
@@ -79,6 +84,10 @@ module _ (bs : List ℕ) (x : Found) (ex : x ≡ found (recordIn bs)) (wp : ℕ)
       unfolding heldScript
       held-given = on-held (recordIn bs) _ _ e
 
+      held-map : (m : List ℕ) → heldMap (recordIn bs) wp s xs rs o n d m ≡ scriptMap (sound held and leb wp 1) s (boardOf held xs rs) o n d m
+      unfolding heldMap
+      held-map m = on-held (recordIn bs) _ m e
+
       -- refused
       module _ (k : ℕ) (ek : k ≡ number) (h : k ≡ 0 → ⊥) where
         pub refused-given : given ≡ unstepped k (boardOf held xs rs) o n d
@@ -90,6 +99,10 @@ module _ (bs : List ℕ) (x : Found) (ex : x ≡ found (recordIn bs)) (wp : ℕ)
         pub refused-left : bs ≡ scriptBytes (recordIn bs) given bs
         refused-left =
             sym (on-held (recordIn bs) _ bs e ∙ ap (λ (w : Scripted). recordBytes (w .board .state)) refused-given ∙ held-bytes bs e)
+
+        pub refused-map : (m : List ℕ) → m ≡ heldMap (recordIn bs) wp s xs rs o n d m
+        unfolding scriptMap
+        refused-map m = sym (held-map m ∙ rw (ne-eqb _ _ (λ z. h (ek ∙ refusal-is ∙ z))) refl)
 
       -- or not: what the steps find
       module _ (z : number ≡ 0) where
@@ -114,3 +127,7 @@ module _ (bs : List ℕ) (x : Found) (ex : x ≡ found (recordIn bs)) (wp : ℕ)
           pub ran-left : recordIn bs′ .ok ≡ true → bs′ ≡ scriptBytes (recordIn bs) given bs
           ran-left ok =
               sym (on-held (recordIn bs) _ bs e ∙ ap (λ (w : Scripted). recordBytes (w .board .state)) ran-given ∙ held-bytes bs′ ok)
+
+        pub ran-map : (m m′ : List ℕ) → m′ ≡ mapSteps s (length (s .lengths)) (world start bs xs rs o n d) m → m′ ≡ heldMap (recordIn bs) wp s xs rs o n d m
+        unfolding scriptMap
+        ran-map m m′ em = em ∙ sym (held-map m ∙ rw (eq-eqb _ _ (sym refusal-is ∙ z)) refl)

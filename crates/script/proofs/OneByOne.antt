@@ -1,4 +1,4 @@
--- Steps one after the other: where each lies in the buffers, what it makes of the script's values, and that a script which has stopped stays so.
+-- Steps one after the other: where each lies in the buffers, what it makes of the script's values and of a map, and that a script which has stopped stays so.
 use Prim.Native.Nat.{ℕ, zero, suc, _+_, _≤_, _<_}
 use mathlib.Core.Path.{_≡_, refl, sym, ap, _∙_}
 use mathlib.Core.Bool.{Bool, true, false}
@@ -12,7 +12,10 @@ use Rattle.types.specs.declared.Identity.{Identity}
 use Rattle.words.specs.Logic.{whenZero}
 use Rattle.words.specs.Lists.{sumTo, between, putBetween}
 use Rattle.words.proofs.Sums.{sum-within}
-use Rattle.paper.specs.Script.{Script, Scripted, Made, made, stepped, afterSteps}
+use Rattle.paper.specs.History.{Call}
+use Rattle.paper.specs.Board.{boardOf}
+use Rattle.paper.specs.Script.{Script, Scripted, stepCalls, Made, made, callsAt, stepped, afterSteps}
+use Rattle.paper.specs.Map.{MapScripted, mapAfterCalls, mapSteps}
 use Rattle.record_bytes.specs.Read.{recordIn}
 use Rattle.script.specs.declared.State.{State}
 use Rattle.script.specs.Steps.{world, turned, Ready, Fit}
@@ -38,69 +41,90 @@ module _ (s : Script) (k : ℕ) (w : Scripted) where
       ∙ ap (λ (b : ℕ). put b n (madeFrom b n) (whenZero (madeFrom b n .number) (k + 1) k)) ea
       ∙ ap (λ (l : ℕ). put (sumTo (s .lengths) k) l (madeFrom (sumTo (s .lengths) k) l) (whenZero (madeFrom (sumTo (s .lengths) k) l .number) (k + 1) k)) en
 
-module _ (s : Script) (w₀ : Scripted) where
-  -- one step more
-  abbrev onward : ℕ → Scripted → Scripted
-  onward k v = whenZero (v .number) (turned s k v) v
+  -- the calls are those of the step
+  abbrev callsFrom : ℕ → ℕ → List Call
+  callsFrom at n =
+      stepCalls (s .wp) (between at n (s .input)) (w .board) (length (between at n (w .output))) (getD (s .ticks) k 0)
 
-  pub step-on : (k : ℕ) (w v : Scripted) → w ≡ afterSteps s k w₀ → w .number ≡ 0 → v ≡ turned s k w → v ≡ afterSteps s (k + 1) w₀
+  pub calls-are : (at n : ℕ) → at ≡ sumTo (s .lengths) k → n ≡ getD (s .lengths) k 0 → callsFrom at n ≡ callsAt s k w
+  calls-are at n ea en = ap (λ (b : ℕ). callsFrom b n) ea ∙ ap (callsFrom (sumTo (s .lengths) k)) en
+
+module _ (s : Script) (w₀ : MapScripted) where
+  -- the first k steps, and one step more
+  abbrev after : ℕ → MapScripted
+  after k = record { run = afterSteps s k (w₀ .run); map = mapSteps s k (w₀ .run) (w₀ .map) }
+
+  abbrev once : ℕ → MapScripted → MapScripted
+  once k v = record { run = turned s k (v .run); map = mapAfterCalls (callsAt s k (v .run)) (v .run .board) (v .map) }
+
+  abbrev onward : ℕ → MapScripted → MapScripted
+  onward k v = record { run = whenZero (v .run .number) (once k v .run) (v .run); map = whenZero (v .run .number) (once k v .map) (v .map) }
+
+  pub step-on : (k : ℕ) (w v : MapScripted) → w ≡ after k → w .run .number ≡ 0 → v ≡ once k w → v ≡ after (k + 1)
   step-on k w v e go ev =
-      let on : turned s k w ≡ onward k w = rw (eq-eqb (w .number) 0 go) refl in
+      let on : once k w ≡ onward k w = rw (eq-eqb (w .run .number) 0 go) refl in
       rw add-one (ev ∙ on ∙ ap (onward k) e)
 
   -- nothing after the stop is written
-  stays-by : (k n : ℕ) → k ≤ suc n → (k ≤ n → afterSteps s n w₀ ≡ afterSteps s k w₀) → (afterSteps s k w₀ .number ≡ 0 → ⊥) → (t : Bool) → leb k n ≡ t → afterSteps s (suc n) w₀ ≡ afterSteps s k w₀
+  stays-by : (k n : ℕ) → k ≤ suc n → (k ≤ n → after n ≡ after k) → (after k .run .number ≡ 0 → ⊥) → (t : Bool) → leb k n ≡ t → after (suc n) ≡ after k
   stays-by k n h before stop true e =
       let same = before (leb-true k n e) in
-      let off : onward n (afterSteps s k w₀) ≡ afterSteps s k w₀ = rw (ne-eqb (afterSteps s k w₀ .number) 0 stop) refl in
+      let off : onward n (after k) ≡ after k = rw (ne-eqb (after k .run .number) 0 stop) refl in
       ap (onward n) same ∙ off
   stays-by k n h before stop false e =
       let same : suc n ≡ k = omega (arith, h, leb-false k n e) in
-      ap (λ (m : ℕ). afterSteps s m w₀) same
+      ap after same
 
-  pub stays : (k n : ℕ) → k ≤ n → (afterSteps s k w₀ .number ≡ 0 → ⊥) → afterSteps s n w₀ ≡ afterSteps s k w₀
-  stays k zero h stop = let same : 0 ≡ k = omega arith in ap (λ (m : ℕ). afterSteps s m w₀) same
+  pub stays : (k n : ℕ) → k ≤ n → (after k .run .number ≡ 0 → ⊥) → after n ≡ after k
+  stays k zero h stop = let same : 0 ≡ k = omega arith in ap after same
   stays k (suc n) h stop = stays-by k n h (λ (l : k ≤ n). stays k n l stop) stop (leb k n) refl
 
 -- what the loop carries after k steps
-pub record Along (id : Identity) (s : Script) (k : ℕ) (w₀ : Scripted) (q : State) (bs xs rs o n d : List ℕ) : Type 0 where
-  pub told : world q bs xs rs o n d ≡ afterSteps s k w₀
+pub record Along (id : Identity) (s : Script) (k : ℕ) (w₀ : MapScripted) (q : State) (bs xs rs o n d m : List ℕ) : Type 0 where
+  pub told : record { run = world q bs xs rs o n d; map = m } ≡ after s w₀ k
   pub within : k ≤ length (s .lengths)
   pub going : q .number ≡ 0
   pub at : q .at ≡ sumTo (s .lengths) k
   pub ready : Ready bs (length xs) (length rs)
   pub identity : id ≡ recordIn bs .state .identity
-  pub array : length xs ≡ length (w₀ .board .array)
-  pub rows : length rs ≡ length (w₀ .board .rows)
-  pub output : length o ≡ length (w₀ .output)
-  pub answers : length n ≡ length (w₀ .answers)
-  pub done : length d ≡ length (w₀ .done)
+  pub array : length xs ≡ length (w₀ .run .board .array)
+  pub rows : length rs ≡ length (w₀ .run .board .rows)
+  pub output : length o ≡ length (w₀ .run .output)
+  pub answers : length n ≡ length (w₀ .run .answers)
+  pub done : length d ≡ length (w₀ .run .done)
+  pub map : length m ≡ length (w₀ .map)
 
-module _ (id : Identity) (s : Script) (k : ℕ) (w₀ : Scripted) (q : State) (bs xs rs o n d : List ℕ) (l : Along id s k w₀ q bs xs rs o n d) where
-  pub fit-along : Fit s (length (w₀ .output)) (length (w₀ .answers)) (length (w₀ .done)) → Fit s (length o) (length n) (length d)
+module _ (id : Identity) (s : Script) (k : ℕ) (w₀ : MapScripted) (q : State) (bs xs rs o n d m : List ℕ) (l : Along id s k w₀ q bs xs rs o n d m) where
+  pub fit-along : Fit s (length (w₀ .run .output)) (length (w₀ .run .answers)) (length (w₀ .run .done)) → Fit s (length o) (length n) (length d)
   fit-along f =
       record { ticks = f .ticks; answers = l .answers ∙ f .answers; done = l .done ∙ f .done; output = l .output ∙ f .output; sum = f .sum }
 
   -- after the last step
-  pub all-made : length (s .lengths) ≤ k → world q bs xs rs o n d ≡ afterSteps s (length (s .lengths)) w₀
+  pub all-made : length (s .lengths) ≤ k → record { run = world q bs xs rs o n d; map = m } ≡ after s w₀ (length (s .lengths))
   all-made h =
       let e : k ≡ length (s .lengths) = omega (arith, l .within) in
-      l .told ∙ ap (λ (m : ℕ). afterSteps s m w₀) e
+      l .told ∙ ap (after s w₀) e
 
   -- after one more
-  module _ (h : k < length (s .lengths)) (q′ : State) (bs′ xs′ rs′ o′ n′ d′ : List ℕ) (e : world q′ bs′ xs′ rs′ o′ n′ d′ ≡ turned s k (world q bs xs rs o n d)) where
-    told-on : world q′ bs′ xs′ rs′ o′ n′ d′ ≡ afterSteps s (k + 1) w₀
-    told-on = step-on s w₀ k (world q bs xs rs o n d) (world q′ bs′ xs′ rs′ o′ n′ d′) (l .told) (l .going) e
+  module _ (h : k < length (s .lengths)) (q′ : State) (bs′ xs′ rs′ o′ n′ d′ m′ : List ℕ) (e : world q′ bs′ xs′ rs′ o′ n′ d′ ≡ turned s k (world q bs xs rs o n d))
+      (em : m′ ≡ mapAfterCalls (callsAt s k (world q bs xs rs o n d)) (boardOf (recordIn bs .state) xs rs) m) where
+    abbrev next : MapScripted
+    next = record { run = world q′ bs′ xs′ rs′ o′ n′ d′; map = m′ }
+
+    told-on : next ≡ after s w₀ (k + 1)
+    told-on =
+        let w : MapScripted = record { run = world q bs xs rs o n d; map = m } in
+        step-on s w₀ k w next (l .told) (l .going) (ap (λ (v : Scripted). record { run = v; map = m′ }) e ∙ ap (λ (y : List ℕ). record { run = turned s k (w .run); map = y }) em)
 
     -- which stops the script
-    pub stopped-at : (q′ .number ≡ 0 → ⊥) → world q′ bs′ xs′ rs′ o′ n′ d′ ≡ afterSteps s (length (s .lengths)) w₀
+    pub stopped-at : (q′ .number ≡ 0 → ⊥) → next ≡ after s w₀ (length (s .lengths))
     stopped-at stop =
-        let off : afterSteps s (k + 1) w₀ .number ≡ 0 → ⊥ = λ z. stop (ap (λ (v : Scripted). v .number) told-on ∙ z) in
+        let off : after s w₀ (k + 1) .run .number ≡ 0 → ⊥ = λ z. stop (ap (λ (v : MapScripted). v .run .number) told-on ∙ z) in
         told-on ∙ sym (stays s w₀ (k + 1) (length (s .lengths)) (omega arith) off)
 
     -- or does not
     pub one-more : q′ .number ≡ 0 → q′ .at ≡ sumTo (s .lengths) (k + 1) → Ready bs′ (length xs) (length rs) → id ≡ recordIn bs′ .state .identity
-        → length xs′ ≡ length xs → length rs′ ≡ length rs → length o′ ≡ length o → length n′ ≡ length n → length d′ ≡ length d
-        → Along id s (k + 1) w₀ q′ bs′ xs′ rs′ o′ n′ d′
-    one-more go at ready same ex er eo en ed =
-        record { told = told-on; within = omega arith; going = go; at = at; ready = rw (ex, er) ready; identity = same; array = ex ∙ l .array; rows = er ∙ l .rows; output = eo ∙ l .output; answers = en ∙ l .answers; done = ed ∙ l .done }
+        → length xs′ ≡ length xs → length rs′ ≡ length rs → length o′ ≡ length o → length n′ ≡ length n → length d′ ≡ length d → length m′ ≡ length m
+        → Along id s (k + 1) w₀ q′ bs′ xs′ rs′ o′ n′ d′ m′
+    one-more go at ready same ex er eo en ed em′ =
+        record { told = told-on; within = omega arith; going = go; at = at; ready = rw (ex, er) ready; identity = same; array = ex ∙ l .array; rows = er ∙ l .rows; output = eo ∙ l .output; answers = en ∙ l .answers; done = ed ∙ l .done; map = em′ ∙ l .map }

@@ -33,13 +33,18 @@ use Rattle.paper.specs.Operations.{ticksLeft, advancedBy}
 use Rattle.paper.specs.Commands.{changed}
 use Rattle.paper.specs.Numbers.{sizeNumber, rowsNumber, soundNumber, ticksNumber, tickNumber}
 use Rattle.paper.specs.Ticks.{finishedPart, recordAfter, workingTicks}
+use Rattle.paper.specs.Reached.{nothing, reached}
 use Rattle.paper.specs.Calls.{outcomeOf, answered, transacted, outputAfter, transactedOutput, ticked, tickedMemory}
 use Rattle.paper.specs.Board.{Board, boardOf}
-use Rattle.paper.specs.Script.{stopping, made}
+use Rattle.paper.specs.Script.{stopping, stepCalls, made}
+use Rattle.paper.specs.Map.{kept}
+use Rattle.paper.proofs.Map.{none-kept}
 use Rattle.paper.proofs.Kept.{run-sound, run-size}
 use Rattle.paper.proofs.TransactionKept.{transaction-sound, transaction-size, transaction-identity}
 use Rattle.paper.proofs.CallKept.{after-tick-call, done-at-most}
 use Rattle.paper.proofs.Answers.{ticks-run, ticks-memory}
+use Rattle.blank_map.specs.Marked.{marked}
+use Rattle.blank_map.proofs.Kept.{marked-kept}
 use Rattle.record_bytes.specs.Layout.{headerLength, recordLength, changeWritten}
 use Rattle.record_bytes.specs.Read.{Held, held, recordIn, partAgain, phaseAgain}
 use Rattle.record_bytes.proofs.Back.{held-page}
@@ -47,7 +52,7 @@ use Rattle.record_bytes.proofs.Again.{again-part, again-phase}
 use Rattle.record_bytes.proofs.Fits.{held-page-length, changed-held}
 use Rattle.ticks.specs.Waited.{tickChange, waitedOf, waitedMemory, tickedBy}
 use Rattle.ticks.proofs.Waited.{ticked-told, memory-told}
-use Rattle.script.specs.Steps.{OnlyRuns, Ready, workedOf, madeOf}
+use Rattle.script.specs.Steps.{OnlyRuns, Ready, workedOf, madeOf, Marks}
 
 -- ticks can give only 1, 2, 5 and 6, and each of these stops a script
 unless-le : (b : Bool) (n : ℕ) → n ≤ 6 → unless b n ≤ 6
@@ -99,11 +104,12 @@ module _ (p : Part) (f : Phase) (s : Bool) (a r n : ℕ) where
 ticked-identity : (p : Record) (a r t : ℕ) → ticked p a r t .next .identity ≡ p .identity
 ticked-identity p a r t = ap (λ (x : Ticked). x .next .identity) (sym (ticked-told p a r t))
 
--- a change that is the same leaves the bytes
-same-as : (bs : List ℕ) (t : Bool) → cond t bs bs ≡ bs
-same-as bs true = refl
-same-as bs false = refl
+-- a test between the same and the same
+same-as : {A : Type 0} (x : A) (t : Bool) → cond t x x ≡ x
+same-as x true = refl
+same-as x false = refl
 
+-- a change that is the same leaves the bytes
 pub same-written : (bs : List ℕ) → bs ≡ changeWritten Same [] bs
 unfolding changeWritten
 same-written bs = sym (same-as bs (eqb (length bs) recordLength))
@@ -138,8 +144,10 @@ module _ (bs xs rs : List ℕ) (h : Ready bs (length xs) (length rs)) where
             ∙ ap (λ (s : Bool). waitedOf (before .part) (before .phase) s (length xs) (length rs) t) (sym (h .is-sound)))
             ∙ ticked-told before (length xs) (length rs) t
 
-        pub waits-told : _≡_ {A = Worked} record { number = u .number; done = u .done } (workedOf before (length xs) (length rs) t)
-        waits-told = ap (λ (x : Ticked). record { number = x .number; done = x .done }) waited-is
+        pub waits-told : (w : Work) → w ≡ running f → _≡_ {A = Worked} record { number = u .number; reached = record { work = w; count = u .done } } (workedOf before (length xs) (length rs) t)
+        waits-told w ew =
+            ap (λ (v : Work). record { number = u .number; reached = record { work = v; count = u .done } }) (ew ∙ ap running phase-is)
+            ∙ ap (λ (x : Ticked). record { number = x .number; reached = reached before x }) waited-is
 
         pub waits-held : (bs′ : List ℕ) → bs′ ≡ changeWritten (u .change) [] bs → recordIn bs′ ≡ held (waits .next)
         waits-held bs′ eb =
@@ -210,12 +218,18 @@ module _ (bs xs rs : List ℕ) (h : Ready bs (length xs) (length rs)) where
               eid ∙ sym (ap (λ (q : Record). q .identity) sent-is ∙ transaction-identity before i (length xs) (length rs) wp (length o))
 
           -- it stops the script
-          pub stopped-made : (k : ℕ) → k ≡ stopping (u .number) → (k ≡ 0 → ⊥) → madeOf (record { answer = u .number; done = 0; number = k }) bs′ xs rs o′ ≡ made wp i t board o
+          pub stopped-made : (k : ℕ) → k ≡ stopping (u .number) → (k ≡ 0 → ⊥) → madeOf (record { answer = u .number; number = k; reached = nothing }) bs′ xs rs o′ ≡ made wp i t board o
           unfolding made
           stopped-made k ek stop =
               let e : k ≡ stopping (sent .number) = ek ∙ ap stopping number-is in
               let off : stopping (sent .number) ≡ 0 → ⊥ = λ z. stop (e ∙ z) in
               rw (sent-is, output-is, number-is, e, ne-eqb _ _ off, orElse-first _ (stopping (ticked (sent .next) (length xs) (length rs) t .number)) off)
+
+          pub stopped-marks : (k : ℕ) → k ≡ stopping (u .number) → (k ≡ 0 → ⊥) → Marks nothing xs (stepCalls wp i board (length o) t) board
+          unfolding marked
+          stopped-marks k ek stop m =
+              let off : stopping (sent .number) ≡ 0 → ⊥ = λ z. stop (ek ∙ ap stopping number-is ∙ z) in
+              rw (ne-eqb _ _ off) refl
 
           -- it does not: then what its ticks give is the step's
           module _ (go : stopping (u .number) ≡ 0) (w : Worked) (bs″ xs′ rs′ : List ℕ) (ew : w ≡ workedOf (recordIn bs′ .state) (length xs) (length rs) t) (eh : recordIn bs″ ≡ held (ticked (recordIn bs′ .state) (length xs) (length rs) t .next))
@@ -238,14 +252,22 @@ module _ (bs xs rs : List ℕ) (h : Ready bs (length xs) (length rs)) where
             rows-is : rs′ ≡ tickedMemory Rows (sent .next) (length xs) (length rs) t rs
             rows-is = er ∙ ap (λ (q : Record). tickedMemory Rows q (length xs) (length rs) t rs) sent-is
 
-            pub ran-made : madeOf (record { answer = u .number; done = w .done; number = w .number }) bs″ xs′ rs′ o′ ≡ made wp i t board o
+            pub ran-made : madeOf (record { answer = u .number; number = w .number; reached = w .reached }) bs″ xs′ rs′ o′ ≡ made wp i t board o
             unfolding made
             ran-made =
                 let z : stopping (sent .number) ≡ 0 = ap stopping (sym number-is) ∙ go in
-                let done : w .done ≡ last .done = ap (λ (x : Worked). x .done) worked-is in
+                let done : w .reached .count ≡ last .done = ap (λ (x : Worked). x .reached .count) worked-is in
                 let number : w .number ≡ last .number = ap (λ (x : Worked). x .number) worked-is in
                 let stops : stopping (last .number) ≡ last .number = rw (le-leb _ _ (ticked-number-le (sent .next) (length xs) (length rs) t)) refl in
                 rw (last-is, array-is, rows-is, output-is, number-is, done, number, eq-eqb _ _ z, orElse-on _ (stopping (last .number)) z, stops)
+
+            pub ran-marks : Marks (w .reached) xs′ (stepCalls wp i board (length o) t) board
+            ran-marks m =
+                let z : stopping (sent .number) ≡ 0 = ap stopping (sym number-is) ∙ go in
+                ap (λ (x : Worked). marked (x .reached) xs′ m) worked-is
+                ∙ ap (λ (ys : List ℕ). marked (reached (sent .next) last) ys m) array-is
+                ∙ marked-kept (sent .next) sent-sound xs own-array (length xs) (length rs) t m
+                ∙ rw (eq-eqb _ _ z) refl
 
             pub ran-ready : Ready bs″ (length xs) (length rs)
             ran-ready =
@@ -262,8 +284,8 @@ module _ (bs xs rs : List ℕ) (h : Ready bs (length xs) (length rs)) where
                 let q = sent .next in
                 eid ∙ sym (ap (λ (x : Record). x .identity) last-is ∙ ticked-identity q (length xs) (length rs) t ∙ transaction-identity before i (length xs) (length rs) wp (length o))
 
-            pub ran-done : w .done ≤ t
-            ran-done = omega (arith, ap (λ (x : Worked). x .done) worked-is, done-at-most (sent .next) (length xs) (length rs) t .0)
+            pub ran-done : w .reached .count ≤ t
+            ran-done = omega (arith, ap (λ (x : Worked). x .reached .count) worked-is, done-at-most (sent .next) (length xs) (length rs) t .0)
 
           -- where it asks for no ticks, none are the same as a call of 0
           module _ (go : stopping (u .number) ≡ 0) (ez : t ≡ 0) where
@@ -282,8 +304,18 @@ module _ (bs xs rs : List ℕ) (h : Ready bs (length xs) (length rs)) where
                 ∙ ap (λ (k : ℕ). tickedMemory m q (length xs) rowsBytes k ys) ez
                 ∙ ticks-memory q (sent-ready .is-sound) m (length xs) 0 ys (sent-ready .array) (omega arith)
 
-            pub none-made : madeOf (record { answer = u .number; done = 0; number = 0 }) bs′ xs rs o′ ≡ made wp i t board o
+            pub none-made : madeOf (record { answer = u .number; number = 0; reached = nothing }) bs′ xs rs o′ ≡ made wp i t board o
             none-made =
-                let e : _≡_ {A = Worked} record { number = 0; done = 0 } (workedOf (recordIn bs′ .state) (length xs) (length rs) t) = ap (λ (x : Ticked). record { number = x .number; done = x .done }) (sym none) in
+                let w : Worked = record { number = 0; reached = record { work = running (recordIn bs′ .state .phase); count = 0 } } in
+                let e : w ≡ workedOf (recordIn bs′ .state) (length xs) (length rs) t = ap (λ (x : Ticked). record { number = x .number; reached = reached (recordIn bs′ .state) x }) (sym none) in
                 let f : recordIn bs′ ≡ held (ticked (recordIn bs′ .state) (length xs) (length rs) t .next) = sent-held ∙ ap held (sym sent-is ∙ sym (ap (λ (x : Ticked). x .next) none)) in
-                ran-made go (record { number = 0; done = 0 }) bs′ xs rs e f (sym (none-memory Array xs)) (sym (none-memory Rows rs))
+                ran-made go w bs′ xs rs e f (sym (none-memory Array xs)) (sym (none-memory Rows rs))
+
+            pub none-marks : Marks nothing xs (stepCalls wp i board (length o) t) board
+            unfolding marked
+            none-marks m =
+                let z : stopping (sent .number) ≡ 0 = ap stopping (sym number-is) ∙ go in
+                let q = sent .next in
+                let e : ticked q (length xs) (length rs) t .done ≡ 0 = ap (λ (y : Record). ticked y (length xs) (length rs) t .done) (sym sent-is) ∙ ap (λ (x : Ticked). x .done) none in
+                let ys = tickedMemory Array q (length xs) (length rs) t xs in
+                rw (eq-eqb _ _ z) (sym (ap (λ (d : ℕ). kept (record { work = running (q .phase); count = d }) ys m) e ∙ none-kept (running (q .phase)) ys m))

@@ -22,4 +22,7 @@ pub run-one-answers : OneExit run.Learnt (λ κ s. now (s .1 .1 .1 .1 .1 .1 .1 .
 run-one-answers κ a x y s t p q = agree (p .1 .1 .1 .1 .1 .0) (q .1 .1 .1 .1 .1 .0)
 
 pub run-one-done : OneExit run.Learnt (λ κ s. now (s .1 .1 .1 .1 .1 .1 .1 .1 .1 .0))
-run-one-done κ a x y s t p q = agree (p .1 .1 .1 .1 .1 .1) (q .1 .1 .1 .1 .1 .1)
+run-one-done κ a x y s t p q = agree (p .1 .1 .1 .1 .1 .1 .0) (q .1 .1 .1 .1 .1 .1 .0)
+
+pub run-one-map : OneExit run.Learnt (λ κ s. now (s .1 .1 .1 .1 .1 .1 .1 .1 .1 .1 .0))
+run-one-map κ a x y s t p q = agree (p .1 .1 .1 .1 .1 .1 .1) (q .1 .1 .1 .1 .1 .1 .1)

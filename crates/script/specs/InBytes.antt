@@ -9,6 +9,7 @@ use Rattle.paper.specs.Soundness.{sound}
 use Rattle.paper.specs.Numbers.{laterScriptRefusal}
 use Rattle.paper.specs.Board.{boardOf}
 use Rattle.paper.specs.Script.{Script, Scripted, unstepped, scripted}
+use Rattle.paper.specs.Map.{scriptMap}
 use Rattle.record_bytes.specs.Layout.{recordBytes}
 use Rattle.record_bytes.specs.Read.{Held, onHeld}
 use Rattle.script.specs.declared.Ran.{Ran}
@@ -30,3 +31,7 @@ ranOf w = record { number = w .number; step = w .step }
 -- the record's bytes after it: the last record's; where none was held, as they were
 abbrev pub scriptBytes : Held → Scripted → List ℕ → List ℕ
 scriptBytes h w bs = onHeld h (λ p. recordBytes (w .board .state)) bs
+
+-- and a map after it: where none was held, as it was
+unfoldable pub heldMap : Held → ℕ → Script → List ℕ → List ℕ → List ℕ → List ℕ → List ℕ → List ℕ → List ℕ
+heldMap h wp s xs rs o n d m = onHeld h (λ p. scriptMap (sound p and leb wp 1) s (boardOf p xs rs) o n d m) m

@@ -7,13 +7,18 @@ use lib.ListN.{length}
 use Rattle.types.specs.declared.Change.{Change}
 use Rattle.types.specs.declared.Change.the-variants.{Same, Marked, Live, Anew, Runs, Halts, GoesOn, Clears}
 use Rattle.types.specs.declared.Record.{Record}
+use Rattle.types.specs.declared.Reached.{Reached}
 use Rattle.types.specs.declared.Worked.{Worked}
 use Rattle.words.specs.Lists.{sumTo}
 use Rattle.paper.specs.Sizes.{arrayBytes, rowsBytes}
 use Rattle.paper.specs.Soundness.{sound}
+use Rattle.paper.specs.Reached.{reached}
 use Rattle.paper.specs.Calls.{ticked}
-use Rattle.paper.specs.Board.{boardOf}
+use Rattle.paper.specs.History.{Call}
+use Rattle.paper.specs.Board.{Board, boardOf}
 use Rattle.paper.specs.Script.{Script, Scripted, Made, madeAt, stepped}
+use Rattle.paper.specs.Map.{mapAfterCalls}
+use Rattle.blank_map.specs.Marked.{marked}
 use Rattle.record_bytes.specs.Read.{recordIn}
 use Rattle.script.specs.declared.Stepped.{Stepped}
 use Rattle.script.specs.declared.State.{State}
@@ -36,14 +41,18 @@ OnlyRuns (Halts q) = ⊥
 OnlyRuns (GoesOn q) = ⊥
 OnlyRuns (Clears q) = ⊥
 
--- what t ticks of a record answer, for an array of a and rows of r bytes
+-- what t ticks of a record answer and reach, for an array of a and rows of r bytes
 abbrev pub workedOf : Record → ℕ → ℕ → ℕ → Worked
-workedOf p a r t = record { number = ticked p a r t .number; done = ticked p a r t .done }
+workedOf p a r t = record { number = ticked p a r t .number; reached = reached p (ticked p a r t) }
 
 -- what a step gives, with the record in its bytes, the memory and its output
 abbrev pub madeOf : Stepped → List ℕ → List ℕ → List ℕ → List ℕ → Made
 madeOf q bs xs rs o =
-    record { board = boardOf (recordIn bs .state) xs rs; output = o; answer = q .answer; done = q .done; number = q .number }
+    record { board = boardOf (recordIn bs .state) xs rs; output = o; answer = q .answer; done = q .reached .count; number = q .number }
+
+-- what a step reached, which left the array xs: a map that is marked by it is as after the step's calls
+abbrev pub Marks : Reached → List ℕ → List Call → Board → Type 0
+Marks r xs cs b = (m : List ℕ) → marked r xs m ≡ mapAfterCalls cs b m
 
 -- where a script is, with these, the output and the two lists
 abbrev pub world : State → List ℕ → List ℕ → List ℕ → List ℕ → List ℕ → List ℕ → Scripted

@@ -12,14 +12,17 @@ ghost use Rattle.words.specs.Lists.{sumTo};
 ghost use Rattle.paper.specs.Numbers.{laterScriptRefusal};
 ghost use Rattle.paper.specs.Calls.{ticked, tickedMemory};
 ghost use Rattle.paper.specs.Board.{boardOf};
-ghost use Rattle.paper.specs.Script.{stopping, made, afterSteps};
+ghost use Rattle.paper.specs.Script.{stopping, stepCalls, made, callsAt, afterSteps};
+ghost use Rattle.paper.specs.Map.{mapAfterCalls, mapSteps};
 ghost use Rattle.record_bytes.specs.Layout.{changeWritten};
 ghost use Rattle.record_bytes.specs.Read.{held, recordIn};
-ghost use Rattle.script.specs.Steps.{OnlyRuns, Ready, workedOf, madeOf, world, turned, Fit};
-ghost use Rattle.script.specs.InBytes.{scriptOf, heldScript, ranOf, scriptBytes};
+ghost use Rattle.script.specs.Steps.{OnlyRuns, Ready, workedOf, madeOf, Marks, world, turned, Fit};
+ghost use Rattle.script.specs.InBytes.{scriptOf, heldScript, ranOf, scriptBytes, heldMap};
 use record_bytes::places;
 use types::Change;
 use types::Identity;
+use types::Reached;
+use types::Work;
 use types::Worked;
 
 // What a script answers: the number that refuses or stops it, 0 where none does, and the step.
@@ -28,11 +31,11 @@ pub struct Ran {
     pub step: usize,
 }
 
-// What a step gives: its transaction's answer, its ticks done, and the number that stops the script, or 0.
+// What a step gives: its transaction's answer, the number that stops the script, or 0, and what its ticks reached.
 struct Stepped {
     answer: u8,
-    done: usize,
     number: u8,
+    reached: Reached,
 }
 
 // What steps carry: the number that stops the script, or 0, the step, and where the next one begins.
@@ -79,13 +82,17 @@ fn wait(bytes: &mut [u8], array: &mut [u8], rows: &mut [u8], ticks: usize) -> Wo
 {
     let part = record_bytes::reading::part_again(bytes);
     let phase = record_bytes::reading::phase_again(bytes);
+    let work = phases::running(phase);
     let page = &bytes[places::PAGE..places::END];
     let told = ticks::tick_part(part, phase, true, page, array, rows, ticks);
     let change = told.change;
     write_ran(change, bytes);
     Worked {
         number: told.number,
-        done: told.done,
+        reached: Reached {
+            work: work,
+            count: told.done,
+        },
     }
 }
 
@@ -103,33 +110,39 @@ fn step(
 ) -> Stepped
     requires { ⌜ Ready (now bytes) (length (now array)) (length (now rows)) × (identity ≡ recordIn (now bytes) .state .identity) ⌝ }
     ensures made { λ r. ⌜ madeOf r (now (bytes .exit)) (now (array .exit)) (now (rows .exit)) (now (output .exit)) ≡ made wp (now (input .entry)) ticks (boardOf (recordIn (now (bytes .entry)) .state) (now (array .entry)) (now (rows .entry))) (now (output .entry)) ⌝ }
-    ensures ready { λ r. ⌜ Ready (now (bytes .exit)) (length (now (array .entry))) (length (now (rows .entry))) × (identity ≡ recordIn (now (bytes .exit)) .state .identity) × (r .done ≤ ticks) ⌝ }
+    ensures ready { λ r. ⌜ Ready (now (bytes .exit)) (length (now (array .entry))) (length (now (rows .entry))) × (identity ≡ recordIn (now (bytes .exit)) .state .identity) × (r .reached .count ≤ ticks) ⌝ }
+    ensures marks { λ r. ⌜ Marks (r .reached) (now (array .exit)) (stepCalls wp (now (input .entry)) (boardOf (recordIn (now (bytes .entry)) .state) (now (array .entry)) (now (rows .entry))) (length (now (output .entry))) ticks) (boardOf (recordIn (now (bytes .entry)) .state) (now (array .entry)) (now (rows .entry))) ⌝ }
 {
     let part = record_bytes::reading::part_again(bytes);
     let phase = record_bytes::reading::phase_again(bytes);
     let sent = transact::transact_part(identity, part, phase, true, array, rows, wp, input, output);
     let change = sent.change;
     record_bytes::writing::write_change(change, input, bytes);
+    let nothing = Reached {
+        work: Work::NoWork,
+        count: 0,
+    };
     let stop = stopping(sent.number);
     if stop != 0 {
         return Stepped {
             answer: sent.number,
-            done: 0,
             number: stop,
+            reached: nothing,
         };
     }
     if ticks == 0 {
         return Stepped {
             answer: sent.number,
-            done: 0,
             number: 0,
+            reached: nothing,
         };
     }
     let waited = wait(bytes, array, rows, ticks);
+    let reached = waited.reached;
     Stepped {
         answer: sent.number,
-        done: waited.done,
         number: waited.number,
+        reached: reached,
     }
 }
 
@@ -141,7 +154,7 @@ fn step_after(number: u8, k: usize) -> usize
     if number == 0 { k + 1 } else { k }
 }
 
-// Step k of a script, with its output and its entries written.
+// Step k of a script, with its output and its entries written, and the map kept.
 fn turn(
     state: State,
     identity: Identity,
@@ -156,6 +169,7 @@ fn turn(
     answers: &mut [u8],
     done: &mut [u16],
     k: usize,
+    map: &mut [u8],
 ) -> State
     requires { ⌜ Fit (record { wp = wp; input = now input; lengths = now lengths; ticks = now ticks }) (length (now output)) (length (now answers)) (length (now done)) ⌝ }
     requires { ⌜ (k < length (now lengths)) × (state .at ≡ sumTo (now lengths) k) ⌝ }
@@ -163,6 +177,7 @@ fn turn(
     ensures stepped { λ r. ⌜ world r (now (bytes .exit)) (now (array .exit)) (now (rows .exit)) (now (output .exit)) (now (answers .exit)) (now (done .exit)) ≡ turned (record { wp = wp; input = now (input .entry); lengths = now (lengths .entry); ticks = now (ticks .entry) }) k (world state (now (bytes .entry)) (now (array .entry)) (now (rows .entry)) (now (output .entry)) (now (answers .entry)) (now (done .entry))) ⌝ }
     ensures at { λ r. ⌜ r .at ≡ sumTo (now (lengths .entry)) (k + 1) ⌝ }
     ensures ready { λ _. ⌜ Ready (now (bytes .exit)) (length (now (array .entry))) (length (now (rows .entry))) × (identity ≡ recordIn (now (bytes .exit)) .state .identity) ⌝ }
+    ensures map { λ _. ⌜ now (map .exit) ≡ mapAfterCalls (callsAt (record { wp = wp; input = now (input .entry); lengths = now (lengths .entry); ticks = now (ticks .entry) }) k (world state (now (bytes .entry)) (now (array .entry)) (now (rows .entry)) (now (output .entry)) (now (answers .entry)) (now (done .entry)))) (world state (now (bytes .entry)) (now (array .entry)) (now (rows .entry)) (now (output .entry)) (now (answers .entry)) (now (done .entry)) .board) (now (map .entry)) ⌝ }
 {
     let at = state.at;
     let end = at + (lengths[k] as usize);
@@ -176,8 +191,10 @@ fn turn(
         ticks[k] as usize,
         &mut output[at..end],
     );
+    let reached = stepped.reached;
+    blank_map::keep(reached, array, map);
     answers[k] = stepped.answer;
-    done[k] = stepped.done as u16;
+    done[k] = reached.count as u16;
     let number = stepped.number;
     State {
         number: number,
@@ -200,12 +217,14 @@ fn steps(
     output: &mut [u8],
     answers: &mut [u8],
     done: &mut [u16],
+    map: &mut [u8],
 ) -> State
     requires { ⌜ Fit (record { wp = wp; input = now input; lengths = now lengths; ticks = now ticks }) (length (now output)) (length (now answers)) (length (now done)) ⌝ }
     requires { ⌜ (start .at ≡ 0) × (start .number ≡ 0) ⌝ }
     requires { ⌜ Ready (now bytes) (length (now array)) (length (now rows)) × (identity ≡ recordIn (now bytes) .state .identity) ⌝ }
     ensures made { λ r. ⌜ world r (now (bytes .exit)) (now (array .exit)) (now (rows .exit)) (now (output .exit)) (now (answers .exit)) (now (done .exit)) ≡ afterSteps (record { wp = wp; input = now (input .entry); lengths = now (lengths .entry); ticks = now (ticks .entry) }) (length (now (lengths .entry))) (world start (now (bytes .entry)) (now (array .entry)) (now (rows .entry)) (now (output .entry)) (now (answers .entry)) (now (done .entry))) ⌝ }
     ensures held { λ _. ⌜ recordIn (now (bytes .exit)) .ok ≡ true ⌝ }
+    ensures map { λ _. ⌜ now (map .exit) ≡ mapSteps (record { wp = wp; input = now (input .entry); lengths = now (lengths .entry); ticks = now (ticks .entry) }) (length (now (lengths .entry))) (world start (now (bytes .entry)) (now (array .entry)) (now (rows .entry)) (now (output .entry)) (now (answers .entry)) (now (done .entry))) (now (map .entry)) ⌝ }
 {
     let mut state = start;
     let mut k = 0;
@@ -224,6 +243,7 @@ fn steps(
             answers,
             done,
             k,
+            map,
         );
         if state.number != 0 {
             return state;
@@ -277,7 +297,8 @@ fn later_refusal(
 // A script on the record that bytes hold, which is written over them. WP# is low for 0 and high for 1. Each step sends as many
 // bytes of input as its length says, into as many bytes of output, and then asks its ticks. It answers the number that stops
 // it, and the step; or 0, and the number of steps. Refused, with 1, 2, 7, 4 or 5, every buffer is as it was. Where the bytes
-// hold no record, 1 is not judged: there is no size.
+// hold no record, 1 is not judged: there is no size. A map of blank pages is kept, and its length is not judged: a plain script
+// lends one of no bytes.
 pub fn run(
     bytes: &mut [u8],
     array: &mut [u8],
@@ -289,6 +310,7 @@ pub fn run(
     output: &mut [u8],
     answers: &mut [u8],
     done: &mut [u16],
+    map: &mut [u8],
 ) -> Ran
     ensures answer { λ r. ⌜ r ≡ ranOf (heldScript (recordIn (now (bytes .entry))) wp (scriptOf wp (now (input .entry)) (now (lengths .entry)) (now (ticks .entry))) (now (array .entry)) (now (rows .entry)) (now (output .entry)) (now (answers .entry)) (now (done .entry))) ⌝ }
     ensures bytes { λ _. ⌜ now (bytes .exit) ≡ scriptBytes (recordIn (now (bytes .entry))) (heldScript (recordIn (now (bytes .entry))) wp (scriptOf wp (now (input .entry)) (now (lengths .entry)) (now (ticks .entry))) (now (array .entry)) (now (rows .entry)) (now (output .entry)) (now (answers .entry)) (now (done .entry))) (now (bytes .entry)) ⌝ }
@@ -297,6 +319,7 @@ pub fn run(
     ensures output { λ _. ⌜ now (output .exit) ≡ heldScript (recordIn (now (bytes .entry))) wp (scriptOf wp (now (input .entry)) (now (lengths .entry)) (now (ticks .entry))) (now (array .entry)) (now (rows .entry)) (now (output .entry)) (now (answers .entry)) (now (done .entry)) .output ⌝ }
     ensures answers { λ _. ⌜ now (answers .exit) ≡ heldScript (recordIn (now (bytes .entry))) wp (scriptOf wp (now (input .entry)) (now (lengths .entry)) (now (ticks .entry))) (now (array .entry)) (now (rows .entry)) (now (output .entry)) (now (answers .entry)) (now (done .entry)) .answers ⌝ }
     ensures done { λ _. ⌜ now (done .exit) ≡ heldScript (recordIn (now (bytes .entry))) wp (scriptOf wp (now (input .entry)) (now (lengths .entry)) (now (ticks .entry))) (now (array .entry)) (now (rows .entry)) (now (output .entry)) (now (answers .entry)) (now (done .entry)) .done ⌝ }
+    ensures map { λ _. ⌜ now (map .exit) ≡ heldMap (recordIn (now (bytes .entry))) wp (scriptOf wp (now (input .entry)) (now (lengths .entry)) (now (ticks .entry))) (now (array .entry)) (now (rows .entry)) (now (output .entry)) (now (answers .entry)) (now (done .entry)) (now (map .entry)) ⌝ }
 {
     let found = record_bytes::reading::read(bytes);
     let level = wp <= 1;
@@ -345,6 +368,7 @@ pub fn run(
         output,
         answers,
         done,
+        map,
     );
     Ran {
         number: end.number,

@@ -3,10 +3,12 @@ use Prim.Native.Nat.{ℕ}
 use mathlib.Core.List.{List}
 use mathlib.Core.Bool.{false}
 use Rattle.types.specs.declared.Memory.{Memory}
+use Rattle.types.specs.declared.Reached.{Reached}
 use Rattle.types.specs.declared.Ticked.{Ticked}
 use Rattle.types.specs.declared.Worked.{Worked}
 use Rattle.words.specs.Logic.{_orElse_}
 use Rattle.paper.specs.Numbers.{rowsNumber, soundNumber}
+use Rattle.paper.specs.Reached.{nothing, reached}
 use Rattle.paper.specs.Calls.{ticked, tickedMemory}
 use Rattle.record_bytes.specs.Layout.{recordBytes}
 use Rattle.record_bytes.specs.Read.{Held, onHeld}
@@ -17,9 +19,13 @@ heldTicks h a r n =
     onHeld h (λ p. ticked p a r n)
     (record { next = h .state; number = rowsNumber r orElse soundNumber false; done = 0 })
 
--- the number, and how many ticks did work
+-- what they reached: without a record nothing
+abbrev pub heldReached : Held → ℕ → ℕ → ℕ → Reached
+heldReached h a r n = onHeld h (λ p. reached p (ticked p a r n)) nothing
+
+-- the number, and what they reached
 unfoldable pub heldWorked : Held → ℕ → ℕ → ℕ → Worked
-heldWorked h a r n = record { number = heldTicks h a r n .number; done = heldTicks h a r n .done }
+heldWorked h a r n = record { number = heldTicks h a r n .number; reached = heldReached h a r n }
 
 -- the record's bytes after them: the next record's; where none was held, as they were
 unfoldable pub tickBytes : Held → ℕ → ℕ → ℕ → List ℕ → List ℕ

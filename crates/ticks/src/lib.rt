@@ -22,6 +22,7 @@ use types::Memory;
 use types::Operation;
 use types::Part;
 use types::Phase;
+use types::Reached;
 use types::Record;
 use types::Register;
 use types::Stored;
@@ -318,7 +319,7 @@ pub fn tick(state: Record, array: &mut [u8], rows: &mut [u8], ticks: usize) -> T
     }
 }
 
-// So many ticks of the record that bytes hold, which is written over them. It answers the number, and how many ticks did work;
+// So many ticks of the record that bytes hold, which is written over them. It answers the number, and what the ticks reached;
 // refused, with 1, 2, 5 or 6, every buffer is as it was. Where the bytes hold no record, 1 is not judged: there is no size.
 pub fn tick_bytes(bytes: &mut [u8], array: &mut [u8], rows: &mut [u8], ticks: usize) -> Worked
     ensures answer { λ r. ⌜ r ≡ heldWorked (recordIn (now (bytes .entry))) (length (now (array .entry))) (length (now (rows .entry))) ticks ⌝ }
@@ -331,11 +332,15 @@ pub fn tick_bytes(bytes: &mut [u8], array: &mut [u8], rows: &mut [u8], ticks: us
         let unread = refusals::rows_number_or(rows.len(), 5);
         return Worked {
             number: unread,
-            done: 0,
+            reached: Reached {
+                work: Work::NoWork,
+                count: 0,
+            },
         };
     }
     let part = found.part;
     let phase = found.phase;
+    let work = phases::running(phase);
     let page = &bytes[places::PAGE..places::END];
     let told = tick_part(part, phase, found.sound, page, array, rows, ticks);
     let change = told.change;
@@ -343,6 +348,9 @@ pub fn tick_bytes(bytes: &mut [u8], array: &mut [u8], rows: &mut [u8], ticks: us
     record_bytes::writing::write_change(change, &none_sent, bytes);
     Worked {
         number: told.number,
-        done: told.done,
+        reached: Reached {
+            work: work,
+            count: told.done,
+        },
     }
 }

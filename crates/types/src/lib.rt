@@ -328,10 +328,16 @@ pub struct Waited {
     pub done: usize,
 }
 
-// What a tick call answers, but for the record, which is kept in bytes.
+// What a tick call reached: what ran before it, if anything did, and how many ticks of that did work.
+pub struct Reached {
+    pub work: Work,
+    pub count: usize,
+}
+
+// What a tick call answers, but for the record, which is kept in bytes: its number, and what it reached.
 pub struct Worked {
     pub number: u8,
-    pub done: usize,
+    pub reached: Reached,
 }
 
 // What a check of a script says: yes; a step, the first that fails, or the number of steps where none does but the part is
@@ -340,6 +346,13 @@ pub enum Verdict {
     Yes,
     Step(usize),
     Address(usize),
+    Refused(u8),
+}
+
+// What a query of a map of blank pages says: a page, the first that is blank; that none is; or the number that refuses it.
+pub enum Blank {
+    Page(usize),
+    NoPage,
     Refused(u8),
 }
 

@@ -6,3 +6,4 @@ pub mod Zeros
 pub mod Allowed
 pub mod Tight
 pub mod Bits
+pub mod BitLists

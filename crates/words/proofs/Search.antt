@@ -112,8 +112,13 @@ module _ (test : ℕ → Bool) where
   all-in zero h = refl
   all-in (suc n) h = and-in (all-in n (λ j l. h j (omega arith))) (h n (omega arith))
 
--- tests that agree find the same
+-- tests that agree find the same, and are passed by all or by not all alike
 pub first-same : (f g : ℕ → Bool) (n : ℕ) → ((j : ℕ) → j < n → f j ≡ g j) → firstOf n f ≡ firstOf n g
 unfolding firstOf
 first-same f g zero h = refl
 first-same f g (suc n) h = rw (first-same f g n (λ j l. h j (omega arith)), h n (omega arith)) refl
+
+pub all-same : (f g : ℕ → Bool) (n : ℕ) → ((j : ℕ) → j < n → f j ≡ g j) → allBelow n f ≡ allBelow n g
+unfolding allBelow
+all-same f g zero h = refl
+all-same f g (suc n) h = rw (all-same f g n (λ j l. h j (omega arith)), h n (omega arith)) refl

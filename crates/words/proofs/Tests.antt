@@ -52,6 +52,22 @@ unfolding _or_
 or-cases true b e = inl refl
 or-cases false b e = inr e
 
+pub or-assoc : (a b c : Bool) → ((a or b) or c) ≡ (a or b or c)
+unfolding _or_
+or-assoc true b c = refl
+or-assoc false b c = refl
+
+-- neither of two
+pub nor-l : (a b : Bool) → (a or b) ≡ false → a ≡ false
+unfolding _or_
+nor-l true b e = e
+nor-l false b e = refl
+
+pub nor-r : (a b : Bool) → (a or b) ≡ false → b ≡ false
+unfolding _or_
+nor-r true b e = absurd (false≢true (sym e))
+nor-r false b e = e
+
 pub orElse-on : (m n : ℕ) → m ≡ 0 → (m orElse n) ≡ n
 unfolding _orElse_
 orElse-on m n e = rw e

@@ -1,5 +1,5 @@
 -- Lists of bytes, by what stands at each place.
-use Prim.Native.Nat.{ℕ, zero, suc, _+_, _-_, _%_}
+use Prim.Native.Nat.{ℕ, zero, suc, _+_, _-_, _%_, _<_}
 use mathlib.Core.List.{List, [], _∷_, _++_}
 use mathlib.Core.Bool.{Bool, true, not, cond}
 use lib.ListN.{length, getD, take, drop}
@@ -50,6 +50,10 @@ firstOf (suc n) test = cond (ltb (firstOf n test) n) (firstOf n test) (cond (tes
 unfoldable pub allBelow : ℕ → (ℕ → Bool) → Bool
 allBelow zero test = true
 allBelow (suc n) test = allBelow n test and test n
+
+-- bytes, each below 256
+abbrev pub AreBytes : List ℕ → Type 0
+AreBytes xs = (a : ℕ) → getD xs a 0 < 256
 
 -- two lists differ at a place
 abbrev pub differAt : List ℕ → List ℕ → ℕ → Bool

@@ -1,5 +1,5 @@
 -- What the definitions for C come to in each case: no record held, and the call itself.
-use Prim.Native.Nat.{ℕ, _≤_}
+use Prim.Native.Nat.{ℕ, _%_, _^_, _≤_}
 use mathlib.Core.Path.{_≡_, refl, sym, ap, _∙_}
 use mathlib.Core.Bool.{Bool, true, false, cond}
 use mathlib.Core.List.{List}
@@ -13,7 +13,7 @@ use Rattle.types.specs.declared.Stored.{Stored}
 use Rattle.types.specs.declared.Record.{Record}
 use Rattle.types.specs.declared.Outcome.{Outcome}
 use Rattle.types.specs.declared.PoweredUp.{PoweredUp}
-use Rattle.words.specs.Logic.{_and_, _orElse_}
+use Rattle.words.specs.Logic.{_and_}
 use Rattle.words.proofs.Tests.{and-l, and-r, unless-zero, orElse-zero, orElse-on, orElse-first}
 use Rattle.paper.specs.Soundness.{sound}
 use Rattle.paper.specs.Registers.{withBytes, withExtended}
@@ -25,13 +25,14 @@ use Rattle.paper.specs.Calls.{noStored, zeroRecord, poweredUp, outcomeOf, outpu
 use Rattle.paper.proofs.Sizes.{size-range, limit-range}
 use Rattle.paper.proofs.Soundness.{recordOf}
 use Rattle.paper.proofs.CallKept.{done-at-most}
-use Rattle.ticks.specs.InBytes.{heldWorked}
+use Rattle.ticks.specs.InBytes.{heldTicks, heldWorked}
+use Rattle.ticks.proofs.InBytes.{reached-count}
 use Rattle.record_bytes.specs.declared.Found.{Found}
 use Rattle.record_bytes.specs.Layout.{recordLength, recordBytes, changeWritten}
 use Rattle.record_bytes.specs.Read.{Held, identityIn, recordIn, found}
 use Rattle.record_bytes.proofs.Back.{held-identity, found-sound, on-none, on-held}
 use Rattle.record_bytes.proofs.Changed.{held-changed}
-use Rattle.yawlspar.specs.Face.{packed, Asked, givenNumber, identityOf, registersOf, upOf, upNumber, powerUpBytes, outcomeAt, transactAnswer, transactBytes, transactOutput}
+use Rattle.yawlspar.specs.Face.{packed, Asked, givenNumber, identityOf, registersOf, upOf, upNumber, powerUpBytes, outcomeAt, transactAnswer, transactBytes, transactOutput, tickAnswer}
 
 -- no record held
 module _ (h : Held) (e : h .ok ≡ false) where
@@ -72,16 +73,20 @@ module _ (bs : List ℕ) (e : recordIn bs .ok ≡ true) (x : Found) (ex : x ≡ 
   told-output d ed xs rs i o y ey =
       ey ∙ rw (sound-told, ex, ed ∙ held-identity bs e) (sym (on-held (recordIn bs) _ o e))
 
+-- a place that is not too large is packed as it is
+pub packs : (number place : ℕ) → place ≤ 131072 → packed number (place % 2 ^ 56) ≡ packed number place
+packs number place h = omega arith
+
 -- ticks: no more did work than a call may ask
 module _ (h : Held) (a r n : ℕ) where
-  worked-as : (t : Bool) → h .ok ≡ t → heldWorked h a r n .done ≤ 131072
-  unfolding heldWorked
+  worked-as : (t : Bool) → h .ok ≡ t → heldTicks h a r n .done ≤ 131072
   worked-as true e =
       rw (on-held h (λ p. ticked p a r n) _ e) (omega (arith, done-at-most (h .state) a r n .1, limit-range (h .state .part .blocks) .1))
   worked-as false e = rw (on-none h (λ p. ticked p a r n) _ e) (omega arith)
 
-  pub worked-packs : heldWorked h a r n .done ≤ 131072
-  worked-packs = worked-as (h .ok) refl
+  pub worked-answer : packed (heldWorked h a r n .number) (heldWorked h a r n .reached .count % 2 ^ 56) ≡ tickAnswer h a r n
+  unfolding heldWorked tickAnswer
+  worked-answer = rw (reached-count h a r n) (packs (heldTicks h a r n .number) (heldTicks h a r n .done) (worked-as (h .ok) refl))
 
 -- power-up: what the numbers that it can take are
 pub record Given (l : ℕ) (q : Asked) : Type 0 where

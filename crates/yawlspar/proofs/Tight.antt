@@ -6,6 +6,7 @@ use Rattle.yawlspar.proofs.numbers.yawlspar_protected_first.Reads as ya
 use Rattle.yawlspar.proofs.numbers.yawlspar_protected_count.Reads as yawlspar-protected-count
 use Rattle.yawlspar.proofs.numbers.yawlspar_protected.Reads as yawlspar-protected
 use Rattle.yawlspar.proofs.numbers.yawlspar_page_place.Reads as yawlspar-page-place
+use Rattle.yawlspar.proofs.pack.Reads as pack
 use Rattle.yawlspar.proofs.yawlspar_power_up.Reads as yawlspar-power-up
 use Rattle.yawlspar.proofs.yawlspar_transact.Reads as yawlspar-transact
 use Rattle.yawlspar.proofs.yawlspar_tick.Reads as yawlspar-tick
@@ -25,6 +26,9 @@ protected-one κ a x y s t p q = agree p q
 
 pub page-place-one : OneResult yawlspar-page-place.Learnt
 page-place-one κ a x y s t p q = agree p q
+
+pub pack-one : OneResult pack.Learnt
+pack-one κ a x y s t p q = agree p q
 
 pub power-up-one : OneResult yawlspar-power-up.Learnt
 power-up-one κ a x y s t p q = agree (p .0) (q .0)

@@ -18,9 +18,9 @@ use Rattle.paper.specs.Commands.{changed}
 use Rattle.paper.specs.Calls.{noStored, poweredUp, refused, outcomeOf, outputAfter}
 use Rattle.record_bytes.specs.Layout.{recordLength, recordBytes}
 use Rattle.record_bytes.specs.Read.{Held, onHeld}
-use Rattle.ticks.specs.InBytes.{heldWorked}
+use Rattle.ticks.specs.InBytes.{heldTicks}
 
--- the number in the low 8 bits, and above them the first driven place, the ticks that did work, or a script's step
+-- the number in the low 8 bits, and above them the first driven place, the ticks that did work, a script's step, or a page
 abbrev pub packed : ℕ → ℕ → ℕ
 packed number place = number + 256 * place
 
@@ -102,4 +102,4 @@ transactOutput h xs rs wp i o =
 
 -- ticks on what bytes hold: their number, and how many did work
 unfoldable pub tickAnswer : Held → ℕ → ℕ → ℕ → ℕ
-tickAnswer h a r n = packed (heldWorked h a r n .number) (heldWorked h a r n .done)
+tickAnswer h a r n = packed (heldTicks h a r n .number) (heldTicks h a r n .done)

@@ -4,7 +4,7 @@
 pub mod numbers;
 
 ghost use mathlib.Core.Path.{_≡_};
-ghost use Prim.Native.Nat.{_≤_};
+ghost use Prim.Native.Nat.{_%_, _^_};
 ghost use lib.ListN.{length};
 ghost use Rattle.types.specs.declared.Memory.the-variants.{Array, Rows};
 ghost use Rattle.record_bytes.specs.Read.{recordIn};
@@ -14,12 +14,14 @@ ghost use Rattle.yawlspar.specs.Version.{version};
 use record_bytes::places;
 use types::Identity;
 
-// The number and the place in one.
-fn pack(number: u8, place: usize) -> u64
-    requires { ⌜ place ≤ 131072 ⌝ }
-    ensures { λ r. ⌜ r ≡ packed number place ⌝ }
+// A result has 56 bits above its number.
+const PLACES: u64 = 72057594037927936;
+
+// The number and the place in one: a first driven place, ticks that did work, a script's step, or a page.
+pub fn pack(number: u8, place: usize) -> u64
+    ensures { λ r. ⌜ r ≡ packed number (place % 2 ^ 56) ⌝ }
 {
-    (number as u64) + 256 * (place as u64)
+    (number as u64) + 256 * ((place as u64) % PLACES)
 }
 
 // Whether power-up can take what it is given: the size, the buffer's length, and the seven bytes.
@@ -161,7 +163,7 @@ pub extern "C" fn yawlspar_tick(
     ensures rows { λ _. ⌜ now (rows .exit) ≡ tickMemory Rows (recordIn (now (bytes .entry))) (length (now (array .entry))) (length (now (rows .entry))) count (now (rows .entry)) ⌝ }
 {
     let worked = ticks::tick_bytes(bytes, array, rows, count as usize);
-    pack(worked.number, worked.done)
+    pack(worked.number, worked.reached.count)
 }
 
 // The version that the archive is of, which a program compares with its header's.
@@ -169,5 +171,5 @@ pub extern "C" fn yawlspar_tick(
 pub extern "C" fn yawlspar_version() -> u64
     ensures { λ r. ⌜ r ≡ version ⌝ }
 {
-    1008
+    1009
 }

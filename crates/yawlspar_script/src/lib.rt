@@ -1,16 +1,14 @@
-// Scripts and checks for C, which include/yawlspar.h declares. They are a static library of their own, for the speed of single
-// calls (docs/SPEED.md), and a part of the archive that C links.
+// Scripts, with a map of blank pages and without, and checks for C, which include/yawlspar.h declares. They are a static library of
+// their own, for the speed of single calls (docs/SPEED.md), and a part of the archive that C links.
 ghost use mathlib.Core.Path.{_≡_};
 ghost use Prim.Native.Nat.{_+_, _*_, _%_, _^_, _≤_};
 ghost use Rattle.record_bytes.specs.Read.{recordIn};
 ghost use Rattle.script.specs.InBytes.{scriptOf, heldScript, scriptBytes};
+ghost use Rattle.mapped.specs.InBytes.{heldMapScripted, boardBytes};
 ghost use Rattle.checker.specs.InBytes.{heldCheck};
 ghost use Rattle.yawlspar.specs.Face.{packed};
 ghost use Rattle.yawlspar_script.specs.Face.{scriptAnswer, checkAnswer};
 use types::Verdict;
-
-// A result has 56 bits above its number.
-const STEPS: u64 = 72057594037927936;
 
 // A script: transactions, and ticks after each. WP# is low for 0 and high for 1. The number that stops it and the step, or 0 and
 // the number of steps; refused, with 1, 2, 7, 4 or 5, every buffer is as it was. Where the bytes hold no record, 1 is not judged.
@@ -35,6 +33,7 @@ pub extern "C" fn yawlspar_script(
     ensures answers { λ _. ⌜ now (answers .exit) ≡ heldScript (recordIn (now (bytes .entry))) wp (scriptOf wp (now (input .entry)) (now (lengths .entry)) (now (ticks .entry))) (now (array .entry)) (now (rows .entry)) (now (output .entry)) (now (answers .entry)) (now (done .entry)) .answers ⌝ }
     ensures done { λ _. ⌜ now (done .exit) ≡ heldScript (recordIn (now (bytes .entry))) wp (scriptOf wp (now (input .entry)) (now (lengths .entry)) (now (ticks .entry))) (now (array .entry)) (now (rows .entry)) (now (output .entry)) (now (answers .entry)) (now (done .entry)) .done ⌝ }
 {
+    let mut none = [0u8; 0];
     let ran = script::run(
         bytes,
         array,
@@ -46,8 +45,50 @@ pub extern "C" fn yawlspar_script(
         output,
         answers,
         done,
+        &mut none,
     );
-    (ran.number as u64) + 256 * ((ran.step as u64) % STEPS)
+    yawlspar::pack(ran.number, ran.step)
+}
+
+// A script, as yawlspar_script makes it, and the map is kept. The number that stops it and the step, or 0 and the number of
+// steps; refused, with 1, 36, 2, 7, 4 or 5, every buffer is as it was. Where the bytes hold no record, 1 and 36 are not judged.
+#[no_mangle]
+pub extern "C" fn yawlspar_script_map(
+    bytes: &mut [u8],
+    array: &mut [u8],
+    rows: &mut [u8],
+    wp: u64,
+    input: &[u8],
+    lengths: &[u16],
+    ticks: &[u16],
+    output: &mut [u8],
+    answers: &mut [u8],
+    done: &mut [u16],
+    map: &mut [u8],
+) -> u64
+    ensures answer { λ r. ⌜ r ≡ scriptAnswer (heldMapScripted (recordIn (now (bytes .entry))) wp (scriptOf wp (now (input .entry)) (now (lengths .entry)) (now (ticks .entry))) (now (array .entry)) (now (rows .entry)) (now (output .entry)) (now (answers .entry)) (now (done .entry)) (now (map .entry)) .run) ⌝ }
+    ensures bytes { λ _. ⌜ now (bytes .exit) ≡ boardBytes (recordIn (now (bytes .entry))) (heldMapScripted (recordIn (now (bytes .entry))) wp (scriptOf wp (now (input .entry)) (now (lengths .entry)) (now (ticks .entry))) (now (array .entry)) (now (rows .entry)) (now (output .entry)) (now (answers .entry)) (now (done .entry)) (now (map .entry)) .run .board) (now (bytes .entry)) ⌝ }
+    ensures array { λ _. ⌜ now (array .exit) ≡ heldMapScripted (recordIn (now (bytes .entry))) wp (scriptOf wp (now (input .entry)) (now (lengths .entry)) (now (ticks .entry))) (now (array .entry)) (now (rows .entry)) (now (output .entry)) (now (answers .entry)) (now (done .entry)) (now (map .entry)) .run .board .array ⌝ }
+    ensures rows { λ _. ⌜ now (rows .exit) ≡ heldMapScripted (recordIn (now (bytes .entry))) wp (scriptOf wp (now (input .entry)) (now (lengths .entry)) (now (ticks .entry))) (now (array .entry)) (now (rows .entry)) (now (output .entry)) (now (answers .entry)) (now (done .entry)) (now (map .entry)) .run .board .rows ⌝ }
+    ensures output { λ _. ⌜ now (output .exit) ≡ heldMapScripted (recordIn (now (bytes .entry))) wp (scriptOf wp (now (input .entry)) (now (lengths .entry)) (now (ticks .entry))) (now (array .entry)) (now (rows .entry)) (now (output .entry)) (now (answers .entry)) (now (done .entry)) (now (map .entry)) .run .output ⌝ }
+    ensures answers { λ _. ⌜ now (answers .exit) ≡ heldMapScripted (recordIn (now (bytes .entry))) wp (scriptOf wp (now (input .entry)) (now (lengths .entry)) (now (ticks .entry))) (now (array .entry)) (now (rows .entry)) (now (output .entry)) (now (answers .entry)) (now (done .entry)) (now (map .entry)) .run .answers ⌝ }
+    ensures done { λ _. ⌜ now (done .exit) ≡ heldMapScripted (recordIn (now (bytes .entry))) wp (scriptOf wp (now (input .entry)) (now (lengths .entry)) (now (ticks .entry))) (now (array .entry)) (now (rows .entry)) (now (output .entry)) (now (answers .entry)) (now (done .entry)) (now (map .entry)) .run .done ⌝ }
+    ensures map { λ _. ⌜ now (map .exit) ≡ heldMapScripted (recordIn (now (bytes .entry))) wp (scriptOf wp (now (input .entry)) (now (lengths .entry)) (now (ticks .entry))) (now (array .entry)) (now (rows .entry)) (now (output .entry)) (now (answers .entry)) (now (done .entry)) (now (map .entry)) .map ⌝ }
+{
+    let kept = mapped::script(
+        bytes,
+        array,
+        rows,
+        wp,
+        input,
+        lengths,
+        ticks,
+        output,
+        answers,
+        done,
+        map,
+    );
+    yawlspar::pack(kept.number, kept.step)
 }
 
 // A result has 48 bits above its number and what is said.

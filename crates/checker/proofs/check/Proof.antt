@@ -23,6 +23,9 @@ returns c =
     let g = image-left (now (a .bytes)) (a .wp) s (now (a .array)) (now (a .rows)) (now (a .output)) (now (a .answers)) (now (a .done)) (now (a .image)) h in
     (ap Refused (c .image-refusal .ensures) ∙ image-verdict (now (a .bytes)) (a .wp) s (now (a .array)) (now (a .rows)) (now (a .output)) (now (a .answers)) (now (a .done)) (now (a .image)) h, (g .bytes, (g .array, (g .rows, (g .output, (g .answers, g .done))))))
 
+slice-aggregate-run : tie.Need-slice-aggregate-run
+slice-aggregate-run c = search needs
+
 run-requires : tie.Need-run-requires
 run-requires c κs = search needs
 
@@ -49,21 +52,21 @@ same-length-7 c = search needs
 
 returns-2 : tie.Need-returns-2
 returns-2 c =
-    let a = c .before .before .before .before .before .before .before .before .before .before .before .before .before .before .before .before .before .before .before .before .before .before .before .before .before .before .before .before .before .before .before .before .args in
+    let a = c .before .before .before .before .before .before .before .before .before .before .before .before .before .before .before .before .before .before .before .before .before .before .before .before .before .before .before .before .before .before .before .before .before .before .args in
     let s = scriptOf (a .wp) (now (a .input)) (now (a .lengths)) (now (a .ticks)) in
-    let e = c .before .before .before .before .before .before .before .before .before .before .before .before .before .before .before .before .before .before .before .before .before .if1 .left in
-    let w = c .before .before .before .before .before .before .before .before .before .before .before .before .before .before .run in
+    let e = c .before .before .before .before .before .before .before .before .before .before .before .before .before .before .before .before .before .before .before .before .before .before .before .if1 .left in
+    let w = c .before .before .before .before .before .before .before .before .before .before .before .before .before .before .before .run in
     let f = sym (c .before .has-run .ensures) ∙ not-true _ (c .if2 .taken) in
     let q = w .ensures .1 in
-    let g = same-left (now (a .bytes)) (a .wp) s (now (a .array)) (now (a .rows)) (now (a .output)) (now (a .answers)) (now (a .done)) (now (a .image)) e _ _ _ _ _ _ (record { bytes = q .0; array = q .1 .0; rows = q .1 .1 .0; output = q .1 .1 .1 .0; answers = q .1 .1 .1 .1 .0; done = q .1 .1 .1 .1 .1 }) in
+    let g = same-left (now (a .bytes)) (a .wp) s (now (a .array)) (now (a .rows)) (now (a .output)) (now (a .answers)) (now (a .done)) (now (a .image)) e _ _ _ _ _ _ (record { bytes = q .0; array = q .1 .0; rows = q .1 .1 .0; output = q .1 .1 .1 .0; answers = q .1 .1 .1 .1 .0; done = q .1 .1 .1 .1 .1 .0 }) in
     (refused-verdict (now (a .bytes)) (a .wp) s (now (a .array)) (now (a .rows)) (now (a .output)) (now (a .answers)) (now (a .done)) (now (a .image)) e (w .result) (w .ensures .0) f, (g .bytes, (g .array, (g .rows, (g .output, (g .answers, g .done))))))
 
 verdict-on-requires : tie.Need-verdict-on-requires
 verdict-on-requires c κs =
-    let a = c .before .before .before .before .before .before .before .before .before .before .before .before .before .before .before .before .before .before .before .before .before .before .before .before .before .before .before .before .before .before .before .before .before .before .before .args in
+    let a = c .before .before .before .before .before .before .before .before .before .before .before .before .before .before .before .before .before .before .before .before .before .before .before .before .before .before .before .before .before .before .before .before .before .before .before .before .before .args in
     let s = scriptOf (a .wp) (now (a .input)) (now (a .lengths)) (now (a .ticks)) in
-    let e = c .before .before .before .before .before .before .before .before .before .before .before .before .before .before .before .before .before .before .before .before .before .before .before .before .if1 .left in
-    let w = c .before .before .before .before .before .before .before .before .before .before .before .before .before .before .before .before .before .run in
+    let e = c .before .before .before .before .before .before .before .before .before .before .before .before .before .before .before .before .before .before .before .before .before .before .before .before .before .before .if1 .left in
+    let w = c .before .before .before .before .before .before .before .before .before .before .before .before .before .before .before .before .before .before .run in
     let t = sym (c .before .before .before .before .has-run .ensures) ∙ not-false _ (c .before .before .before .if2 .left) in
     run-ended (now (a .bytes)) (a .wp) s (now (a .array)) (now (a .rows)) (now (a .output)) (now (a .answers)) (now (a .done)) (now (a .image)) e (w .result) (w .ensures .0) t _ _ _ (w .ensures .1 .0) (w .ensures .1 .1 .0) (w .ensures .1 .1 .1 .1 .1 .0)
 
@@ -87,13 +90,13 @@ same-length-13 c = search needs
 
 returns-3 : tie.Need-returns-3
 returns-3 c =
-    let a = c .before .before .before .before .before .before .before .before .before .before .before .before .before .before .before .before .before .before .before .before .before .before .before .before .before .before .before .before .before .before .before .before .before .before .before .before .args in
+    let a = c .before .before .before .before .before .before .before .before .before .before .before .before .before .before .before .before .before .before .before .before .before .before .before .before .before .before .before .before .before .before .before .before .before .before .before .before .before .before .args in
     let s = scriptOf (a .wp) (now (a .input)) (now (a .lengths)) (now (a .ticks)) in
-    let e = c .before .before .before .before .before .before .before .before .before .before .before .before .before .before .before .before .before .before .before .before .before .before .before .before .before .if1 .left in
-    let w = c .before .before .before .before .before .before .before .before .before .before .before .before .before .before .before .before .before .before .run in
+    let e = c .before .before .before .before .before .before .before .before .before .before .before .before .before .before .before .before .before .before .before .before .before .before .before .before .before .before .before .if1 .left in
+    let w = c .before .before .before .before .before .before .before .before .before .before .before .before .before .before .before .before .before .before .before .run in
     let t = sym (c .before .before .before .before .before .has-run .ensures) ∙ not-false _ (c .before .before .before .before .if2 .left) in
     let q = w .ensures .1 in
-    let g = same-left (now (a .bytes)) (a .wp) s (now (a .array)) (now (a .rows)) (now (a .output)) (now (a .answers)) (now (a .done)) (now (a .image)) e _ _ _ _ _ _ (record { bytes = q .0; array = q .1 .0; rows = q .1 .1 .0; output = q .1 .1 .1 .0; answers = q .1 .1 .1 .1 .0; done = q .1 .1 .1 .1 .1 }) in
+    let g = same-left (now (a .bytes)) (a .wp) s (now (a .array)) (now (a .rows)) (now (a .output)) (now (a .answers)) (now (a .done)) (now (a .image)) e _ _ _ _ _ _ (record { bytes = q .0; array = q .1 .0; rows = q .1 .1 .0; output = q .1 .1 .1 .0; answers = q .1 .1 .1 .1 .0; done = q .1 .1 .1 .1 .1 .0 }) in
     (c .verdict-on .ensures ∙ run-verdict (now (a .bytes)) (a .wp) s (now (a .array)) (now (a .rows)) (now (a .output)) (now (a .answers)) (now (a .done)) (now (a .image)) e (w .result) (w .ensures .0) t _ _ _ (w .ensures .1 .0) (w .ensures .1 .1 .0) (w .ensures .1 .1 .1 .1 .1 .0), (g .bytes, (g .array, (g .rows, (g .output, (g .answers, g .done))))))
 
 pub check-spec : {M : Type 1} → statement M
@@ -103,6 +106,7 @@ check-spec =
     image-refusal-requires
     same-length
     returns
+    slice-aggregate-run
     run-requires
     has-run-requires
     same-length-2

@@ -14,6 +14,9 @@ part-again-requires c κs = search needs
 phase-again-requires : tie.Need-phase-again-requires
 phase-again-requires c κs = search needs
 
+running-requires : tie.Need-running-requires
+running-requires c κs = search needs
+
 sub-page : tie.Need-sub-page
 sub-page c = search needs
 
@@ -21,7 +24,7 @@ part-page-start : tie.Need-part-page-start
 part-page-start c = search needs
 
 part-page-end : tie.Need-part-page-end
-part-page-end c = omega (arith, held-length (now (c .before .before .before .before .before .before .before .before .args .bytes)) (c .before .before .before .before .before .before .before .before .pre .ok))
+part-page-end c = omega (arith, held-length (now (c .before .before .before .before .before .before .before .before .before .args .bytes)) (c .before .before .before .before .before .before .before .before .before .pre .ok))
 
 tick-part-requires : tie.Need-tick-part-requires
 tick-part-requires c κs = search needs
@@ -39,12 +42,13 @@ same-length-3 : tie.Need-same-length-3
 same-length-3 c = search needs
 
 returns : tie.Need-returns
-returns c = let s = c .before .before .before .before .before .before .before .before .before .before .before .before .before .before .before .before .before .before .before .before in
+returns c = let s = c .before .before .before .before .before .before .before .before .before .before .before .before .before .before .before .before .before .before .before .before .before in
     let a = s .args in
-    let p = c .before .before .before .before .before .before .before .before .before .before .before .before .before .before .before .part-again in
-    let f = c .before .before .before .before .before .before .before .before .before .before .before .before .before .phase-again in
+    let p = c .before .before .before .before .before .before .before .before .before .before .before .before .before .before .before .before .part-again in
+    let f = c .before .before .before .before .before .before .before .before .before .before .before .before .before .before .phase-again in
+    let w = c .before .before .before .before .before .before .before .before .before .before .before .before .before .running in
     let u = c .before .before .before .before .before .before .before .before .tick-part in
-    (waits-told (now (a .bytes)) (now (a .array)) (now (a .rows)) (s .pre) (p .result) (f .result) (p .ensures) (f .ensures) (a .ticks) (u .result) (u .ensures .0), (waits-held (now (a .bytes)) (now (a .array)) (now (a .rows)) (s .pre) (p .result) (f .result) (p .ensures) (f .ensures) (a .ticks) (u .result) (u .ensures .0) _ (c .before .before .write-ran .ensures), (waits-memory (now (a .bytes)) (now (a .array)) (now (a .rows)) (s .pre) (p .result) (f .result) (p .ensures) (f .ensures) (a .ticks) Array _ _ (u .ensures .1 .0), waits-memory (now (a .bytes)) (now (a .array)) (now (a .rows)) (s .pre) (p .result) (f .result) (p .ensures) (f .ensures) (a .ticks) Rows _ _ (u .ensures .1 .1))))
+    (waits-told (now (a .bytes)) (now (a .array)) (now (a .rows)) (s .pre) (p .result) (f .result) (p .ensures) (f .ensures) (a .ticks) (u .result) (u .ensures .0) (w .result) (w .ensures), (waits-held (now (a .bytes)) (now (a .array)) (now (a .rows)) (s .pre) (p .result) (f .result) (p .ensures) (f .ensures) (a .ticks) (u .result) (u .ensures .0) _ (c .before .before .write-ran .ensures), (waits-memory (now (a .bytes)) (now (a .array)) (now (a .rows)) (s .pre) (p .result) (f .result) (p .ensures) (f .ensures) (a .ticks) Array _ _ (u .ensures .1 .0), waits-memory (now (a .bytes)) (now (a .array)) (now (a .rows)) (s .pre) (p .result) (f .result) (p .ensures) (f .ensures) (a .ticks) Rows _ _ (u .ensures .1 .1))))
 
 pub wait-spec : {M : Type 1} → statement M
 wait-spec =
@@ -52,6 +56,7 @@ wait-spec =
     (tie.spec
     part-again-requires
     phase-again-requires
+    running-requires
     sub-page
     part-page-start
     part-page-end

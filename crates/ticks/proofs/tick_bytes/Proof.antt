@@ -1,5 +1,4 @@
 -- `ticks::tick_bytes` meets its contract: bytes that hold no record are left alone, and else what the ticks make of the record is written.
-use Prim.Native.Nat.{ℕ}
 use mathlib.Core.Path.{sym, ap, _∙_}
 use denote.Ref.{now}
 use borrow.Author.Tests.{not-true, not-false}
@@ -25,7 +24,10 @@ returns : tie.Need-returns
 returns c =
     let h = recordIn (now (c .before .before .before .before .before .before .before .before .args .bytes)) in
     let n = ap (λ (x : Found). x .ok) (sym (c .before .before .before .read .ensures)) ∙ not-true _ (c .before .if1 .taken) in
-    (ap (λ (k : ℕ). record { number = k; done = 0 }) (c .rows-number-or .ensures) ∙ unheld-worked h n _ _ _, (unheld-tick-bytes h n _ _ _ _, (unheld-memory h n _ _ _ _ _, unheld-memory h n _ _ _ _ _)))
+    (unheld-worked h n _ _ _ _ (c .rows-number-or .ensures), (unheld-tick-bytes h n _ _ _ _, (unheld-memory h n _ _ _ _ _, unheld-memory h n _ _ _ _ _)))
+
+running-requires : tie.Need-running-requires
+running-requires c κs = search needs
 
 sub-page : tie.Need-sub-page
 sub-page c = search needs
@@ -34,7 +36,7 @@ part-page-start : tie.Need-part-page-start
 part-page-start c = search needs
 
 part-page-end : tie.Need-part-page-end
-part-page-end c = omega (arith, held-length (now (c .before .before .before .before .before .before .before .before .before .args .bytes)) (ap (λ (x : Found). x .ok) (sym (c .before .before .before .before .read .ensures)) ∙ not-false _ (c .before .before .if1 .left)))
+part-page-end c = omega (arith, held-length (now (c .before .before .before .before .before .before .before .before .before .before .args .bytes)) (ap (λ (x : Found). x .ok) (sym (c .before .before .before .before .before .read .ensures)) ∙ not-false _ (c .before .before .before .if1 .left)))
 
 tick-part-requires : tie.Need-tick-part-requires
 tick-part-requires c κs = search needs
@@ -56,11 +58,12 @@ same-length-4 c = search needs
 
 returns-2 : tie.Need-returns-2
 returns-2 c =
-    let bs = now (c .before .before .before .before .before .before .before .before .before .before .before .before .before .before .before .before .before .before .before .before .before .before .args .bytes) in
-    let f = c .before .before .before .before .before .before .before .before .before .before .before .before .before .before .before .before .before .read in
-    let e = ap (λ (x : Found). x .ok) (sym (c .before .before .before .before .before .before .before .before .before .before .before .before .before .before .before .before .before .read .ensures)) ∙ not-false _ (c .before .before .before .before .before .before .before .before .before .before .before .before .before .before .before .if1 .left) in
+    let bs = now (c .before .before .before .before .before .before .before .before .before .before .before .before .before .before .before .before .before .before .before .before .before .before .before .args .bytes) in
+    let f = c .before .before .before .before .before .before .before .before .before .before .before .before .before .before .before .before .before .before .read in
+    let e = ap (λ (x : Found). x .ok) (sym (f .ensures)) ∙ not-false _ (c .before .before .before .before .before .before .before .before .before .before .before .before .before .before .before .before .if1 .left) in
+    let w = c .before .before .before .before .before .before .before .before .before .before .before .before .before .before .running in
     let u = c .before .before .before .before .before .before .before .before .before .tick-part .ensures in
-    (told-worked bs e (f .result) (f .ensures) _ _ _ _ (u .0), (c .before .before .write-change .ensures ∙ told-bytes bs e (f .result) (f .ensures) _ _ _ _ (u .0), (told-memory bs e (f .result) (f .ensures) _ _ _ _ _ _ (u .1 .0), told-memory bs e (f .result) (f .ensures) _ _ _ _ _ _ (u .1 .1))))
+    (told-worked bs e (f .result) (f .ensures) _ _ _ _ (u .0) (w .result) (w .ensures), (c .before .before .write-change .ensures ∙ told-bytes bs e (f .result) (f .ensures) _ _ _ _ (u .0), (told-memory bs e (f .result) (f .ensures) _ _ _ _ _ _ (u .1 .0), told-memory bs e (f .result) (f .ensures) _ _ _ _ _ _ (u .1 .1))))
 
 pub tick-bytes-spec : {M : Type 1} → statement M
 tick-bytes-spec =
@@ -70,6 +73,7 @@ tick-bytes-spec =
     rows-number-or-requires
     same-length
     returns
+    running-requires
     sub-page
     part-page-start
     part-page-end

@@ -6,7 +6,7 @@ use Rattle.record_bytes.specs.declared.Found.{Found}
 use Rattle.record_bytes.specs.Layout.{recordLength}
 use Rattle.record_bytes.specs.Read.{identityIn, recordIn}
 use Rattle.record_bytes.proofs.Back.{held-length}
-use Rattle.yawlspar.proofs.Face.{unheld-answer, unheld-bytes, unheld-output, told-answer, told-bytes, told-output}
+use Rattle.yawlspar.proofs.Face.{packs, unheld-answer, unheld-bytes, unheld-output, told-answer, told-bytes, told-output}
 use Rattle.yawlspar.proofs.FirstPlace.{first-packs}
 use borrow.Author.Needs.{needs}
 use native.Mathlib.Omega.{arith}
@@ -31,7 +31,7 @@ returns c =
     let h = recordIn (now (c .before .before .before .before .before .before .before .before .before .before .before .args .bytes)) in
     let n = ap (λ (x : Found). x .ok) (sym (c .before .before .before .before .read .ensures)) ∙ not-true _ (c .before .before .if1 .taken) in
     let l = c .before .later-refusal .ensures in
-    (c .pack .ensures ∙ rw l (unheld-answer h n _ _ _ _ _), (unheld-bytes h n _ _ _ _ _ _, unheld-output h n _ _ _ _ _))
+    (c .pack .ensures ∙ packs _ 0 (omega arith) ∙ rw l (unheld-answer h n _ _ _ _ _), (unheld-bytes h n _ _ _ _ _ _, unheld-output h n _ _ _ _ _))
 
 sub-identity-in : tie.Need-sub-identity-in
 sub-identity-in c = search needs
@@ -55,7 +55,7 @@ write-change-requires : tie.Need-write-change-requires
 write-change-requires c κs = search needs
 
 pack-requires-2 : tie.Need-pack-requires-2
-pack-requires-2 c κs = rw (c .before .before .before .before .before .before .transact-part .ensures .0) (first-packs _ _ _ _ _ _ _ _)
+pack-requires-2 c κs = search needs
 
 same-length-2 : tie.Need-same-length-2
 same-length-2 c = search needs
@@ -71,7 +71,7 @@ returns-2 c =
     let d = c .before .before .before .before .before .before .before .before .before .before .identity-in .ensures ∙ ap identityIn (take-all recordLength bs (omega (arith, held-length bs e))) in
     let t = c .before .before .before .before .before .before .before .before .before .both .ensures in
     let u = c .before .before .before .before .before .before .before .transact-part .ensures in
-    (c .pack2 .ensures ∙ told-answer bs e (f .result) (f .ensures) _ _ t _ _ _ _ _ (u .0), (c .before .before .before .write-change .ensures ∙ told-bytes bs e (f .result) (f .ensures) _ _ t _ _ _ _ _ (u .0), told-output bs e (f .result) (f .ensures) _ _ t _ d _ _ _ _ _ (u .1)))
+    (c .pack2 .ensures ∙ packs _ _ (rw (u .0) (first-packs _ _ _ _ _ _ _ _)) ∙ told-answer bs e (f .result) (f .ensures) _ _ t _ _ _ _ _ (u .0), (c .before .before .before .write-change .ensures ∙ told-bytes bs e (f .result) (f .ensures) _ _ t _ _ _ _ _ (u .0), told-output bs e (f .result) (f .ensures) _ _ t _ d _ _ _ _ _ (u .1)))
 
 pub yawlspar-transact-spec : {M : Type 1} → statement M
 yawlspar-transact-spec =

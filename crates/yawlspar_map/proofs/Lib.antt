@@ -1,0 +1,2 @@
+pub mod Face
+pub mod Tight
