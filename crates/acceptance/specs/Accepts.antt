@@ -4,15 +4,15 @@ use Rattle.types.specs.declared.Phase.TheVariants.{Idle}
 use Rattle.types.specs.declared.Record.{Record}
 use Rattle.types.specs.declared.Verdict.TheVariants.{Yes}
 use Rattle.words.specs.Lists.{AreBytes}
-use Rattle.paper.specs.Sizes.{isLarge, arrayBytes}
+use Rattle.paper.specs.Sizes.{is_large, array_bytes}
 use Rattle.paper.specs.Protection.{code_of}
 use Rattle.paper.specs.Soundness.{sound}
 use Rattle.paper.specs.Board.{Board}
 use Rattle.paper.specs.Script.{Script, Scripted}
-use Rattle.paper.specs.Check.{checkRefusalOf, checked}
+use Rattle.paper.specs.Check.{check_refusal_of, checked}
 use Rattle.laws.specs.Writes.{Rested}
 use Rattle.acceptance.specs.Flasher.{unprotected, flashes}
-use Rattle.acceptance.specs.Construction.{flasherFor}
+use Rattle.acceptance.specs.Construction.{flasher_for}
 
 -- "the run answers 0 at every step, ends idle and leaves the array equal to the image"; of n steps
 pub record RunsRight (n : ℕ) (image : List ℕ) (w : Scripted) : Type 0 where
@@ -26,18 +26,18 @@ abbrev pub YesExactly : Type 0
 YesExactly =
     (s : Script) (b : Board) (o n d image : List ℕ) → sound b.state ≡ true
     → ((checked true s b o n d image).verdict ≡ Yes)
-    ↔ ((checkRefusalOf true s b o n d image ≡ 0) × RunsRight (length s.lengths) image (checked true s b o n d image).run)
+    ↔ ((check_refusal_of true s b o n d image ≡ 0) × RunsRight (length s.lengths) image (checked true s b o n d image).run)
 
 -- "an unprotected part": its code is 0, or it is not the large part and its code is 15
 abbrev pub UnprotectedCodes : Type 0
 UnprotectedCodes =
-    (p : Record) → sound p ≡ true → (unprotected p ≡ true) ↔ ((code_of p.part.stored.status ≡ 0) ⊎ ((code_of p.part.stored.status ≡ 15) × (isLarge p.part.blocks ≡ false)))
+    (p : Record) → sound p ≡ true → (unprotected p ≡ true) ↔ ((code_of p.part.stored.status ≡ 0) ⊎ ((code_of p.part.stored.status ≡ 15) × (is_large p.part.blocks ≡ false)))
 
 -- "is always accepted on an unprotected part that starts idle and awake"
 abbrev pub Accepts : Type 0
 Accepts =
     (s : Script) (b : Board) (o n d image : List ℕ) → Rested b → unprotected b.state ≡ true → AreBytes image
-    → checkRefusalOf true s b o n d image ≡ 0 → flashes b.state b.array image s ≡ true
+    → check_refusal_of true s b o n d image ≡ 0 → flashes b.state b.array image s ≡ true
     → (checked true s b o n d image).verdict ≡ Yes
 
 -- there is such a script for every array and image: it passes the test, and is not refused with an output and two lists of its lengths. Its lengths and tick counts are 16-bit numbers, as the call takes them
@@ -47,15 +47,15 @@ pub record IsMade (wp : Bool) (p : Record) (xs image : List ℕ) (s : Script) : 
   pub input : AreBytes s.input
   pub lengths : (k : ℕ) → get_or s.lengths k 0 < 2 ^ 16
   pub ticks : (k : ℕ) → get_or s.ticks k 0 < 2 ^ 16
-  pub unrefused : (b : Board) (o n d : List ℕ) → Rested b → b.array ≡ xs → length o ≡ length s.input → length n ≡ length s.lengths → length d ≡ length s.lengths → checkRefusalOf true s b o n d image ≡ 0
+  pub unrefused : (b : Board) (o n d : List ℕ) → Rested b → b.array ≡ xs → length o ≡ length s.input → length n ≡ length s.lengths → length d ≡ length s.lengths → check_refusal_of true s b o n d image ≡ 0
 
 abbrev pub Makes : Type 0
 Makes =
-    (wp : Bool) (p : Record) (xs image : List ℕ) → sound p ≡ true → length xs ≡ arrayBytes p.part.blocks → length image ≡ length xs → AreBytes image
-    → IsMade wp p xs image (flasherFor wp p.part.blocks xs image)
+    (wp : Bool) (p : Record) (xs image : List ℕ) → sound p ≡ true → length xs ≡ array_bytes p.part.blocks → length image ≡ length xs → AreBytes image
+    → IsMade wp p xs image (flasher_for wp p.part.blocks xs image)
 
 pub record Acceptance : Type 0 where
-  pub yes-exactly : YesExactly
-  pub unprotected-codes : UnprotectedCodes
+  pub yes_exactly : YesExactly
+  pub unprotected_codes : UnprotectedCodes
   pub accepts : Accepts
   pub makes : Makes

@@ -1,7 +1,7 @@
 // Numbers as bytes, high byte first, and addresses, which are sent so.
 ghost use Rattle.std.specs.Prelude.{◌≡◌, min, take};
-ghost use Rattle.paper.specs.Address.{highFirst, addressBytes};
-ghost use Rattle.address.specs.Bytes.{highFirstBytes};
+ghost use Rattle.paper.specs.Address.{high_first, address_bytes};
+ghost use Rattle.address.specs.Bytes.{high_first_bytes};
 
 fn wide(byte: u8) -> usize
     ensures { result ≡ byte }
@@ -11,7 +11,7 @@ fn wide(byte: u8) -> usize
 
 // The number that bytes are, high byte first. Of more than eight the first eight are read.
 fn high_first(bytes: &[u8]) -> usize
-    ensures { result ≡ highFirst (take 8 bytes.now) }
+    ensures { result ≡ high_first (take 8 bytes.now) }
 {
     let end = words::lesser(8, bytes.len());
     let mut number: usize = 0;
@@ -25,7 +25,7 @@ fn high_first(bytes: &[u8]) -> usize
 
 // The eight bytes of a number, high byte first.
 pub fn high_first_bytes(number: usize) -> [u8; 8]
-    ensures { result ≡ highFirstBytes 8 number }
+    ensures { result ≡ high_first_bytes 8 number }
 {
     let a = number / 256;
     let b = a / 256;
@@ -49,7 +49,7 @@ pub fn high_first_bytes(number: usize) -> [u8; 8]
 // The number that the count bytes after a transaction's first byte are, high byte first. Of more
 // than eight the first eight are read; where fewer were sent, those are.
 pub fn address_sent(input: &[u8], count: usize) -> usize
-    ensures { result ≡ highFirst (addressBytes (min count 8) input.now) }
+    ensures { result ≡ high_first (address_bytes (min count 8) input.now) }
 {
     let n = input.len();
     if n == 0 {

@@ -12,23 +12,23 @@ use Rattle.types.specs.declared.Answer.{Answer}
 use Rattle.types.specs.declared.PoweredUp.{PoweredUp}
 use Rattle.types.specs.declared.Line.TheVariants.{Transaction}
 use Rattle.bytes.specs.Bytes.{index_of, index_after, slice}
-use Rattle.paper.specs.Sizes.{arrayBytes, rowsBytes}
-use Rattle.paper.specs.Erase.{erasedByte}
-use Rattle.paper.specs.Reads.{undriven, undrivenByte}
-use Rattle.paper.specs.Calls.{noStored, poweredUp, transacted, transactedOutput}
-use Rattle.paper.specs.Board.{Board, boardOf, sentTo, drivenBy, afterSent}
-use Rattle.paper.specs.Bench.{LF, space, inputLimit, pairLimit, letterK, before, lines_of, pairs, line_of, benchIdentity, benchBoard, lineText, lineAfter, text_of, boardAfter}
+use Rattle.paper.specs.Sizes.{array_bytes, rows_bytes}
+use Rattle.paper.specs.Erase.{erased_byte}
+use Rattle.paper.specs.Reads.{undriven, undriven_byte}
+use Rattle.paper.specs.Calls.{no_stored, powered_up, transacted, transacted_output}
+use Rattle.paper.specs.Board.{Board, board_of, sent_to, driven_by, after_sent}
+use Rattle.paper.specs.Bench.{LF, space, input_limit, pair_limit, letter_k, before, lines_of, pairs, line_of, bench_identity, bench_board, line_text, line_after, text_of, board_after}
 use Rattle.words.proofs.Lists.{take_min, drop_min}
-use Rattle.lines.proofs.Numerals.{pairs-whole}
-use Rattle.lines.proofs.Lines.{pairs-count, Says, line-says}
+use Rattle.lines.proofs.Numerals.{pairs_whole}
+use Rattle.lines.proofs.Lines.{pairs_count, Says, line_says}
 use Rattle.printing.specs.Printed.{Prints}
-use Rattle.printing.proofs.Text.{prints-empty, prints-then, prints-length}
+use Rattle.printing.proofs.Text.{prints_empty, prints_then, prints_length}
 
 -- a line that says a transaction has a byte or more, and there is room for them in s and t, each of which is as long as there may be pairs
-pub line-room : (most : ℕ) (l s t : List ℕ) (wp : Bool) → line_of most l ≡ Transaction wp → most ≤ length s → most ≤ length t
+pub line_room : (most : ℕ) (l s t : List ℕ) (wp : Bool) → line_of most l ≡ Transaction wp → most ≤ length s → most ≤ length t
     → (1 ≤ length l / 2) × (length l / 2 - 1 ≤ length s) × (length l / 2 - 1 ≤ length t) × (length l ≡ 2 * length (take (length l / 2 - 1 - 0) s) + 2) × (length (take (length l / 2 - 1 - 0) t) ≡ length (take (length l / 2 - 1 - 0) s))
-line-room most l s t wp e h k =
-    let c = pairs-count most (drop 2 l) (subst (Says most l) e (line-says most l)) in
+line_room most l s t wp e h k =
+    let c = pairs_count most (drop 2 l) (subst (Says most l) e (line_says most l)) in
     let d : length (drop 2 l) ≡ length l - 2 = length-drop 2 l in
     let a : 1 ≤ length l / 2 = omega (arith, c) in
     let u : length l / 2 - 1 ≤ length s = omega (arith, c) in
@@ -38,72 +38,72 @@ line-room most l s t wp e h k =
     (a, u, v, omega (arith, c), g ∙ sym f)
 
 -- the bytes of its pairs, which were put into a buffer s that has just room for them
-pub sent-pairs : (l s s₁ : List ℕ) → length l ≡ 2 * length s + 2 → s₁ ≡ sets s 0 (pairs (take (length l - 2) (drop 2 l))) → s₁ ≡ pairs (drop 2 l)
-sent-pairs l s s₁ h e =
+pub sent_pairs : (l s s₁ : List ℕ) → length l ≡ 2 * length s + 2 → s₁ ≡ sets s 0 (pairs (take (length l - 2) (drop 2 l))) → s₁ ≡ pairs (drop 2 l)
+sent_pairs l s s₁ h e =
     let n : length (drop 2 l) ≡ length l - 2 = length-drop 2 l in
-    e ∙ rw (take_all (length l - 2) (drop 2 l) (omega arith)) (pairs-whole (drop 2 l) s (omega arith))
+    e ∙ rw (take_all (length l - 2) (drop 2 l) (omega arith)) (pairs_whole (drop 2 l) s (omega arith))
 
 -- a transaction of the bytes i, with a buffer of as many bytes that was set to FFh
-pub sent-as : (p : Record) (xs rs : List ℕ) (wp : Bool) (i sent back back₁ back₂ : List ℕ) (a : Answer) → sent ≡ i → length back ≡ length sent → back₁ ≡ undriven (length back)
-    → a ≡ transacted p (length xs) (length rs) wp sent (length back₁) → back₂ ≡ transactedOutput p xs rs wp sent back₁
-    → (a ≡ sentTo (boardOf p xs rs) wp i) × (back₂ ≡ drivenBy (boardOf p xs rs) wp i)
-sent-as p xs rs wp i sent back back₁ back₂ a e n f g h =
-    let m : length back₁ ≡ length i = ap length f ∙ length-replicate (length back) undrivenByte ∙ n ∙ ap length e in
+pub sent_as_lem : (p : Record) (xs rs : List ℕ) (wp : Bool) (i sent back back₁ back₂ : List ℕ) (a : Answer) → sent ≡ i → length back ≡ length sent → back₁ ≡ undriven (length back)
+    → a ≡ transacted p (length xs) (length rs) wp sent (length back₁) → back₂ ≡ transacted_output p xs rs wp sent back₁
+    → (a ≡ sent_to (board_of p xs rs) wp i) × (back₂ ≡ driven_by (board_of p xs rs) wp i)
+sent_as_lem p xs rs wp i sent back back₁ back₂ a e n f g h =
+    let m : length back₁ ≡ length i = ap length f ∙ length-replicate (length back) undriven_byte ∙ n ∙ ap length e in
     let k : back₁ ≡ undriven (length i) = f ∙ ap undriven (n ∙ ap length e) in
     (g ∙ rw (m, e), h ∙ rw (k, e))
 
 -- the part after it
-pub sent-board : (b : Board) (wp : Bool) (i : List ℕ) (p : Record) → p ≡ (sentTo b wp i).next → boardOf p b.array b.rows ≡ afterSent b wp i
-sent-board b wp i p e = ap (λ (q : Record). boardOf q b.array b.rows) e
+pub sent_board : (b : Board) (wp : Bool) (i : List ℕ) (p : Record) → p ≡ (sent_to b wp i).next → board_of p b.array b.rows ≡ after_sent b wp i
+sent_board b wp i p e = ap (λ (q : Record). board_of q b.array b.rows) e
 
 -- `K 1`, LF, LF, `K 2`
-pub three-lines : lines_of (letterK ∷ space ∷ 49 ∷ LF ∷ LF ∷ letterK ∷ space ∷ 50 ∷ []) ≡ (letterK ∷ space ∷ 49 ∷ []) ∷ [] ∷ (letterK ∷ space ∷ 50 ∷ []) ∷ []
-three-lines = refl
+pub three_lines : lines_of (letter_k ∷ space ∷ 49 ∷ LF ∷ LF ∷ letter_k ∷ space ∷ 50 ∷ []) ≡ (letter_k ∷ space ∷ 49 ∷ []) ∷ [] ∷ (letter_k ∷ space ∷ 50 ∷ []) ∷ []
+three_lines = refl
 
 -- the first line, and the lines after it
-next-as : (xs : List ℕ) (x : ℕ) (b : Bool) → eqb x LF ≡ b
+next_as : (xs : List ℕ) (x : ℕ) (b : Bool) → eqb x LF ≡ b
     → cond b ([] ∷ lines_of xs) (before x (lines_of xs)) ≡ take (index_after b (index_of LF xs)) (x ∷ xs) ∷ lines_of (drop (suc (index_after b (index_of LF xs))) (x ∷ xs))
 unfolding index_of index_after
-next-as [] x true e = refl
-next-as [] x false e = refl
-next-as (y ∷ ys) x true e = refl
-next-as (y ∷ ys) x false e = ap (before x) (next-as ys y (eqb y LF) refl)
+next_as [] x true e = refl
+next_as [] x false e = refl
+next_as (y ∷ ys) x true e = refl
+next_as (y ∷ ys) x false e = ap (before x) (next_as ys y (eqb y LF) refl)
 
 pub lines_next : (xs : List ℕ) → 0 < length xs → lines_of xs ≡ take (index_of LF xs) xs ∷ lines_of (drop (suc (index_of LF xs)) xs)
 unfolding index_of
 lines_next [] h = absurd (omega arith)
-lines_next (x ∷ xs) h = next-as xs x (eqb x LF) refl
+lines_next (x ∷ xs) h = next_as xs x (eqb x LF) refl
 
 -- a line's part and text, then those of the lines after it
 module _ (most : ℕ) (xs : List ℕ) (some : 0 < length xs) (b b₁ : Board) (o o₁ : List ℕ) (at at₁ : ℕ)
-    (after : b₁ ≡ lineAfter (line_of most (take (index_of LF xs) xs)) (take (index_of LF xs) xs) b)
-    (printed : Prints o at (lineText (line_of most (take (index_of LF xs) xs)) (take (index_of LF xs) xs) b) o₁ at₁) where
-  pub board-on : boardAfter most (lines_of (drop (suc (index_of LF xs)) xs)) b₁ ≡ boardAfter most (lines_of xs) b
-  board-on = rw (lines_next xs some, after)
+    (after : b₁ ≡ line_after (line_of most (take (index_of LF xs) xs)) (take (index_of LF xs) xs) b)
+    (printed : Prints o at (line_text (line_of most (take (index_of LF xs) xs)) (take (index_of LF xs) xs) b) o₁ at₁) where
+  pub board_on : board_after most (lines_of (drop (suc (index_of LF xs)) xs)) b₁ ≡ board_after most (lines_of xs) b
+  board_on = rw (lines_next xs some, after)
 
-  pub text-on : (o₂ : List ℕ) (at₂ : ℕ) → Prints o₁ at₁ (text_of most (lines_of (drop (suc (index_of LF xs)) xs)) b₁) o₂ at₂ → Prints o at (text_of most (lines_of xs) b) o₂ at₂
-  text-on o₂ at₂ p = rw (lines_next xs some) (prints-then printed (rw (← after) p))
+  pub text_on : (o₂ : List ℕ) (at₂ : ℕ) → Prints o₁ at₁ (text_of most (lines_of (drop (suc (index_of LF xs)) xs)) b₁) o₂ at₂ → Prints o at (text_of most (lines_of xs) b) o₂ at₂
+  text_on o₂ at₂ p = rw (lines_next xs some) (prints_then printed (rw (← after) p))
 
 -- how far the lines of an input have gone: to the place from, with the part b and the text in o up to the place at. What the lines from there on leave and print is what all of them do
 pub record Goes (most : ℕ) (input : List ℕ) (b₀ : Board) (o₀ : List ℕ) (from : ℕ) (b : Board) (o : List ℕ) (at : ℕ) : Type 0 where
-  pub board : boardAfter most (lines_of (drop from input)) b ≡ boardAfter most (lines_of input) b₀
+  pub board : board_after most (lines_of (drop from input)) b ≡ board_after most (lines_of input) b₀
   pub text : (o' : List ℕ) (at' : ℕ) → Prints o at (text_of most (lines_of (drop from input)) b) o' at' → Prints o₀ 0 (text_of most (lines_of input) b₀) o' at'
   pub fits : at ≤ length o
   pub same : length o ≡ length o₀
 
-pub goes-start : (most : ℕ) (input : List ℕ) (b : Board) (o : List ℕ) → Goes most input b o 0 b o 0
-goes-start most input b o = record { board = refl; text = λ o' at' p. p; fits = omega arith; same = refl }
+pub goes_start : (most : ℕ) (input : List ℕ) (b : Board) (o : List ℕ) → Goes most input b o 0 b o 0
+goes_start most input b o = record { board = refl; text = λ o' at' p. p; fits = omega arith; same = refl }
 
 -- where a line ends that was looked for up to the input's end
-pub line-end : (input : List ℕ) (from end : ℕ) → end ≡ from + index_of LF (slice from (length input) input) → end ≡ from + index_of LF (drop from input)
+pub line_end : (input : List ℕ) (from end : ℕ) → end ≡ from + index_of LF (slice from (length input) input) → end ≡ from + index_of LF (drop from input)
 unfolding slice
-line-end input from end e = e ∙ rw (take-length input)
+line_end input from end e = e ∙ rw (take-length input)
 
 module _ (most : ℕ) (input : List ℕ) (b₀ : Board) (o₀ : List ℕ) (from : ℕ) (b : Board) (o : List ℕ) (at : ℕ) (g : Goes most input b₀ o₀ from b o at) where
   -- a line further
   pub goes_on : (end : ℕ) (b₁ : Board) (o₁ : List ℕ) (at₁ : ℕ) → from < length input → end ≡ from + index_of LF (drop from input)
-      → b₁ ≡ lineAfter (line_of most (take (end - from) (drop from input))) (take (end - from) (drop from input)) b
-      → Prints o at (lineText (line_of most (take (end - from) (drop from input))) (take (end - from) (drop from input)) b) o₁ at₁
+      → b₁ ≡ line_after (line_of most (take (end - from) (drop from input))) (take (end - from) (drop from input)) b
+      → Prints o at (line_text (line_of most (take (end - from) (drop from input))) (take (end - from) (drop from input)) b) o₁ at₁
       → Goes most input b₀ o₀ (min (end + 1) (length input)) b₁ o₁ at₁
   goes_on end b₁ o₁ at₁ h e after printed =
       let k : end - from ≡ index_of LF (drop from input) = omega arith in
@@ -112,29 +112,29 @@ module _ (most : ℕ) (input : List ℕ) (b₀ : Board) (o₀ : List ℕ) (from 
       let d : drop (min (end + 1) (length input)) input ≡ drop (suc (index_of LF (drop from input))) (drop from input) = drop_min (end + 1) input ∙ rw n (sym (drop-drop (suc (index_of LF (drop from input))) from input)) in
       let a = rw k at after in
       let p = rw k at printed in
-      let l : length o₁ ≡ length o = prints-length printed in
+      let l : length o₁ ≡ length o = prints_length printed in
       record {
-        board = rw d (board-on most (drop from input) some b b₁ o o₁ at at₁ a p ∙ g.board);
-        text = λ o' at' q. g.text o' at' (text-on most (drop from input) some b b₁ o o₁ at at₁ a p o' at' (rw d at q));
+        board = rw d (board_on most (drop from input) some b b₁ o o₁ at at₁ a p ∙ g.board);
+        text = λ o' at' q. g.text o' at' (text_on most (drop from input) some b b₁ o o₁ at at₁ a p o' at' (rw d at q));
         fits = omega (arith, printed.place);
         same = l ∙ g.same;
       }
 
   -- no line is left
-  pub goes_end : length input ≤ from → (b ≡ boardAfter most (lines_of input) b₀) × Prints o₀ 0 (text_of most (lines_of input) b₀) o at
+  pub goes_end : length input ≤ from → (b ≡ board_after most (lines_of input) b₀) × Prints o₀ 0 (text_of most (lines_of input) b₀) o at
   goes_end h =
       let d : drop from input ≡ [] = drop_of_length-le input h in
-      (rw d at g.board, g.text o at (rw d (prints-empty o at g.fits)))
+      (rw d at g.board, g.text o at (rw d (prints_empty o at g.fits)))
 
 -- a part that was powered up, with memory that was set to FFh, is the bench's
-pub bench-board : (n : ℕ) (up : PoweredUp) (xs rs : List ℕ) → up ≡ poweredUp n benchIdentity noStored → xs ≡ replicate (arrayBytes n) erasedByte → rs ≡ replicate rowsBytes erasedByte → boardOf up.next xs rs ≡ benchBoard n
-bench-board n up xs rs e f g = rw (e, f, g)
+pub bench_board_lem : (n : ℕ) (up : PoweredUp) (xs rs : List ℕ) → up ≡ powered_up n bench_identity no_stored → xs ≡ replicate (array_bytes n) erased_byte → rs ≡ replicate rows_bytes erased_byte → board_of up.next xs rs ≡ bench_board n
+bench_board_lem n up xs rs e f g = rw (e, f, g)
 
 -- what bench leaves and prints goes by the bytes that it reads
 abbrev Left : List ℕ → List ℕ → List ℕ → List ℕ → List ℕ → ℕ → Type 0
 Left read xs rs o o' at =
-    (xs ≡ (boardAfter pairLimit (lines_of read) (benchBoard 1)).array) × ((rs ≡ (boardAfter pairLimit (lines_of read) (benchBoard 1)).rows) × Prints o 0 (text_of pairLimit (lines_of read) (benchBoard 1)) o' at)
+    (xs ≡ (board_after pair_limit (lines_of read) (bench_board 1)).array) × ((rs ≡ (board_after pair_limit (lines_of read) (bench_board 1)).rows) × Prints o 0 (text_of pair_limit (lines_of read) (bench_board 1)) o' at)
 
-pub bench-read : (read input xs rs o o' : List ℕ) (at k : ℕ) → k ≡ min inputLimit (length input) → read ≡ take k input → Left read xs rs o o' at → Left (take inputLimit input) xs rs o o' at
-bench-read read input xs rs o o' at k e f h =
-    subst (λ (l : List ℕ). Left l xs rs o o' at) (f ∙ ap (λ (n : ℕ). take n input) e ∙ take_min inputLimit input) h
+pub bench_read : (read input xs rs o o' : List ℕ) (at k : ℕ) → k ≡ min input_limit (length input) → read ≡ take k input → Left read xs rs o o' at → Left (take input_limit input) xs rs o o' at
+bench_read read input xs rs o o' at k e f h =
+    subst (λ (l : List ℕ). Left l xs rs o o' at) (f ∙ ap (λ (n : ℕ). take n input) e ∙ take_min input_limit input) h

@@ -1,11 +1,11 @@
 // The lines of the program bench, run on a part: what each does with it, and what is printed for it.
 ghost use Rattle.std.specs.Prelude.{◌≡◌, [], ◌+◌, ◌*◌, ◌≤◌, min, length, drop};
-ghost use Rattle.words.specs.Logic.{whenZero};
-ghost use Rattle.paper.specs.Sizes.{arrayBytes, rowsBytes, transactionLimit};
-ghost use Rattle.paper.specs.Board.{boardOf, sentTo, afterTicks};
-ghost use Rattle.paper.specs.Bench.{pairs, line_of, sentText, waitedText, lineText, lineAfter, lines_of, text_of, boardAfter, benchBoard, benchText, benchAfter};
+ghost use Rattle.words.specs.Logic.{when_zero};
+ghost use Rattle.paper.specs.Sizes.{array_bytes, rows_bytes, transaction_limit};
+ghost use Rattle.paper.specs.Board.{board_of, sent_to, after_ticks};
+ghost use Rattle.paper.specs.Bench.{pairs, line_of, sent_text, waited_text, line_text, line_after, lines_of, text_of, board_after, bench_board, bench_text, bench_after};
 ghost use Rattle.printing.specs.Printed.{Prints};
-ghost use Rattle.bench_lines.specs.Lent.{lentNumber};
+ghost use Rattle.bench_lines.specs.Lent.{lent_number};
 
 use types::{Identity, Line, Record};
 
@@ -41,8 +41,8 @@ fn send(
     at: usize,
 ) -> Ran
     requires { (length line.now ≡ 2 * length sent.old + 2) × (length back.old ≡ length sent.old) }
-    ensures next { result.next ≡ (sentTo (boardOf state array.now rows.now) wp (pairs (drop 2 line.now))).next }
-    ensures output { Prints output.old at (sentText (boardOf state array.now rows.now) wp (pairs (drop 2 line.now))) output.new result.printed }
+    ensures next { result.next ≡ (sent_to (board_of state array.now rows.now) wp (pairs (drop 2 line.now))).next }
+    ensures output { Prints output.old at (sent_text (board_of state array.now rows.now) wp (pairs (drop 2 line.now))) output.new result.printed }
 {
     lines::bytes_of(&line[2..], sent);
     runs::blank(back);
@@ -64,8 +64,8 @@ fn wait(
     output: &mut [u8],
     at: usize,
 ) -> Ran
-    ensures after { boardOf result.next array.new rows.new ≡ afterTicks (boardOf state array.old rows.old) ticks }
-    ensures output { Prints output.old at (waitedText (boardOf state array.old rows.old) ticks) output.new result.printed }
+    ensures after { board_of result.next array.new rows.new ≡ after_ticks (board_of state array.old rows.old) ticks }
+    ensures output { Prints output.old at (waited_text (board_of state array.old rows.old) ticks) output.new result.printed }
 {
     let ticked = ticks::tick(state, array, rows, ticks);
     let next = ticked.next;
@@ -89,8 +89,8 @@ fn run_line(
     at: usize,
 ) -> Ran
     requires { (most ≤ length sent.old) × (most ≤ length back.old) }
-    ensures after { boardOf result.next array.new rows.new ≡ lineAfter (line_of most line.now) line.now (boardOf state array.old rows.old) }
-    ensures output { Prints output.old at (lineText (line_of most line.now) line.now (boardOf state array.old rows.old)) output.new result.printed }
+    ensures after { board_of result.next array.new rows.new ≡ line_after (line_of most line.now) line.now (board_of state array.old rows.old) }
+    ensures output { Prints output.old at (line_text (line_of most line.now) line.now (board_of state array.old rows.old)) output.new result.printed }
 {
     let said = lines::line_of(most, line);
     match said {
@@ -128,7 +128,7 @@ fn after(end: usize, n: usize) -> usize
 
 // Room for the bytes of a transaction.
 fn room() -> [u8; types::TRANSACTION_MOST]
-    ensures { transactionLimit ≡ length result }
+    ensures { transaction_limit ≡ length result }
 {
     [0; types::TRANSACTION_MOST]
 }
@@ -143,9 +143,9 @@ fn run(
     input: &[u8],
     output: &mut [u8],
 ) -> Ran
-    requires { most ≤ transactionLimit }
-    ensures after { boardOf result.next array.new rows.new ≡ boardAfter most (lines_of input.now) (boardOf state array.old rows.old) }
-    ensures output { Prints output.old 0 (text_of most (lines_of input.now) (boardOf state array.old rows.old)) output.new result.printed }
+    requires { most ≤ transaction_limit }
+    ensures after { board_of result.next array.new rows.new ≡ board_after most (lines_of input.now) (board_of state array.old rows.old) }
+    ensures output { Prints output.old 0 (text_of most (lines_of input.now) (board_of state array.old rows.old)) output.new result.printed }
 {
     let mut sent = room();
     let mut back = room();
@@ -185,10 +185,10 @@ fn on_part(
     input: &[u8],
     output: &mut [u8],
 ) -> usize
-    requires { (length array.old ≡ arrayBytes blocks) × (length rows.old ≡ rowsBytes) × (most ≤ transactionLimit) }
-    ensures array { array.new ≡ (boardAfter most (lines_of input.now) (benchBoard blocks)).array }
-    ensures rows { rows.new ≡ (boardAfter most (lines_of input.now) (benchBoard blocks)).rows }
-    ensures output { Prints output.old 0 (text_of most (lines_of input.now) (benchBoard blocks)) output.new result }
+    requires { (length array.old ≡ array_bytes blocks) × (length rows.old ≡ rows_bytes) × (most ≤ transaction_limit) }
+    ensures array { array.new ≡ (board_after most (lines_of input.now) (bench_board blocks)).array }
+    ensures rows { rows.new ≡ (board_after most (lines_of input.now) (bench_board blocks)).rows }
+    ensures output { Prints output.old 0 (text_of most (lines_of input.now) (bench_board blocks)) output.new result }
 {
     runs::blank(array);
     runs::blank(rows);
@@ -207,7 +207,7 @@ fn on_part(
 
 // 1 for an array that is not a block, 2 for rows that are not 1,024 bytes.
 fn lent_number(array: usize, rows: usize) -> u8
-    ensures { result ≡ lentNumber array rows }
+    ensures { result ≡ lent_number array rows }
 {
     refusals::size_number_or(1, array, refusals::rows_number_or(rows, 0))
 }
@@ -216,10 +216,10 @@ fn lent_number(array: usize, rows: usize) -> u8
 // as the output has room for. Refused, with 1 for an array that is not a block and 2 for rows that are not 1,024
 // bytes, it writes and prints nothing.
 pub fn bench(array: &mut [u8], rows: &mut [u8], input: &[u8], output: &mut [u8]) -> Benched
-    ensures answer { result.number ≡ lentNumber (length array.old) (length rows.old) }
-    ensures array { array.new ≡ whenZero (lentNumber (length array.old) (length rows.old)) (benchAfter input.now).array array.old }
-    ensures rows { rows.new ≡ whenZero (lentNumber (length array.old) (length rows.old)) (benchAfter input.now).rows rows.old }
-    ensures output { Prints output.old 0 (whenZero (lentNumber (length array.old) (length rows.old)) (benchText input.now) []) output.new result.printed }
+    ensures answer { result.number ≡ lent_number (length array.old) (length rows.old) }
+    ensures array { array.new ≡ when_zero (lent_number (length array.old) (length rows.old)) (bench_after input.now).array array.old }
+    ensures rows { rows.new ≡ when_zero (lent_number (length array.old) (length rows.old)) (bench_after input.now).rows rows.old }
+    ensures output { Prints output.old 0 (when_zero (lent_number (length array.old) (length rows.old)) (bench_text input.now) []) output.new result.printed }
 {
     let number = lent_number(array.len(), rows.len());
     if number != 0 {

@@ -3,34 +3,34 @@ use Prim.Native.Nat.{ℕ}
 use mathlib.Core.Path.{◌≡◌, refl, sym, ap, ◌∙◌}
 use mathlib.Core.Bool.{Bool, true, false}
 use lib.Dec.{eqb}
-use Rattle.words.specs.Logic.{◌and◌, unless, ◌orElse◌}
-use Rattle.words.proofs.Tests.{orElse-on, orElse-first, suc-not-zero}
-use Rattle.paper.specs.Sizes.{sizeOk, arrayBytes}
-use Rattle.paper.specs.Numbers.{sizeNumber}
+use Rattle.words.specs.Logic.{◌and◌, unless, ◌or_else◌}
+use Rattle.words.proofs.Tests.{or_else_on, or_else_first, suc_not_zero}
+use Rattle.paper.specs.Sizes.{size_ok, array_bytes}
+use Rattle.paper.specs.Numbers.{size_number}
 
 -- an array of a bytes, a part of b blocks, a test whether what is lent fits the array, and the number x of it, which is k on an array of the part's size where it doesn't
-module _ (b a : ℕ) (fits : Bool) (x k : ℕ) (is : (sizeOk b and eqb a (arrayBytes b)) ≡ true → x ≡ unless fits k) where
+module _ (b a : ℕ) (fits : Bool) (x k : ℕ) (is : (size_ok b and eqb a (array_bytes b)) ≡ true → x ≡ unless fits k) where
   abbrev known : Bool
-  known = sizeOk b and eqb a (arrayBytes b)
+  known = size_ok b and eqb a (array_bytes b)
 
-  passes-as : (rest : ℕ) (t : Bool) → known ≡ t → fits ≡ true → (unless t 1 or_else x or_else rest) ≡ (unless t 1 or_else rest)
-  unfolding unless ◌orElse◌
-  passes-as rest true e f = rw (is e, f) refl
-  passes-as rest false e f = refl
+  passes_as : (rest : ℕ) (t : Bool) → known ≡ t → fits ≡ true → (unless t 1 or_else x or_else rest) ≡ (unless t 1 or_else rest)
+  unfolding unless ◌or_else◌
+  passes_as rest true e f = rw (is e, f) refl
+  passes_as rest false e f = refl
 
-  pub passes : (rest : ℕ) → fits ≡ true → (sizeNumber b a or_else x or_else rest) ≡ (sizeNumber b a or_else rest)
-  unfolding sizeNumber
-  passes rest f = passes-as rest known refl f
+  pub passes : (rest : ℕ) → fits ≡ true → (size_number b a or_else x or_else rest) ≡ (size_number b a or_else rest)
+  unfolding size_number
+  passes rest f = passes_as rest known refl f
 
-  judged-as : (rest : ℕ) (t : Bool) → known ≡ t → fits ≡ false → (k ≡ 0 → ⊥) → (unless t 1 or_else x or_else rest) ≡ (unless t 1 or_else k)
+  judged_as : (rest : ℕ) (t : Bool) → known ≡ t → fits ≡ false → (k ≡ 0 → ⊥) → (unless t 1 or_else x or_else rest) ≡ (unless t 1 or_else k)
   unfolding unless
-  judged-as rest true e f some =
-      orElse-on 0 (x or_else rest) refl
+  judged_as rest true e f some =
+      or_else_on 0 (x or_else rest) refl
       ∙ ap (λ (j : ℕ). j or_else rest) (is e ∙ ap (λ (t : Bool). unless t k) f)
-      ∙ orElse-first k rest some
-      ∙ sym (orElse-on 0 k refl)
-  judged-as rest false e f some = orElse-first 1 (x or_else rest) suc-not-zero ∙ sym (orElse-first 1 k suc-not-zero)
+      ∙ or_else_first k rest some
+      ∙ sym (or_else_on 0 k refl)
+  judged_as rest false e f some = or_else_first 1 (x or_else rest) suc_not_zero ∙ sym (or_else_first 1 k suc_not_zero)
 
-  pub judged : (rest : ℕ) → fits ≡ false → (k ≡ 0 → ⊥) → (sizeNumber b a or_else x or_else rest) ≡ (sizeNumber b a or_else k)
-  unfolding sizeNumber
-  judged rest f some = judged-as rest known refl f some
+  pub judged : (rest : ℕ) → fits ≡ false → (k ≡ 0 → ⊥) → (size_number b a or_else x or_else rest) ≡ (size_number b a or_else k)
+  unfolding size_number
+  judged rest f some = judged_as rest known refl f some

@@ -2,5 +2,5 @@
 use Rattle.words.proofs.Allowed.{OneResult, agree}
 use Rattle.beside.proofs.refusal.Reads as refusal
 
-pub refusal-one : OneResult refusal.Learnt
-refusal-one κ a x y s t p q = agree p q
+pub refusal_one : OneResult refusal.Learnt
+refusal_one κ a x y s t p q = agree p q

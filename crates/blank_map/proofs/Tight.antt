@@ -4,11 +4,11 @@ use Rattle.blank_map.proofs.rebuild.Reads as rebuild
 use Rattle.blank_map.proofs.next.Reads as next
 use Rattle.blank_map.proofs.keep.Reads as keep
 
-pub rebuild-one : OneResult rebuild.Learnt
-rebuild-one κ a x y s t p q = agree p.0 q.0
+pub rebuild_one : OneResult rebuild.Learnt
+rebuild_one κ a x y s t p q = agree p.0 q.0
 
-pub rebuild-map-one : OneExit rebuild.Learnt (λ κ s. s.1.1.0.now)
-rebuild-map-one κ a x y s t p q = agree p.1 q.1
+pub rebuild_map_one : OneExit rebuild.Learnt (λ κ s. s.1.1.0.now)
+rebuild_map_one κ a x y s t p q = agree p.1 q.1
 
 pub next_one : OneResult next.Learnt
 next_one κ a x y s t p q = agree p q

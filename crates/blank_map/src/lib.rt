@@ -2,12 +2,12 @@
 ghost use Rattle.std.specs.Prelude.{◌≡◌, true, cond, ◌+◌, ◌*◌, ◌/◌, ◌%◌, ◌^◌, ◌<◌, ◌≤◌, min, eqb, leb, length, get_or};
 ghost use Rattle.words.specs.Logic.{◌and◌};
 ghost use Rattle.words.specs.Lists.{all_below, first_of, up_to};
-ghost use Rattle.words.specs.Bits.{bitIn, byteOf, put_bit, putBits};
-ghost use Rattle.paper.specs.Numbers.{rebuildNumber, queryNumber};
+ghost use Rattle.words.specs.Bits.{bit_in, byte_of, put_bit, put_bits};
+ghost use Rattle.paper.specs.Numbers.{rebuild_number, query_number};
 ghost use Rattle.types.specs.declared.Memory.TheVariants.{Array};
-ghost use Rattle.paper.specs.Sizes.{sizeOk, sameMemory};
-ghost use Rattle.paper.specs.Map.{blankPage, rebuilt, queried};
-ghost use Rattle.blank_map.specs.Marked.{withBit, zeroGroup, clearFrom, markedBy, marked};
+ghost use Rattle.paper.specs.Sizes.{size_ok, same_memory};
+ghost use Rattle.paper.specs.Map.{blank_page, rebuilt, queried};
+ghost use Rattle.blank_map.specs.Marked.{with_bit, zero_group, clear_from, marked_by, marked};
 
 use types::{Blank, Memory, Operation, Reached, Work};
 
@@ -34,7 +34,7 @@ fn all_blank(bytes: &[u8]) -> bool
 
 // Whether a page of the array is all FFh. It looks at a chunk at a time. A page beyond the array is not.
 fn blank_page(array: &[u8], page: usize) -> bool
-    ensures { result ≡ blankPage array.now page }
+    ensures { result ≡ blank_page array.now page }
 {
     if array.len() / types::PAGE_BYTES <= page {
         return false;
@@ -54,7 +54,7 @@ fn blank_page(array: &[u8], page: usize) -> bool
 // The byte of a map for the eight pages of its bits, of which the last is looked at first.
 fn byte_of(array: &[u8], j: usize) -> u8
     requires { j * 8 + 8 < 2 ^ 64 }
-    ensures { result ≡ byteOf (blankPage array.now) j }
+    ensures { result ≡ byte_of (blank_page array.now) j }
 {
     let mut byte: u8 = 0;
     let mut k = 8;
@@ -68,7 +68,7 @@ fn byte_of(array: &[u8], j: usize) -> u8
 // A map made from the array, one byte after the other.
 fn build(array: &[u8], map: &mut [u8])
     requires { length map.old * 8 < 2 ^ 63 }
-    ensures { map.new ≡ up_to (length map.old) (byteOf (blankPage array.now)) }
+    ensures { map.new ≡ up_to (length map.old) (byte_of (blank_page array.now)) }
 {
     let mut j = 0;
     while j < map.len() {
@@ -79,7 +79,7 @@ fn build(array: &[u8], map: &mut [u8])
 
 // The blocks of a part of so many; 0 where there is no such part.
 fn known_blocks(blocks: u64) -> usize
-    ensures { result ≡ cond (sizeOk blocks) blocks 0 }
+    ensures { result ≡ cond (size_ok blocks) blocks 0 }
 {
     if sizes::size_ok(blocks) {
         return blocks as usize;
@@ -89,7 +89,7 @@ fn known_blocks(blocks: u64) -> usize
 
 // A rebuild's 1 and 36; 0 where it is not refused.
 fn rebuild_number(blocks: u64, array: usize, map: usize) -> u8
-    ensures { result ≡ rebuildNumber blocks array map }
+    ensures { result ≡ rebuild_number blocks array map }
 {
     let known = sizes::size_ok(blocks);
     let size = known_blocks(blocks);
@@ -100,7 +100,7 @@ fn rebuild_number(blocks: u64, array: usize, map: usize) -> u8
 
 // The map made from the array. Refused, with 1 or 36, it is as it was.
 pub fn rebuild(blocks: u64, array: &[u8], map: &mut [u8]) -> u8
-    ensures number { result ≡ rebuildNumber blocks (length array.now) (length map.old) }
+    ensures number { result ≡ rebuild_number blocks (length array.now) (length map.old) }
     ensures map { map.new ≡ rebuilt blocks array.now map.old }
 {
     let number = rebuild_number(blocks, array.len(), map.len());
@@ -113,7 +113,7 @@ pub fn rebuild(blocks: u64, array: &[u8], map: &mut [u8]) -> u8
 // Whether eight bytes from byte j on are all 0. It looks at each of them, with no early exit.
 fn zero_group(map: &[u8], j: usize) -> bool
     requires { j < length map.now }
-    ensures { result ≡ zeroGroup map.now j }
+    ensures { result ≡ zero_group map.now j }
 {
     if map.len() - j < 8 {
         return false;
@@ -125,7 +125,7 @@ fn zero_group(map: &[u8], j: usize) -> bool
 // of eight bytes.
 fn clear_from(map: &[u8], bit: usize) -> usize
     requires { bit < length map.now * 8 }
-    ensures { result ≡ clearFrom map.now bit }
+    ensures { result ≡ clear_from map.now bit }
 {
     let j = bit / 8;
     let place = bit % 8;
@@ -145,7 +145,7 @@ fn clear_from(map: &[u8], bit: usize) -> usize
 // The first bit at or after a bit that is 1; the number of bits where none is.
 fn first_set(map: &[u8], from: usize) -> usize
     requires { (from < length map.now * 8) × (length map.now * 8 < 2 ^ 63) }
-    ensures { result ≡ first_of (length map.now * 8) (λ i. leb from i and bitIn map.now i) }
+    ensures { result ≡ first_of (length map.now * 8) (λ i. leb from i and bit_in map.now i) }
 {
     let end = map.len() * 8;
     let mut at = from;
@@ -161,7 +161,7 @@ fn first_set(map: &[u8], from: usize) -> usize
 
 // A query's 1, 36 and 37; 0 where it is not refused.
 fn query_number(blocks: u64, map: usize, page: u64) -> u8
-    ensures { result ≡ queryNumber blocks map page }
+    ensures { result ≡ query_number blocks map page }
 {
     let known = sizes::size_ok(blocks);
     let size = known_blocks(blocks);
@@ -189,7 +189,7 @@ pub fn next(blocks: u64, map: &[u8], page: u64) -> Blank
 // A byte with one of its bits as said.
 fn with_bit(byte: u8, place: usize, value: bool) -> u8
     requires { place < 8 }
-    ensures { result ≡ withBit byte place value }
+    ensures { result ≡ with_bit byte place value }
 {
     let weight = 1u8 << place;
     let was = (byte >> place) % 2;
@@ -216,7 +216,7 @@ fn put_bit(map: &mut [u8], j: usize, place: usize, value: bool)
 // A few bits of byte j, from a place on, set.
 fn mark_bits(map: &mut [u8], j: usize, place: usize, count: usize)
     requires { place + count ≤ 8 }
-    ensures { map.new ≡ putBits count (j * 8 + place) (λ q. true) map.old }
+    ensures { map.new ≡ put_bits count (j * 8 + place) (λ q. true) map.old }
 {
     let mut i = 0;
     while i < count {
@@ -227,7 +227,7 @@ fn mark_bits(map: &mut [u8], j: usize, place: usize, count: usize)
 
 // All bits of so many bytes, from byte j on, set, as far as the map goes.
 fn mark_bytes(map: &mut [u8], j: usize, count: usize)
-    ensures { map.new ≡ putBits (count * 8) (j * 8) (λ q. true) map.old }
+    ensures { map.new ≡ put_bits (count * 8) (j * 8) (λ q. true) map.old }
 {
     let n = map.len();
     if n <= j {
@@ -240,7 +240,7 @@ fn mark_bytes(map: &mut [u8], j: usize, count: usize)
 // So many bits from a place of byte j on set: up to the next byte one by one, then whole bytes, then the rest.
 fn mark(map: &mut [u8], j: usize, place: usize, count: usize)
     requires { place < 8 }
-    ensures { map.new ≡ putBits count (j * 8 + place) (λ q. true) map.old }
+    ensures { map.new ≡ put_bits count (j * 8 + place) (λ q. true) map.old }
 {
     let n = map.len();
     if n <= j {
@@ -258,7 +258,7 @@ fn mark(map: &mut [u8], j: usize, place: usize, count: usize)
 
 // A page's bit put as the page is. A page beyond the map is not looked at.
 fn look_again(array: &[u8], map: &mut [u8], page: usize)
-    ensures { map.new ≡ put_bit map.old page (blankPage array.now page) }
+    ensures { map.new ≡ put_bit map.old page (blank_page array.now page) }
 {
     let j = page / 8;
     if j < map.len() {
@@ -270,7 +270,7 @@ fn look_again(array: &[u8], map: &mut [u8], page: usize)
 // The bits of so many pages set, from a page on that lies done pages after a page.
 fn mark_pages(map: &mut [u8], page: usize, done: usize, count: usize)
     requires { page < 2 ^ 56 }
-    ensures { map.new ≡ putBits count (page + done) (λ q. true) map.old }
+    ensures { map.new ≡ put_bits count (page + done) (λ q. true) map.old }
 {
     let low = page % 8 + done % 8;
     mark(map, page / 8 + done / 8 + low / 8, low % 8, count);
@@ -278,7 +278,7 @@ fn mark_pages(map: &mut [u8], page: usize, done: usize, count: usize)
 
 // A program's page is looked at again, if a tick of it did work.
 fn keep_program(memory: Memory, base: usize, count: usize, array: &[u8], map: &mut [u8])
-    ensures { map.new ≡ putBits (cond (sameMemory Array memory) (min count 1) 0) (base / 256) (blankPage array.now) map.old }
+    ensures { map.new ≡ put_bits (cond (same_memory Array memory) (min count 1) 0) (base / 256) (blank_page array.now) map.old }
 {
     match memory {
         Memory::Array => {
@@ -292,7 +292,7 @@ fn keep_program(memory: Memory, base: usize, count: usize, array: &[u8], map: &m
 
 // The pages of an erase are blank.
 fn keep_erase(memory: Memory, base: usize, done: usize, count: usize, map: &mut [u8])
-    ensures { map.new ≡ putBits (cond (sameMemory Array memory) count 0) (base / 256 + done) (λ q. true) map.old }
+    ensures { map.new ≡ put_bits (cond (same_memory Array memory) count 0) (base / 256 + done) (λ q. true) map.old }
 {
     match memory {
         Memory::Array => mark_pages(map, base / types::PAGE_BYTES, done, count),
@@ -302,7 +302,7 @@ fn keep_erase(memory: Memory, base: usize, done: usize, count: usize, map: &mut 
 
 // The map kept after so many ticks of an operation, which left the array so.
 fn keep_of(operation: Operation, count: usize, array: &[u8], map: &mut [u8])
-    ensures { map.new ≡ markedBy operation count array.now map.old }
+    ensures { map.new ≡ marked_by operation count array.now map.old }
 {
     match operation {
         Operation::Program {

@@ -10,38 +10,38 @@ use Rattle.types.specs.declared.Operation.{Operation}
 use Rattle.types.specs.declared.Operation.TheVariants.{Program, Erase, Write}
 use Rattle.types.specs.declared.Work.{Work}
 use Rattle.types.specs.declared.Work.TheVariants.{NoWork, At}
-use Rattle.cells.specs.Operations.{cells, cells_of, workCells, operationOf, operationIn, workOf}
+use Rattle.cells.specs.Operations.{cells, cells_of, work_cells, operation_of, operation_in, work_of}
 
 -- an operation has a kind
-some-kind : (o : Operation) → eqb (cells_of o).kind 0 ≡ false
-some-kind (Program Array s b k d) = refl
-some-kind (Program Rows s b k d) = refl
-some-kind (Erase Sector b d) = refl
-some-kind (Erase Block32 b d) = refl
-some-kind (Erase Block64 b d) = refl
-some-kind (Erase Chip b d) = refl
-some-kind (Erase Row b d) = refl
-some-kind (Write Status v) = refl
-some-kind (Write Function v) = refl
-some-kind (Write Extended v) = refl
+some_kind : (o : Operation) → eqb (cells_of o).kind 0 ≡ false
+some_kind (Program Array s b k d) = refl
+some_kind (Program Rows s b k d) = refl
+some_kind (Erase Sector b d) = refl
+some_kind (Erase Block32 b d) = refl
+some_kind (Erase Block64 b d) = refl
+some_kind (Erase Chip b d) = refl
+some_kind (Erase Row b d) = refl
+some_kind (Write Status v) = refl
+some_kind (Write Function v) = refl
+some_kind (Write Extended v) = refl
 
-operation-back : (o : Operation) → operationIn (cells_of o) ≡ o
-unfolding operationOf
-operation-back (Program Array s b k d) = refl
-operation-back (Program Rows s b k d) = refl
-operation-back (Erase Sector b d) = refl
-operation-back (Erase Block32 b d) = refl
-operation-back (Erase Block64 b d) = refl
-operation-back (Erase Chip b d) = refl
-operation-back (Erase Row b d) = refl
-operation-back (Write Status v) = refl
-operation-back (Write Function v) = refl
-operation-back (Write Extended v) = refl
+operation_back : (o : Operation) → operation_in (cells_of o) ≡ o
+unfolding operation_of
+operation_back (Program Array s b k d) = refl
+operation_back (Program Rows s b k d) = refl
+operation_back (Erase Sector b d) = refl
+operation_back (Erase Block32 b d) = refl
+operation_back (Erase Block64 b d) = refl
+operation_back (Erase Chip b d) = refl
+operation_back (Erase Row b d) = refl
+operation_back (Write Status v) = refl
+operation_back (Write Function v) = refl
+operation_back (Write Extended v) = refl
 
-pub work-back : (w : Work) → workOf (workCells w) ≡ w
-work-back NoWork = refl
-work-back (At o) = rw (some-kind o) (ap At (operation-back o))
+pub work_back : (w : Work) → work_of (work_cells w) ≡ w
+work_back NoWork = refl
+work_back (At o) = rw (some_kind o) (ap At (operation_back o))
 
 -- cells of which base, count and ticks done are one by one the same
-pub same-cells : (k v b b' n n' d d' : ℕ) → b ≡ b' → n ≡ n' → d ≡ d' → cells k v b n d ≡ cells k v b' n' d'
-same-cells k v b b' n n' d d' p q r = rw (p, q, r)
+pub same_cells_lem : (k v b b' n n' d d' : ℕ) → b ≡ b' → n ≡ n' → d ≡ d' → cells k v b n d ≡ cells k v b' n' d'
+same_cells_lem k v b b' n n' d d' p q r = rw (p, q, r)

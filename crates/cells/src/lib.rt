@@ -1,6 +1,6 @@
 // An operation in plain numbers, its cells, and the operation of cells. One that is made into cells comes back.
 ghost use Rattle.std.specs.Prelude.{◌≡◌};
-ghost use Rattle.cells.specs.Operations.{programKind, eraseKind, writeKind, cells_of, programIn, eraseIn, writeIn, operationOf, operationIn, own};
+ghost use Rattle.cells.specs.Operations.{program_kind, erase_kind, write_kind, cells_of, program_in, erase_in, write_in, operation_of, operation_in, own};
 
 use types::{EraseUnit, Memory, Operation, Register};
 
@@ -16,7 +16,7 @@ pub struct Cells {
 
 // The number that stands for a program of a memory.
 fn program_kind(memory: Memory) -> u8
-    ensures { result ≡ programKind memory }
+    ensures { result ≡ program_kind memory }
 {
     match memory {
         Memory::Array => 1,
@@ -26,7 +26,7 @@ fn program_kind(memory: Memory) -> u8
 
 // The number that stands for an erase of a unit.
 fn erase_kind(unit: EraseUnit) -> u8
-    ensures { result ≡ eraseKind unit }
+    ensures { result ≡ erase_kind unit }
 {
     match unit {
         EraseUnit::Sector => 3,
@@ -39,7 +39,7 @@ fn erase_kind(unit: EraseUnit) -> u8
 
 // The number that stands for a write of a register.
 fn write_kind(register: Register) -> u8
-    ensures { result ≡ writeKind register }
+    ensures { result ≡ write_kind register }
 {
     match register {
         Register::Status => 8,
@@ -94,7 +94,7 @@ pub fn cells_of(op: Operation) -> Cells
 
 // The program of a memory that has these cells.
 fn program_in(memory: Memory, cells: Cells) -> Operation
-    ensures { result ≡ programIn memory cells }
+    ensures { result ≡ program_in memory cells }
 {
     Operation::Program {
         memory: memory,
@@ -107,7 +107,7 @@ fn program_in(memory: Memory, cells: Cells) -> Operation
 
 // The erase of a unit that has them.
 fn erase_in(unit: EraseUnit, cells: Cells) -> Operation
-    ensures { result ≡ eraseIn unit cells }
+    ensures { result ≡ erase_in unit cells }
 {
     Operation::Erase {
         unit: unit,
@@ -118,7 +118,7 @@ fn erase_in(unit: EraseUnit, cells: Cells) -> Operation
 
 // The write of a register that has them.
 fn write_in(register: Register, cells: Cells) -> Operation
-    ensures { result ≡ writeIn register cells }
+    ensures { result ≡ write_in register cells }
 {
     Operation::Write {
         register: register,
@@ -128,7 +128,7 @@ fn write_in(register: Register, cells: Cells) -> Operation
 
 // The operation of a kind; of one that is none, a write of the extended read register.
 fn operation_of(kind: u8, cells: Cells) -> Operation
-    ensures { result ≡ operationOf kind cells }
+    ensures { result ≡ operation_of kind cells }
 {
     match kind {
         1 => program_in(Memory::Array, cells),
@@ -146,7 +146,7 @@ fn operation_of(kind: u8, cells: Cells) -> Operation
 
 // The operation of cells, whatever stands there: a kind that is none is a write of the extended read register.
 pub fn operation_in(cells: Cells) -> Operation
-    ensures { result ≡ operationIn cells }
+    ensures { result ≡ operation_in cells }
 {
     operation_of(cells.kind, cells)
 }

@@ -1,17 +1,17 @@
 // A check of the flasher's script: a whole script in one call, on the record that bytes hold, against a wanted image.
 ghost use Rattle.std.specs.Prelude.{◌≡◌, length};
-ghost use Rattle.paper.specs.Phases.{isIdle};
-ghost use Rattle.paper.specs.Check.{verdictOn};
-ghost use Rattle.record_bytes.specs.Read.{recordIn, phaseAgain};
-ghost use Rattle.script.specs.InBytes.{scriptOf, scriptBytes};
-ghost use Rattle.checker.specs.InBytes.{heldCheck, imageRefusal, hasRun, firstFailing, left_of, Ended};
+ghost use Rattle.paper.specs.Phases.{is_idle};
+ghost use Rattle.paper.specs.Check.{verdict_on};
+ghost use Rattle.record_bytes.specs.Read.{record_in, phase_again};
+ghost use Rattle.script.specs.InBytes.{script_of, script_bytes};
+ghost use Rattle.checker.specs.InBytes.{held_check, image_refusal, has_run, first_failing, left_of, Ended};
 
 use script::Ran;
 use types::Verdict;
 
 // 1 or 38, where the image is not as long as the array. Where the bytes hold no record, 1 is not judged: there is no size.
 fn image_refusal(bytes: &[u8], array: usize) -> u8
-    ensures { result ≡ imageRefusal (recordIn bytes.now) array }
+    ensures { result ≡ image_refusal (record_in bytes.now) array }
 {
     let found = record_bytes::reading::read(bytes);
     if !found.ok {
@@ -23,7 +23,7 @@ fn image_refusal(bytes: &[u8], array: usize) -> u8
 
 // Whether a script with this number ran: 3 and 6 stop it at a step, and any other number refuses it.
 fn has_run(number: u8) -> bool
-    ensures { result ≡ hasRun number }
+    ensures { result ≡ has_run number }
 {
     let stopped = words::either(number == 3, number == 6);
     words::either(number == 0, stopped)
@@ -31,7 +31,7 @@ fn has_run(number: u8) -> bool
 
 // The first step whose transaction does not answer 0; the number of steps where none does.
 fn first_failing(answers: &[u8]) -> usize
-    ensures { result ≡ firstFailing answers.now }
+    ensures { result ≡ first_failing answers.now }
 {
     let mut k = 0;
     while k < answers.len() {
@@ -45,7 +45,7 @@ fn first_failing(answers: &[u8]) -> usize
 
 // Whether the part is idle that bytes hold: nothing runs and nothing is suspended.
 fn ends_idle(bytes: &[u8]) -> bool
-    ensures { result ≡ isIdle (phaseAgain bytes.now) }
+    ensures { result ≡ is_idle (phase_again bytes.now) }
 {
     let phase = record_bytes::reading::phase_again(bytes);
     phases::is_idle(phase)
@@ -55,7 +55,7 @@ fn ends_idle(bytes: &[u8]) -> bool
 // address where the array differs from the image, or yes. The step that stopped it fails, and no step was made after it.
 fn verdict_on(ran: Ran, bytes: &[u8], array: &[u8], answers: &[u8], image: &[u8]) -> Verdict
     requires { Ended ran bytes.now (length answers.now) × (length image.now ≡ length array.now) }
-    ensures { result ≡ verdictOn (length answers.now) image.now (left_of ran bytes.now array.now answers.now) }
+    ensures { result ≡ verdict_on (length answers.now) image.now (left_of ran bytes.now array.now answers.now) }
 {
     let steps = answers.len();
     let made = ran.step;
@@ -89,13 +89,13 @@ pub fn check(
     done: &mut [u16],
     image: &[u8],
 ) -> Verdict
-    ensures verdict { result ≡ (heldCheck (recordIn bytes.old) wp (scriptOf wp input.now lengths.now ticks.now) array.old rows.old output.old answers.old done.old image.now).verdict }
-    ensures bytes { bytes.new ≡ scriptBytes (recordIn bytes.old) (heldCheck (recordIn bytes.old) wp (scriptOf wp input.now lengths.now ticks.now) array.old rows.old output.old answers.old done.old image.now).run bytes.old }
-    ensures array { array.new ≡ (heldCheck (recordIn bytes.old) wp (scriptOf wp input.now lengths.now ticks.now) array.old rows.old output.old answers.old done.old image.now).run.board.array }
-    ensures rows { rows.new ≡ (heldCheck (recordIn bytes.old) wp (scriptOf wp input.now lengths.now ticks.now) array.old rows.old output.old answers.old done.old image.now).run.board.rows }
-    ensures output { output.new ≡ (heldCheck (recordIn bytes.old) wp (scriptOf wp input.now lengths.now ticks.now) array.old rows.old output.old answers.old done.old image.now).run.output }
-    ensures answers { answers.new ≡ (heldCheck (recordIn bytes.old) wp (scriptOf wp input.now lengths.now ticks.now) array.old rows.old output.old answers.old done.old image.now).run.answers }
-    ensures done { done.new ≡ (heldCheck (recordIn bytes.old) wp (scriptOf wp input.now lengths.now ticks.now) array.old rows.old output.old answers.old done.old image.now).run.done }
+    ensures verdict { result ≡ (held_check (record_in bytes.old) wp (script_of wp input.now lengths.now ticks.now) array.old rows.old output.old answers.old done.old image.now).verdict }
+    ensures bytes { bytes.new ≡ script_bytes (record_in bytes.old) (held_check (record_in bytes.old) wp (script_of wp input.now lengths.now ticks.now) array.old rows.old output.old answers.old done.old image.now).run bytes.old }
+    ensures array { array.new ≡ (held_check (record_in bytes.old) wp (script_of wp input.now lengths.now ticks.now) array.old rows.old output.old answers.old done.old image.now).run.board.array }
+    ensures rows { rows.new ≡ (held_check (record_in bytes.old) wp (script_of wp input.now lengths.now ticks.now) array.old rows.old output.old answers.old done.old image.now).run.board.rows }
+    ensures output { output.new ≡ (held_check (record_in bytes.old) wp (script_of wp input.now lengths.now ticks.now) array.old rows.old output.old answers.old done.old image.now).run.output }
+    ensures answers { answers.new ≡ (held_check (record_in bytes.old) wp (script_of wp input.now lengths.now ticks.now) array.old rows.old output.old answers.old done.old image.now).run.answers }
+    ensures done { done.new ≡ (held_check (record_in bytes.old) wp (script_of wp input.now lengths.now ticks.now) array.old rows.old output.old answers.old done.old image.now).run.done }
 {
     if image.len() != array.len() {
         let number = image_refusal(bytes, array.len());

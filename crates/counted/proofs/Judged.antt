@@ -6,22 +6,22 @@ use native.Mathlib.Omega.{arith}
 use native.Mathlib.Nat.{suc-ne-zero}
 use lib.Dec.{eqb}
 use borrow.Author.Tests.{eqb-true}
-use Rattle.words.specs.Logic.{◌and◌, unless, ◌orElse◌}
+use Rattle.words.specs.Logic.{◌and◌, unless, ◌or_else◌}
 use Rattle.words.proofs.Tests.{and_r}
-use Rattle.paper.specs.Sizes.{sizeOk, arrayBytes, arraySectors}
-use Rattle.paper.specs.Numbers.{sizeNumber, wearNumber}
+use Rattle.paper.specs.Sizes.{size_ok, array_bytes, array_sectors}
+use Rattle.paper.specs.Numbers.{size_number, wear_number}
 use Rattle.beside.proofs.Judged as lent
 
 module _ (b a w : ℕ) where
-  wear-is : (sizeOk b and eqb a (arrayBytes b)) ≡ true → wearNumber b w ≡ unless (eqb w (a / 4096)) 35
-  unfolding wearNumber
-  wear-is k =
-      let size = eqb-true a (arrayBytes b) (and_r (sizeOk b) (eqb a (arrayBytes b)) k) in
-      let e : arraySectors b ≡ a / 4096 = omega (arith, size) in
+  wear_is : (size_ok b and eqb a (array_bytes b)) ≡ true → wear_number b w ≡ unless (eqb w (a / 4096)) 35
+  unfolding wear_number
+  wear_is k =
+      let size = eqb-true a (array_bytes b) (and_r (size_ok b) (eqb a (array_bytes b)) k) in
+      let e : array_sectors b ≡ a / 4096 = omega (arith, size) in
       ap (λ (j : ℕ). unless (eqb w j) 35) e
 
-  pub passes : (rest : ℕ) → eqb w (a / 4096) ≡ true → (sizeNumber b a or_else wearNumber b w or_else rest) ≡ (sizeNumber b a or_else rest)
-  passes = lent.passes b a (eqb w (a / 4096)) (wearNumber b w) 35 wear-is
+  pub passes : (rest : ℕ) → eqb w (a / 4096) ≡ true → (size_number b a or_else wear_number b w or_else rest) ≡ (size_number b a or_else rest)
+  passes = lent.passes b a (eqb w (a / 4096)) (wear_number b w) 35 wear_is
 
-  pub judged : (rest : ℕ) → eqb w (a / 4096) ≡ false → (sizeNumber b a or_else wearNumber b w or_else rest) ≡ (sizeNumber b a or_else 35)
-  judged rest f = lent.judged b a (eqb w (a / 4096)) (wearNumber b w) 35 wear-is rest f (λ z. suc-ne-zero 34 z)
+  pub judged : (rest : ℕ) → eqb w (a / 4096) ≡ false → (size_number b a or_else wear_number b w or_else rest) ≡ (size_number b a or_else 35)
+  judged rest f = lent.judged b a (eqb w (a / 4096)) (wear_number b w) 35 wear_is rest f (λ z. suc-ne-zero 34 z)

@@ -1,11 +1,11 @@
 // Ticks that are lent wear records, on the record that bytes hold: as the plain call, and what they count. The records
 // themselves are not lent here: their number is judged, and the tally says what becomes of them.
 ghost use Rattle.std.specs.Prelude.{◌≡◌, length};
-ghost use Rattle.words.specs.Logic.{whenZero};
-ghost use Rattle.paper.specs.Wear.{noTally, tally_of};
-ghost use Rattle.record_bytes.specs.Read.{recordIn};
-ghost use Rattle.beside.specs.Beside.{boardBytes};
-ghost use Rattle.counted.specs.InBytes.{heldWearTicked, countedOf, wearRefusal};
+ghost use Rattle.words.specs.Logic.{when_zero};
+ghost use Rattle.paper.specs.Wear.{no_tally, tally_of};
+ghost use Rattle.record_bytes.specs.Read.{record_in};
+ghost use Rattle.beside.specs.Beside.{board_bytes};
+ghost use Rattle.counted.specs.InBytes.{held_wear_ticked, counted_of, wear_refusal};
 
 use types::{Reached, Tally};
 
@@ -23,14 +23,14 @@ const SECTOR_BYTES: usize = 4096;
 // 1 or 35, where there isn't one record for each sector of the array; else 0, and the plain call judges what is left. Where the
 // bytes hold no record there is no size to judge by.
 fn wear_refusal(bytes: &[u8], array: usize, records: usize) -> u8
-    ensures { result ≡ wearRefusal (recordIn bytes.now) array records }
+    ensures { result ≡ wear_refusal (record_in bytes.now) array records }
 {
     beside::refusal(bytes, records == array / SECTOR_BYTES, array, 35)
 }
 
 // What ticks count that answered a number: refused, nothing.
 fn tally_unless(number: u8, reached: Reached) -> Tally
-    ensures { result ≡ whenZero number (tally_of reached) noTally }
+    ensures { result ≡ when_zero number (tally_of reached) no_tally }
 {
     if number == 0 {
         wear_records::tally(reached)
@@ -49,10 +49,10 @@ pub fn tick<'a>(
     ticks: u64,
     records: usize,
 ) -> Counted
-    ensures answer { result ≡ countedOf (heldWearTicked (recordIn bytes.old) array.old rows.old ticks records) }
-    ensures bytes { bytes.new ≡ boardBytes (recordIn bytes.old) (heldWearTicked (recordIn bytes.old) array.old rows.old ticks records).board bytes.old }
-    ensures array { array.new ≡ (heldWearTicked (recordIn bytes.old) array.old rows.old ticks records).board.array }
-    ensures rows { rows.new ≡ (heldWearTicked (recordIn bytes.old) array.old rows.old ticks records).board.rows }
+    ensures answer { result ≡ counted_of (held_wear_ticked (record_in bytes.old) array.old rows.old ticks records) }
+    ensures bytes { bytes.new ≡ board_bytes (record_in bytes.old) (held_wear_ticked (record_in bytes.old) array.old rows.old ticks records).board bytes.old }
+    ensures array { array.new ≡ (held_wear_ticked (record_in bytes.old) array.old rows.old ticks records).board.array }
+    ensures rows { rows.new ≡ (held_wear_ticked (record_in bytes.old) array.old rows.old ticks records).board.rows }
 {
     let number = wear_refusal(bytes, array.len(), records);
     if number != 0 {

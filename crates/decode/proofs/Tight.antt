@@ -2,5 +2,5 @@
 use Rattle.words.proofs.Allowed.{OneResult, agree}
 use Rattle.decode.proofs.decode.Reads as decode
 
-pub decode-one : OneResult decode.Learnt
-decode-one κ a x y s t p q = agree p q
+pub decode_one : OneResult decode.Learnt
+decode_one κ a x y s t p q = agree p q

@@ -1,8 +1,8 @@
 // What a command that is executed, or barred with 28, makes of the record, and the record after a change.
 ghost use Rattle.std.specs.Prelude.{◌≡◌};
-ghost use Rattle.paper.specs.Records.{marked, resting, withLive, withBank};
-ghost use Rattle.paper.specs.Registers.{bankTurned};
-ghost use Rattle.paper.specs.Commands.{pageAfter, partAfter, phaseAfter, dataAfter, changed, unarmed, starts, changeBy, errorsOf, changeBarred};
+ghost use Rattle.paper.specs.Records.{marked, resting, with_live, with_bank};
+ghost use Rattle.paper.specs.Registers.{bank_turned};
+ghost use Rattle.paper.specs.Commands.{page_after, part_after, phase_after, data_after, changed, unarmed, starts, change_by, errors_of, change_barred};
 
 use types::{Addressing, Change, Data, Effect, Part, Phase, Record, Register, Work};
 
@@ -22,7 +22,7 @@ fn mark(part: Part, armed: bool) -> Part
 }
 
 fn set_live(part: Part, live: u8) -> Part
-    ensures { result ≡ withLive part live }
+    ensures { result ≡ with_live part live }
 {
     let mut next = part;
     next.live = live;
@@ -30,7 +30,7 @@ fn set_live(part: Part, live: u8) -> Part
 }
 
 fn set_bank(part: Part, bank: u8) -> Part
-    ensures { result ≡ withBank part bank }
+    ensures { result ≡ with_bank part bank }
 {
     let mut next = part;
     next.bank = bank;
@@ -39,7 +39,7 @@ fn set_bank(part: Part, bank: u8) -> Part
 
 // A bank register with EXTADD set or cleared, and the bank bit of a byte.
 fn turn_bank(far: bool, bank: u8) -> u8
-    ensures { result ≡ bankTurned far bank }
+    ensures { result ≡ bank_turned far bank }
 {
     128 * words::bit_of(far) + bank % 2
 }
@@ -82,7 +82,7 @@ pub fn change_by(
     phase: Phase,
     input: &[u8],
 ) -> Change
-    ensures { result ≡ changeBy effect form work part phase input.now }
+    ensures { result ≡ change_by effect form work part phase input.now }
 {
     let stored = part.stored;
     match effect {
@@ -124,7 +124,7 @@ pub fn change_by(
 
 // The error bits that a command sets when it answers 28.
 fn errors_of(effect: Effect) -> u8
-    ensures { result ≡ errorsOf effect }
+    ensures { result ≡ errors_of effect }
 {
     match effect {
         Effect::Looks => 0,
@@ -148,14 +148,14 @@ fn errors_of(effect: Effect) -> u8
 
 // What a command changes that answers 28.
 pub fn change_barred(effect: Effect, part: Part) -> Change
-    ensures { result ≡ changeBarred effect part }
+    ensures { result ≡ change_barred effect part }
 {
     Change::Live(part.live | errors_of(effect))
 }
 
 // Page data after a call with an input.
 fn page_after(becomes: Data, input: &[u8], page: [u8; 256]) -> [u8; 256]
-    ensures { result ≡ pageAfter becomes input.now page }
+    ensures { result ≡ page_after becomes input.now page }
 {
     match becomes {
         Data::Kept => page,
@@ -166,7 +166,7 @@ fn page_after(becomes: Data, input: &[u8], page: [u8; 256]) -> [u8; 256]
 
 // What a change makes of a part.
 fn part_after(change: Change, part: Part) -> Part
-    ensures { result ≡ partAfter change part }
+    ensures { result ≡ part_after change part }
 {
     match change {
         Change::Same => part,
@@ -182,7 +182,7 @@ fn part_after(change: Change, part: Part) -> Part
 
 // What it makes of the phase.
 fn phase_after(change: Change, phase: Phase) -> Phase
-    ensures { result ≡ phaseAfter change phase }
+    ensures { result ≡ phase_after change phase }
 {
     match change {
         Change::Same => phase,
@@ -198,7 +198,7 @@ fn phase_after(change: Change, phase: Phase) -> Phase
 
 // What becomes of page data by it.
 fn data_after(change: Change) -> Data
-    ensures { result ≡ dataAfter change }
+    ensures { result ≡ data_after change }
 {
     match change {
         Change::Same => Data::Kept,

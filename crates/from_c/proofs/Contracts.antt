@@ -3,9 +3,9 @@ use mathlib.Core.Path.{◌≡◌, refl}
 use mathlib.Core.List.{List, [], ◌∷◌}
 use lib.ListN.{length}
 use Rattle.words.proofs.Allowed.{Follows}
-use Rattle.paper.specs.Numbers.{rebuildNumber}
+use Rattle.paper.specs.Numbers.{rebuild_number}
 use Rattle.paper.specs.Map.{rebuilt}
-use Rattle.yawlspar.specs.Face.{asked, powerUpAnswer, powerUpBytes}
+use Rattle.yawlspar.specs.Face.{asked, power_up_answer, power_up_bytes}
 use Rattle.yawlspar.proofs.yawlspar_power_up.Reads as yawlspar-power-up
 use Rattle.yawlspar.proofs.yawlspar_transact.Reads as yawlspar-transact
 use Rattle.yawlspar.proofs.yawlspar_tick.Reads as yawlspar-tick
@@ -16,84 +16,84 @@ use Rattle.yawlspar_map.proofs.yawlspar_tick_map.Reads as yawlspar-tick-map
 use Rattle.yawlspar_script.proofs.yawlspar_script_map.Reads as yawlspar-script-map
 use Rattle.yawlspar_wear.proofs.ByHand.yawlspar_tick_wear as yawlspar-tick-wear
 use Rattle.yawlspar_wear.proofs.ByHand.yawlspar_script_wear as yawlspar-script-wear
-use Rattle.from_c.specs.Driven.{Lent, lent, CCall, transact, tick, script, check, tickMap, scriptMap, tickWear, scriptWear, Driven, calls}
+use Rattle.from_c.specs.Driven.{Lent, lent, CCall, transact, tick, script, check, tick_map, script_map, tick_wear, script_wear, Driven, calls}
 
 -- bytes, array, rows, level, input and output are a call's arguments
-pub transact-drives : Follows yawlspar-transact.Learnt (λ κ a x s.
+pub transact_drives : Follows yawlspar-transact.Learnt (λ κ a x s.
     (cs : List CCall) (m : Lent) → Driven (lent s.0.now a.1.0.now a.1.1.0.now) cs m
     → Driven (lent a.0.now a.1.0.now a.1.1.0.now) (transact a.1.1.1.0 a.1.1.1.1.0.now a.1.1.1.1.1.0.now ∷ cs) m)
-transact-drives κ a x s l cs m r =
+transact_drives κ a x s l cs m r =
     calls {l = lent a.0.now a.1.0.now a.1.1.0.now} {c = transact a.1.1.1.0 a.1.1.1.1.0.now a.1.1.1.1.1.0.now} (record { answer = x; buffers = s.1.1.1.1.1.0.now ∷ []; wear = []; left = lent s.0.now a.1.0.now a.1.1.0.now })
     (rw (l.0, l.1.0, l.1.1) refl) r
 
 -- bytes, array, rows and ticks are
-pub tick-drives : Follows yawlspar-tick.Learnt (λ κ a x s.
+pub tick_drives : Follows yawlspar-tick.Learnt (λ κ a x s.
     (cs : List CCall) (m : Lent) → Driven (lent s.0.now s.1.0.now s.1.1.0.now) cs m
     → Driven (lent a.0.now a.1.0.now a.1.1.0.now) (tick a.1.1.1.0 ∷ cs) m)
-tick-drives κ a x s l cs m r =
+tick_drives κ a x s l cs m r =
     calls {l = lent a.0.now a.1.0.now a.1.1.0.now} {c = tick a.1.1.1.0} (record { answer = x; buffers = []; wear = []; left = lent s.0.now s.1.0.now s.1.1.0.now })
     (rw (l.0, l.1.0, l.1.1.0, l.1.1.1) refl) r
 
 -- bytes, array, rows, level, input, lengths, tick counts, output, answers and ticks done are
-pub script-drives : Follows yawlspar-script.Learnt (λ κ a x s.
+pub script_drives : Follows yawlspar-script.Learnt (λ κ a x s.
     (cs : List CCall) (m : Lent) → Driven (lent s.0.now s.1.0.now s.1.1.0.now) cs m
     → Driven (lent a.0.now a.1.0.now a.1.1.0.now) (script a.1.1.1.0 a.1.1.1.1.0.now a.1.1.1.1.1.0.now a.1.1.1.1.1.1.0.now a.1.1.1.1.1.1.1.0.now a.1.1.1.1.1.1.1.1.0.now a.1.1.1.1.1.1.1.1.1.0.now ∷ cs) m)
-script-drives κ a x s l cs m r =
+script_drives κ a x s l cs m r =
     calls {l = lent a.0.now a.1.0.now a.1.1.0.now} {c = script a.1.1.1.0 a.1.1.1.1.0.now a.1.1.1.1.1.0.now a.1.1.1.1.1.1.0.now a.1.1.1.1.1.1.1.0.now a.1.1.1.1.1.1.1.1.0.now a.1.1.1.1.1.1.1.1.1.0.now}
     (record { answer = x; buffers = s.1.1.1.1.1.1.1.0.now ∷ s.1.1.1.1.1.1.1.1.0.now ∷ s.1.1.1.1.1.1.1.1.1.0.now ∷ []; wear = []; left = lent s.0.now s.1.0.now s.1.1.0.now })
     (rw (l.0, l.1.0, l.1.1.0, l.1.1.1.0, l.1.1.1.1.0, l.1.1.1.1.1.0, l.1.1.1.1.1.1) refl) r
 
 -- and an image, of a check
-pub check-drives : Follows yawlspar-check.Learnt (λ κ a x s.
+pub check_drives : Follows yawlspar-check.Learnt (λ κ a x s.
     (cs : List CCall) (m : Lent) → Driven (lent s.0.now s.1.0.now s.1.1.0.now) cs m
     → Driven (lent a.0.now a.1.0.now a.1.1.0.now) (check a.1.1.1.0 a.1.1.1.1.0.now a.1.1.1.1.1.0.now a.1.1.1.1.1.1.0.now a.1.1.1.1.1.1.1.0.now a.1.1.1.1.1.1.1.1.0.now a.1.1.1.1.1.1.1.1.1.0.now a.1.1.1.1.1.1.1.1.1.1.0.now ∷ cs) m)
-check-drives κ a x s l cs m r =
+check_drives κ a x s l cs m r =
     calls {l = lent a.0.now a.1.0.now a.1.1.0.now} {c = check a.1.1.1.0 a.1.1.1.1.0.now a.1.1.1.1.1.0.now a.1.1.1.1.1.1.0.now a.1.1.1.1.1.1.1.0.now a.1.1.1.1.1.1.1.1.0.now a.1.1.1.1.1.1.1.1.1.0.now a.1.1.1.1.1.1.1.1.1.1.0.now}
     (record { answer = x; buffers = s.1.1.1.1.1.1.1.0.now ∷ s.1.1.1.1.1.1.1.1.0.now ∷ s.1.1.1.1.1.1.1.1.1.0.now ∷ []; wear = []; left = lent s.0.now s.1.0.now s.1.1.0.now })
     (rw (l.0, l.1.0, l.1.1.0, l.1.1.1.0, l.1.1.1.1.0, l.1.1.1.1.1.0, l.1.1.1.1.1.1) refl) r
 
 -- bytes, array, rows, ticks and a map are
-pub tick-map-drives : Follows yawlspar-tick-map.Learnt (λ κ a x s.
+pub tick_map_drives : Follows yawlspar-tick-map.Learnt (λ κ a x s.
     (cs : List CCall) (m : Lent) → Driven (lent s.0.now s.1.0.now s.1.1.0.now) cs m
-    → Driven (lent a.0.now a.1.0.now a.1.1.0.now) (tickMap a.1.1.1.0 a.1.1.1.1.0.now ∷ cs) m)
-tick-map-drives κ a x s l cs m r =
-    calls {l = lent a.0.now a.1.0.now a.1.1.0.now} {c = tickMap a.1.1.1.0 a.1.1.1.1.0.now} (record { answer = x; buffers = s.1.1.1.1.0.now ∷ []; wear = []; left = lent s.0.now s.1.0.now s.1.1.0.now })
+    → Driven (lent a.0.now a.1.0.now a.1.1.0.now) (tick_map a.1.1.1.0 a.1.1.1.1.0.now ∷ cs) m)
+tick_map_drives κ a x s l cs m r =
+    calls {l = lent a.0.now a.1.0.now a.1.1.0.now} {c = tick_map a.1.1.1.0 a.1.1.1.1.0.now} (record { answer = x; buffers = s.1.1.1.1.0.now ∷ []; wear = []; left = lent s.0.now s.1.0.now s.1.1.0.now })
     (rw (l.0, l.1.0, l.1.1.0, l.1.1.1.0, l.1.1.1.1) refl) r
 
 -- and of a script with a map, what a script's are, and the map
-pub script-map-drives : Follows yawlspar-script-map.Learnt (λ κ a x s.
+pub script_map_drives : Follows yawlspar-script-map.Learnt (λ κ a x s.
     (cs : List CCall) (m : Lent) → Driven (lent s.0.now s.1.0.now s.1.1.0.now) cs m
-    → Driven (lent a.0.now a.1.0.now a.1.1.0.now) (scriptMap a.1.1.1.0 a.1.1.1.1.0.now a.1.1.1.1.1.0.now a.1.1.1.1.1.1.0.now a.1.1.1.1.1.1.1.0.now a.1.1.1.1.1.1.1.1.0.now a.1.1.1.1.1.1.1.1.1.0.now a.1.1.1.1.1.1.1.1.1.1.0.now ∷ cs) m)
-script-map-drives κ a x s l cs m r =
-    calls {l = lent a.0.now a.1.0.now a.1.1.0.now} {c = scriptMap a.1.1.1.0 a.1.1.1.1.0.now a.1.1.1.1.1.0.now a.1.1.1.1.1.1.0.now a.1.1.1.1.1.1.1.0.now a.1.1.1.1.1.1.1.1.0.now a.1.1.1.1.1.1.1.1.1.0.now a.1.1.1.1.1.1.1.1.1.1.0.now}
+    → Driven (lent a.0.now a.1.0.now a.1.1.0.now) (script_map a.1.1.1.0 a.1.1.1.1.0.now a.1.1.1.1.1.0.now a.1.1.1.1.1.1.0.now a.1.1.1.1.1.1.1.0.now a.1.1.1.1.1.1.1.1.0.now a.1.1.1.1.1.1.1.1.1.0.now a.1.1.1.1.1.1.1.1.1.1.0.now ∷ cs) m)
+script_map_drives κ a x s l cs m r =
+    calls {l = lent a.0.now a.1.0.now a.1.1.0.now} {c = script_map a.1.1.1.0 a.1.1.1.1.0.now a.1.1.1.1.1.0.now a.1.1.1.1.1.1.0.now a.1.1.1.1.1.1.1.0.now a.1.1.1.1.1.1.1.1.0.now a.1.1.1.1.1.1.1.1.1.0.now a.1.1.1.1.1.1.1.1.1.1.0.now}
     (record { answer = x; buffers = s.1.1.1.1.1.1.1.0.now ∷ s.1.1.1.1.1.1.1.1.0.now ∷ s.1.1.1.1.1.1.1.1.1.0.now ∷ s.1.1.1.1.1.1.1.1.1.1.0.now ∷ []; wear = []; left = lent s.0.now s.1.0.now s.1.1.0.now })
     (rw (l.0, l.1.0, l.1.1.0, l.1.1.1.0, l.1.1.1.1.0, l.1.1.1.1.1.0, l.1.1.1.1.1.1.0, l.1.1.1.1.1.1.1) refl) r
 
 -- bytes, array, rows, ticks and wear records are
-pub tick-wear-drives : Follows yawlspar-tick-wear.Learnt (λ κ a x s.
+pub tick_wear_drives : Follows yawlspar-tick-wear.Learnt (λ κ a x s.
     (cs : List CCall) (m : Lent) → Driven (lent s.0.now s.1.0.now s.1.1.0.now) cs m
-    → Driven (lent a.0.now a.1.0.now a.1.1.0.now) (tickWear a.1.1.1.0 a.1.1.1.1.0.now ∷ cs) m)
-tick-wear-drives κ a x s l cs m r =
-    calls {l = lent a.0.now a.1.0.now a.1.1.0.now} {c = tickWear a.1.1.1.0 a.1.1.1.1.0.now} (record { answer = x; buffers = []; wear = s.1.1.1.1.0.now; left = lent s.0.now s.1.0.now s.1.1.0.now })
+    → Driven (lent a.0.now a.1.0.now a.1.1.0.now) (tick_wear a.1.1.1.0 a.1.1.1.1.0.now ∷ cs) m)
+tick_wear_drives κ a x s l cs m r =
+    calls {l = lent a.0.now a.1.0.now a.1.1.0.now} {c = tick_wear a.1.1.1.0 a.1.1.1.1.0.now} (record { answer = x; buffers = []; wear = s.1.1.1.1.0.now; left = lent s.0.now s.1.0.now s.1.1.0.now })
     (rw (l.0, l.1.0, l.1.1.0, l.1.1.1.0, l.1.1.1.1) refl) r
 
 -- and of a script those of a script, and the wear records
-pub script-wear-drives : Follows yawlspar-script-wear.Learnt (λ κ a x s.
+pub script_wear_drives : Follows yawlspar-script-wear.Learnt (λ κ a x s.
     (cs : List CCall) (m : Lent) → Driven (lent s.0.now s.1.0.now s.1.1.0.now) cs m
-    → Driven (lent a.0.now a.1.0.now a.1.1.0.now) (scriptWear a.1.1.1.0 a.1.1.1.1.0.now a.1.1.1.1.1.0.now a.1.1.1.1.1.1.0.now a.1.1.1.1.1.1.1.0.now a.1.1.1.1.1.1.1.1.0.now a.1.1.1.1.1.1.1.1.1.0.now a.1.1.1.1.1.1.1.1.1.1.0.now ∷ cs) m)
-script-wear-drives κ a x s l cs m r =
-    calls {l = lent a.0.now a.1.0.now a.1.1.0.now} {c = scriptWear a.1.1.1.0 a.1.1.1.1.0.now a.1.1.1.1.1.0.now a.1.1.1.1.1.1.0.now a.1.1.1.1.1.1.1.0.now a.1.1.1.1.1.1.1.1.0.now a.1.1.1.1.1.1.1.1.1.0.now a.1.1.1.1.1.1.1.1.1.1.0.now}
+    → Driven (lent a.0.now a.1.0.now a.1.1.0.now) (script_wear a.1.1.1.0 a.1.1.1.1.0.now a.1.1.1.1.1.0.now a.1.1.1.1.1.1.0.now a.1.1.1.1.1.1.1.0.now a.1.1.1.1.1.1.1.1.0.now a.1.1.1.1.1.1.1.1.1.0.now a.1.1.1.1.1.1.1.1.1.1.0.now ∷ cs) m)
+script_wear_drives κ a x s l cs m r =
+    calls {l = lent a.0.now a.1.0.now a.1.1.0.now} {c = script_wear a.1.1.1.0 a.1.1.1.1.0.now a.1.1.1.1.1.0.now a.1.1.1.1.1.1.0.now a.1.1.1.1.1.1.1.0.now a.1.1.1.1.1.1.1.1.0.now a.1.1.1.1.1.1.1.1.1.0.now a.1.1.1.1.1.1.1.1.1.1.0.now}
     (record { answer = x; buffers = s.1.1.1.1.1.1.1.0.now ∷ s.1.1.1.1.1.1.1.1.0.now ∷ s.1.1.1.1.1.1.1.1.1.0.now ∷ []; wear = s.1.1.1.1.1.1.1.1.1.1.0.now; left = lent s.0.now s.1.0.now s.1.1.0.now })
     (rw (l.0, l.1.0, l.1.1.0, l.1.1.1.0, l.1.1.1.1.0, l.1.1.1.1.1.0, l.1.1.1.1.1.1.0, l.1.1.1.1.1.1.1) refl) r
 
 -- bytes, blocks, maker, kind, capacity, device, status, function and extended are
-pub power-up-drives : Follows yawlspar-power-up.Learnt (λ κ a x s.
-    (x ≡ powerUpAnswer (length a.0.now) (asked a.1.0 a.1.1.0 a.1.1.1.0 a.1.1.1.1.0 a.1.1.1.1.1.0 a.1.1.1.1.1.1.0 a.1.1.1.1.1.1.1.0 a.1.1.1.1.1.1.1.1.0))
-    × (s.0.now ≡ powerUpBytes (asked a.1.0 a.1.1.0 a.1.1.1.0 a.1.1.1.1.0 a.1.1.1.1.1.0 a.1.1.1.1.1.1.0 a.1.1.1.1.1.1.1.0 a.1.1.1.1.1.1.1.1.0) a.0.now))
-power-up-drives κ a x s l = (l.0, l.1)
+pub power_up_drives : Follows yawlspar-power-up.Learnt (λ κ a x s.
+    (x ≡ power_up_answer (length a.0.now) (asked a.1.0 a.1.1.0 a.1.1.1.0 a.1.1.1.1.0 a.1.1.1.1.1.0 a.1.1.1.1.1.1.0 a.1.1.1.1.1.1.1.0 a.1.1.1.1.1.1.1.1.0))
+    × (s.0.now ≡ power_up_bytes (asked a.1.0 a.1.1.0 a.1.1.1.0 a.1.1.1.1.0 a.1.1.1.1.1.0 a.1.1.1.1.1.1.0 a.1.1.1.1.1.1.1.0 a.1.1.1.1.1.1.1.1.0) a.0.now))
+power_up_drives κ a x s l = (l.0, l.1)
 
 -- blocks, array and map are
-pub map-rebuild-begins : Follows yawlspar-map-rebuild.Learnt (λ κ a x s.
-    (x ≡ rebuildNumber a.0 (length a.1.0.now) (length a.1.1.0.now))
+pub map_rebuild_begins : Follows yawlspar-map-rebuild.Learnt (λ κ a x s.
+    (x ≡ rebuild_number a.0 (length a.1.0.now) (length a.1.1.0.now))
     × (s.1.1.0.now ≡ rebuilt a.0 a.1.0.now a.1.1.0.now))
-map-rebuild-begins κ a x s l = (l.0, l.1)
+map_rebuild_begins κ a x s l = (l.0, l.1)

@@ -6,51 +6,51 @@ use native.Mathlib.Omega.{arith}
 use lib.ListN.{length}
 use borrow.Author.Tests.{eq-eqb}
 use Rattle.types.specs.declared.Record.{Record}
-use Rattle.words.proofs.Tests.{orElse-zero}
-use Rattle.paper.specs.Sizes.{arrayBytes, rowsBytes}
-use Rattle.paper.proofs.Kept.{power-up-sound, powered-fresh}
-use Rattle.paper.proofs.KeptBytes.{none-page}
-use Rattle.record_bytes.specs.Layout.{recordBytes}
-use Rattle.yawlspar.specs.Face.{Asked, identityOf, registersOf, upOf, upNumber, powerUpAnswer, powerUpBytes}
+use Rattle.words.proofs.Tests.{or_else_zero}
+use Rattle.paper.specs.Sizes.{array_bytes, rows_bytes}
+use Rattle.paper.proofs.Kept.{power_up_sound, powered_fresh}
+use Rattle.paper.proofs.KeptBytes.{none_page}
+use Rattle.record_bytes.specs.Layout.{record_bytes}
+use Rattle.yawlspar.specs.Face.{Asked, identity_of, registers_of, up_of, up_number, power_up_answer, power_up_bytes}
 use Rattle.history.specs.PageData.{Page}
-use Rattle.history.proofs.Course.{course-told}
+use Rattle.history.proofs.Course.{course_told}
 use Rattle.reset.specs.Demand3.{PoweredAndSent}
-use Rattle.reset.proofs.Demand3.{history-told}
-use Rattle.from_c.specs.Driven.{Lent, lent, CCall, calls_of, Driven, packedSteps}
+use Rattle.reset.proofs.Demand3.{history_told}
+use Rattle.from_c.specs.Driven.{Lent, lent, CCall, calls_of, Driven, packed_steps}
 use Rattle.from_c.specs.FromC.{FromC}
 use Rattle.from_c.specs.Holding.{Holding}
 use Rattle.from_c.proofs.Holding.{in_bytes}
-use Rattle.from_c.proofs.Chained.{driven-run, driven-heard, plain-heard}
+use Rattle.from_c.proofs.Chained.{driven_run, driven_heard, plain_heard}
 
 -- the numbers that yawlspar_power_up was given, and the buffer that it was lent
 module _ (q : Asked) (bs : List ℕ) where
   abbrev start : Record
-  start = (upOf q).next
+  start = (up_of q).next
 
   -- it answered 0
-  module _ (z : powerUpAnswer (length bs) q ≡ 0) where
-    number-zero : upNumber (length bs) q ≡ 0
-    number-zero = omega arith
+  module _ (z : power_up_answer (length bs) q ≡ 0) where
+    number_zero : up_number (length bs) q ≡ 0
+    number_zero = omega arith
 
-    pub up-unrefused : (upOf q).number ≡ 0
-    unfolding upNumber
-    up-unrefused = (orElse-zero _ _ number-zero).1
+    pub up_unrefused : (up_of q).number ≡ 0
+    unfolding up_number
+    up_unrefused = (or_else_zero _ _ number_zero).1
 
-    up-bytes : powerUpBytes q bs ≡ recordBytes start
-    up-bytes = rw (eq-eqb _ _ number-zero) refl
+    up_bytes : power_up_bytes q bs ≡ record_bytes start
+    up_bytes = rw (eq-eqb _ _ number_zero) refl
 
-    up-page : Page start
-    up-page = ap (λ (p : Record). length p.page) (powered-fresh q.blocks (identityOf q) (registersOf q) up-unrefused) ∙ none-page
+    up_page : Page start
+    up_page = ap (λ (p : Record). length p.page) (powered_fresh q.blocks (identity_of q) (registers_of q) up_unrefused) ∙ none_page
 
     -- the buffer holds the record that power-up gives
-    pub up-holds : (xs rs : List ℕ) → length xs ≡ arrayBytes q.blocks → length rs ≡ rowsBytes → Holding (lent (powerUpBytes q bs) xs rs) start
-    up-holds xs rs lx lr =
-        record { bytes = up-bytes; is-sound = power-up-sound q.blocks (identityOf q) (registersOf q); page = up-page; array = lx ∙ sym (ap (λ (p : Record). arrayBytes p.part.blocks) (powered-fresh q.blocks (identityOf q) (registersOf q) up-unrefused)); rows = lr }
+    pub up_holds : (xs rs : List ℕ) → length xs ≡ array_bytes q.blocks → length rs ≡ rows_bytes → Holding (lent (power_up_bytes q bs) xs rs) start
+    up_holds xs rs lx lr =
+        record { bytes = up_bytes; is_sound = power_up_sound q.blocks (identity_of q) (registers_of q); page = up_page; array = lx ∙ sym (ap (λ (p : Record). array_bytes p.part.blocks) (powered_fresh q.blocks (identity_of q) (registers_of q) up_unrefused)); rows = lr }
 
-  pub driven-told : {ds : List CCall} {xs rs : List ℕ} {m : Lent} → powerUpAnswer (length bs) q ≡ 0 → length xs ≡ arrayBytes q.blocks → length rs ≡ rowsBytes
-      → (chain : Driven (lent (powerUpBytes q bs) xs rs) ds m) → FromC q bs chain
-  driven-told {ds} {xs} {rs} {m} z lx lr chain =
-      let h = up-holds z xs rs lx lr in
-      let l = driven-run chain start h in
-      let sent : PoweredAndSent q.blocks (identityOf q) (registersOf q) (calls_of ds start) xs rs l.next m.array m.rows = record { unrefused = up-unrefused z; own-array = lx; own-rows = lr; run = l.run } in
-      record { next = l.next; bytes = l.holding.bytes; in_bytes = in_bytes l.holding; sent = sent; told = history-told q.blocks (identityOf q) (registersOf q) sent; answers = driven-heard chain start h; plain-answers = λ plain. plain-heard chain start h plain ∙ ap packedSteps (sym (course-told l.run)) }
+  pub driven_told : {ds : List CCall} {xs rs : List ℕ} {m : Lent} → power_up_answer (length bs) q ≡ 0 → length xs ≡ array_bytes q.blocks → length rs ≡ rows_bytes
+      → (chain : Driven (lent (power_up_bytes q bs) xs rs) ds m) → FromC q bs chain
+  driven_told {ds} {xs} {rs} {m} z lx lr chain =
+      let h = up_holds z xs rs lx lr in
+      let l = driven_run chain start h in
+      let sent : PoweredAndSent q.blocks (identity_of q) (registers_of q) (calls_of ds start) xs rs l.next m.array m.rows = record { unrefused = up_unrefused z; own_array = lx; own_rows = lr; run = l.run } in
+      record { next = l.next; bytes = l.holding.bytes; in_bytes = in_bytes l.holding; sent = sent; told = history_told q.blocks (identity_of q) (registers_of q) sent; answers = driven_heard chain start h; plain_answers = λ plain. plain_heard chain start h plain ∙ ap packed_steps (sym (course_told l.run)) }

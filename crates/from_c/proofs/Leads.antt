@@ -2,10 +2,10 @@
 use mathlib.Core.Path.{◌≡◌}
 use mathlib.Core.List.{List, ◌++◌}
 use Rattle.types.specs.declared.Record.{Record}
-use Rattle.paper.specs.History.{Call, recordAfterCalls}
+use Rattle.paper.specs.History.{Call, record_after_calls}
 use Rattle.history.specs.Run.{Run}
-use Rattle.history.proofs.Told.{run-told}
-use Rattle.history.proofs.Joined.{run-joined}
+use Rattle.history.proofs.Told.{run_told}
+use Rattle.history.proofs.Joined.{run_joined}
 use Rattle.from_c.specs.Driven.{Lent}
 use Rattle.from_c.specs.Holding.{Holding}
 
@@ -17,9 +17,9 @@ pub record Leads (l : Lent) (p : Record) (cs : List Call) (m : Lent) : Type 0 wh
 
 module _ {l m : Lent} {p : Record} {cs : List Call} (s : Leads l p cs m) where
   -- the record is the one that the calls tell
-  pub leads-told : Holding l p → s.next ≡ recordAfterCalls cs p
-  leads-told h = (run-told s.run h.is-sound h.array h.rows).next
+  pub leads_told : Holding l p → s.next ≡ record_after_calls cs p
+  leads_told h = (run_told s.run h.is_sound h.array h.rows).next
 
   -- other calls lead on
-  pub leads-on : {n : Lent} {ds : List Call} → Leads m s.next ds n → Leads l p (cs ++ ds) n
-  leads-on t = record { next = t.next; run = run-joined s.run t.run; holding = t.holding }
+  pub leads_on : {n : Lent} {ds : List Call} → Leads m s.next ds n → Leads l p (cs ++ ds) n
+  leads_on t = record { next = t.next; run = run_joined s.run t.run; holding = t.holding }

@@ -9,102 +9,102 @@ use borrow.Author.Tests.{eq-eqb}
 use Rattle.types.specs.declared.Record.{Record}
 use Rattle.words.specs.Logic.{bit, ◌and◌, unless}
 use Rattle.words.specs.Lists.{AreBytes}
-use Rattle.words.proofs.Tests.{orElse-on}
-use Rattle.paper.specs.Sizes.{arrayBytes, mapBytes, rowsBytes}
+use Rattle.words.proofs.Tests.{or_else_on}
+use Rattle.paper.specs.Sizes.{array_bytes, map_bytes, rows_bytes}
 use Rattle.paper.specs.Soundness.{sound}
-use Rattle.paper.specs.Numbers.{mapNumber, rebuildNumber}
-use Rattle.paper.specs.History.{Call, transaction, ticks, history, recordAfterCalls}
-use Rattle.paper.specs.Board.{Board, afterCalls}
-use Rattle.paper.specs.Map.{Right, rebuilt, mapAfterCall, mapAfterCalls}
-use Rattle.paper.proofs.Kept.{powered-fresh}
-use Rattle.paper.proofs.Map.{calls-length}
-use Rattle.history.proofs.Told.{run-told}
-use Rattle.history.proofs.Joined.{run-folded}
-use Rattle.script.specs.InBytes.{scriptOf}
-use Rattle.yawlspar.specs.Face.{Asked, identityOf, registersOf, upOf, powerUpAnswer, powerUpBytes}
+use Rattle.paper.specs.Numbers.{map_number, rebuild_number}
+use Rattle.paper.specs.History.{Call, transaction, ticks, history, record_after_calls}
+use Rattle.paper.specs.Board.{Board, after_calls}
+use Rattle.paper.specs.Map.{Right, rebuilt, map_after_call, map_after_calls}
+use Rattle.paper.proofs.Kept.{powered_fresh}
+use Rattle.paper.proofs.Map.{calls_length}
+use Rattle.history.proofs.Told.{run_told}
+use Rattle.history.proofs.Joined.{run_folded}
+use Rattle.script.specs.InBytes.{script_of}
+use Rattle.yawlspar.specs.Face.{Asked, identity_of, registers_of, up_of, power_up_answer, power_up_bytes}
 use Rattle.map_laws.specs.MapLaws.{Framed}
-use Rattle.history.proofs.Beside.{own-size}
-use Rattle.map_laws.proofs.Stands.{ticks-stand, scripts-stand}
+use Rattle.history.proofs.Beside.{own_size}
+use Rattle.map_laws.proofs.Stands.{ticks_stand, scripts_stand}
 use Rattle.map_laws.proofs.MapLaws.{laws}
-use Rattle.from_c.specs.Driven.{Lent, lent, CCall, transact, tick, script, check, tickMap, scriptMap, tickWear, scriptWear, Given, gives, call_of, calls_of, Driven, ended, calls}
+use Rattle.from_c.specs.Driven.{Lent, lent, CCall, transact, tick, script, check, tick_map, script_map, tick_wear, script_wear, Given, gives, call_of, calls_of, Driven, ended, calls}
 use Rattle.from_c.specs.Holding.{Holding}
-use Rattle.from_c.specs.LawsFromC.{boardIn}
-use Rattle.from_c.specs.MapFromC.{LendsMap, mapLeft, KeepsMap, MapFromC}
-use Rattle.from_c.proofs.Held.{held-script-map, held-tick-map}
-use Rattle.from_c.proofs.Holding.{in_bytes, holding-own}
-use Rattle.from_c.proofs.Leads.{Leads, leads-told}
+use Rattle.from_c.specs.LawsFromC.{board_in}
+use Rattle.from_c.specs.MapFromC.{LendsMap, map_left, KeepsMap, MapFromC}
+use Rattle.from_c.proofs.Held.{held_script_map, held_tick_map}
+use Rattle.from_c.proofs.Holding.{in_bytes, holding_own}
+use Rattle.from_c.proofs.Leads.{Leads, leads_told}
 use Rattle.from_c.proofs.Stands.{stands}
 use Rattle.from_c.specs.Kept.{Drives}
-use Rattle.from_c.proofs.Kept.{kept-exact, kept-driven}
-use Rattle.from_c.proofs.Chained.{driven-run}
-use Rattle.from_c.proofs.FromC.{up-unrefused, up-holds}
-use Rattle.from_c.proofs.LawsFromC.{level-call}
+use Rattle.from_c.proofs.Kept.{kept_exact, kept_driven}
+use Rattle.from_c.proofs.Chained.{driven_run}
+use Rattle.from_c.proofs.FromC.{up_unrefused, up_holds}
+use Rattle.from_c.proofs.LawsFromC.{level_call}
 
 -- one call
 module _ (l : Lent) (p : Record) (h : Holding l p) where
-  transact-map : (wp : ℕ) (i o k : List ℕ) (t : Bool) → leb wp 1 ≡ t → k ≡ mapAfterCalls (call_of (transact wp i o) p) (boardIn l p) k
-  transact-map wp i o k true e = rw e refl
-  transact-map wp i o k false e = rw e refl
+  transact_map : (wp : ℕ) (i o k : List ℕ) (t : Bool) → leb wp 1 ≡ t → k ≡ map_after_calls (call_of (transact wp i o) p) (board_in l p) k
+  transact_map wp i o k true e = rw e refl
+  transact_map wp i o k false e = rw e refl
 
-  kind-map : (c : CCall) (k : List ℕ) → LendsMap c k → mapLeft c (gives c l) k ≡ mapAfterCalls (call_of c p) (boardIn l p) k
-  kind-map (transact wp i o) k u = transact-map wp i o k (leb wp 1) refl
-  kind-map (tick n) k u = absurd u
-  kind-map (script wp i ls ts o n d) k u = absurd u
-  kind-map (check wp i ls ts o n d image) k u = absurd u
-  kind-map (tickMap n m) k u =
-      ap (λ (g : Given). get_or g.buffers 0 []) (held-tick-map l p (in_bytes h) n m)
-      ∙ (ticks-stand n (boardIn l p) m (holding-own h)).map
-      ∙ ap (mapAfterCalls (call_of (tickMap n m) p) (boardIn l p)) u
-  kind-map (scriptMap wp i ls ts o n d m) k u =
-      ap (λ (g : Given). get_or g.buffers 3 []) (held-script-map l p (in_bytes h) wp i ls ts o n d m)
-      ∙ (scripts-stand (sound p and leb wp 1) (scriptOf wp i ls ts) (boardIn l p) o n d m (holding-own h)).map
-      ∙ ap (mapAfterCalls (call_of (scriptMap wp i ls ts o n d m) p) (boardIn l p)) u
-  kind-map (tickWear n ws) k u = absurd u
-  kind-map (scriptWear wp i ls ts o n d ws) k u = absurd u
+  kind_map : (c : CCall) (k : List ℕ) → LendsMap c k → map_left c (gives c l) k ≡ map_after_calls (call_of c p) (board_in l p) k
+  kind_map (transact wp i o) k u = transact_map wp i o k (leb wp 1) refl
+  kind_map (tick n) k u = absurd u
+  kind_map (script wp i ls ts o n d) k u = absurd u
+  kind_map (check wp i ls ts o n d image) k u = absurd u
+  kind_map (tick_map n m) k u =
+      ap (λ (g : Given). get_or g.buffers 0 []) (held_tick_map l p (in_bytes h) n m)
+      ∙ (ticks_stand n (board_in l p) m (holding_own h)).map
+      ∙ ap (map_after_calls (call_of (tick_map n m) p) (board_in l p)) u
+  kind_map (script_map wp i ls ts o n d m) k u =
+      ap (λ (g : Given). get_or g.buffers 3 []) (held_script_map l p (in_bytes h) wp i ls ts o n d m)
+      ∙ (scripts_stand (sound p and leb wp 1) (script_of wp i ls ts) (board_in l p) o n d m (holding_own h)).map
+      ∙ ap (map_after_calls (call_of (script_map wp i ls ts o n d m) p) (board_in l p)) u
+  kind_map (tick_wear n ws) k u = absurd u
+  kind_map (script_wear wp i ls ts o n d ws) k u = absurd u
 
-map-exact : {l m : Lent} {cs : List CCall} (chain : Driven l cs m) (p : Record) → Holding l p → (k j : List ℕ) → KeepsMap chain k j → j ≡ mapAfterCalls (calls_of cs p) (boardIn l p) k
-map-exact = kept-exact LendsMap mapLeft mapAfterCall kind-map
+map_exact : {l m : Lent} {cs : List CCall} (chain : Driven l cs m) (p : Record) → Holding l p → (k j : List ℕ) → KeepsMap chain k j → j ≡ map_after_calls (calls_of cs p) (board_in l p) k
+map_exact = kept_exact LendsMap map_left map_after_call kind_map
 
-fitting-ticks : (n : ℕ) (p : Record) (k : List ℕ) → length k ≡ mapBytes p.part.blocks → call_of (tickMap n k) p ≡ ticks n ∷ []
-unfolding mapNumber unless
-fitting-ticks n p k e = rw (eq-eqb _ _ e) refl
+fitting_ticks : (n : ℕ) (p : Record) (k : List ℕ) → length k ≡ map_bytes p.part.blocks → call_of (tick_map n k) p ≡ ticks n ∷ []
+unfolding map_number unless
+fitting_ticks n p k e = rw (eq-eqb _ _ e) refl
 
-map-driven : (cs : List Call) (l : Lent) (p : Record) (k : List ℕ) → Holding l p → length k ≡ mapBytes p.part.blocks → Drives LendsMap mapLeft l p cs k
-map-driven =
-    kept-driven LendsMap mapLeft mapAfterCall kind-map (λ n k. length k ≡ mapBytes n) (λ cs b n k e. calls-length cs b k ∙ e) (λ wp i o k. tt) tickMap (λ n k. refl) fitting-ticks
+map_driven : (cs : List Call) (l : Lent) (p : Record) (k : List ℕ) → Holding l p → length k ≡ map_bytes p.part.blocks → Drives LendsMap map_left l p cs k
+map_driven =
+    kept_driven LendsMap map_left map_after_call kind_map (λ n k. length k ≡ map_bytes n) (λ cs b n k e. calls_length cs b k ∙ e) (λ wp i o k. tt) tick_map (λ n k. refl) fitting_ticks
 
 module _ (l m : Lent) (p : Record) (cs : List CCall) (k j : List ℕ) (h : Holding l p) (chain : Driven l cs m) (keeps : KeepsMap chain k j) where
-  array-is : m.array ≡ (afterCalls (calls_of cs p) (boardIn l p)).array
-  array-is = ap (λ (b : Board). b.array) (run-folded (driven-run chain p h).run)
+  array_is : m.array ≡ (after_calls (calls_of cs p) (board_in l p)).array
+  array_is = ap (λ (b : Board). b.array) (run_folded (driven_run chain p h).run)
 
   -- what holds of the calls' map and array holds of those that are left
-  so_left : (P : List ℕ → List ℕ → Type 0) → P (mapAfterCalls (calls_of cs p) (boardIn l p) k) (afterCalls (calls_of cs p) (boardIn l p)).array → P j m.array
-  so_left P x = subst⁻¹ (λ (y : List ℕ). P y m.array) (map-exact chain p h k j keeps) (subst⁻¹ (P (mapAfterCalls (calls_of cs p) (boardIn l p) k)) array-is x)
+  so_left : (P : List ℕ → List ℕ → Type 0) → P (map_after_calls (calls_of cs p) (board_in l p) k) (after_calls (calls_of cs p) (board_in l p)).array → P j m.array
+  so_left P x = subst⁻¹ (λ (y : List ℕ). P y m.array) (map_exact chain p h k j keeps) (subst⁻¹ (P (map_after_calls (calls_of cs p) (board_in l p) k)) array_is x)
 
-  map-right : Right k l.array → Right j m.array
-  map-right r = so_left Right (laws.calls-right (calls_of cs p) (boardIn l p) k (holding-own h) r)
+  map_right : Right k l.array → Right j m.array
+  map_right r = so_left Right (laws.calls_right (calls_of cs p) (board_in l p) k (holding_own h) r)
 
-  map_frame : length k ≡ mapBytes p.part.blocks → AreBytes k → Framed p.part.blocks (history (calls_of cs p) p) m.array k j
-  map_frame e bytes = so_left (λ y xs. Framed p.part.blocks (history (calls_of cs p) p) xs k y) (laws.frame (calls_of cs p) (boardIn l p) k (holding-own h) e bytes)
+  map_frame : length k ≡ map_bytes p.part.blocks → AreBytes k → Framed p.part.blocks (history (calls_of cs p) p) m.array k j
+  map_frame e bytes = so_left (λ y xs. Framed p.part.blocks (history (calls_of cs p) p) xs k y) (laws.frame (calls_of cs p) (board_in l p) k (holding_own h) e bytes)
 
-module _ (l : Lent) (p : Record) (k : List ℕ) (h : Holding l p) (e : length k ≡ mapBytes p.part.blocks) where
-  unrefused : rebuildNumber p.part.blocks (length l.array) (length k) ≡ 0
-  unfolding rebuildNumber mapNumber unless
-  unrefused = orElse-on _ _ (own-size (boardIn l p) (holding-own h)) ∙ rw (eq-eqb _ _ e) refl
+module _ (l : Lent) (p : Record) (k : List ℕ) (h : Holding l p) (e : length k ≡ map_bytes p.part.blocks) where
+  unrefused : rebuild_number p.part.blocks (length l.array) (length k) ≡ 0
+  unfolding rebuild_number map_number unless
+  unrefused = or_else_on _ _ (own_size (board_in l p) (holding_own h)) ∙ rw (eq-eqb _ _ e) refl
 
-  map-begins : (rebuildNumber p.part.blocks (length l.array) (length k) ≡ 0) × Right (rebuilt p.part.blocks l.array k) l.array
-  map-begins = (unrefused, (laws.rebuild p.part.blocks l.array k).0 unrefused)
+  map_begins : (rebuild_number p.part.blocks (length l.array) (length k) ≡ 0) × Right (rebuilt p.part.blocks l.array k) l.array
+  map_begins = (unrefused, (laws.rebuild p.part.blocks l.array k).0 unrefused)
 
-map-powered : (q : Asked) (bs xs rs : List ℕ) (m : Lent) (cs : List CCall) (k j : List ℕ) → powerUpAnswer (length bs) q ≡ 0 → length xs ≡ arrayBytes q.blocks → length rs ≡ rowsBytes → length k ≡ mapBytes q.blocks
-    → (chain : Driven (lent (powerUpBytes q bs) xs rs) cs m) → KeepsMap chain (rebuilt q.blocks xs k) j → Right j m.array
-map-powered q bs xs rs m cs k j z lx lr lk chain keeps =
-    let l = lent (powerUpBytes q bs) xs rs in
-    let p = (upOf q).next in
-    let h = up-holds q bs z xs rs lx lr in
-    let size : p.part.blocks ≡ q.blocks = ap (λ (r : Record). r.part.blocks) (powered-fresh q.blocks (identityOf q) (registersOf q) (up-unrefused q bs z)) in
-    map-right l m p cs (rebuilt q.blocks xs k) j h chain keeps
-    (subst (λ (n : ℕ). Right (rebuilt n xs k) xs) size (map-begins l p k h (lk ∙ ap mapBytes (sym size))).1)
+map_powered : (q : Asked) (bs xs rs : List ℕ) (m : Lent) (cs : List CCall) (k j : List ℕ) → power_up_answer (length bs) q ≡ 0 → length xs ≡ array_bytes q.blocks → length rs ≡ rows_bytes → length k ≡ map_bytes q.blocks
+    → (chain : Driven (lent (power_up_bytes q bs) xs rs) cs m) → KeepsMap chain (rebuilt q.blocks xs k) j → Right j m.array
+map_powered q bs xs rs m cs k j z lx lr lk chain keeps =
+    let l = lent (power_up_bytes q bs) xs rs in
+    let p = (up_of q).next in
+    let h = up_holds q bs z xs rs lx lr in
+    let size : p.part.blocks ≡ q.blocks = ap (λ (r : Record). r.part.blocks) (powered_fresh q.blocks (identity_of q) (registers_of q) (up_unrefused q bs z)) in
+    map_right l m p cs (rebuilt q.blocks xs k) j h chain keeps
+    (subst (λ (n : ℕ). Right (rebuilt n xs k) xs) size (map_begins l p k h (lk ∙ ap map_bytes (sym size))).1)
 
-pub map-from-c : MapFromC
-map-from-c =
-    record { driven = λ l p cs k h e. map-driven cs l p k h e; exact = λ l m p cs k j h chain keeps. map-exact chain p h k j keeps; right = map-right; frame = map_frame; begins = map-begins; powered = map-powered }
+pub map_from_c : MapFromC
+map_from_c =
+    record { driven = λ l p cs k h e. map_driven cs l p k h e; exact = λ l m p cs k j h chain keeps. map_exact chain p h k j keeps; right = map_right; frame = map_frame; begins = map_begins; powered = map_powered }

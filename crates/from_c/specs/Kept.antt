@@ -5,11 +5,11 @@ use Rattle.paper.specs.History.{Call}
 use Rattle.from_c.specs.Driven.{Lent, CCall, Given, calls_of, Driven, ended, calls}
 
 -- which calls are lent k, and what each leaves of it, which gave g
-module _ {A : Type 0} (Lends : CCall → A → Type 0) (leftBy : CCall → Given → A → A) where
+module _ {A : Type 0} (Lends : CCall → A → Type 0) (left_by : CCall → Given → A → A) where
   -- chained calls that keep it, which is k before them and j after
   abbrev pub Keeps : {l m : Lent} {cs : List CCall} → Driven l cs m → A → A → Type 0
   Keeps ended k j = j ≡ k
-  Keeps (calls {c = c} g e rest) k j = Lends c k × Keeps rest (leftBy c g k) j
+  Keeps (calls {c = c} g e rest) k j = Lends c k × Keeps rest (left_by c g k) j
 
   -- calls from C that stand for these and keep it, which is k before them
   pub record Drives (l : Lent) (p : Record) (cs : List Call) (k : A) : Type 0 where

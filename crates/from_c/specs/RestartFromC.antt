@@ -5,16 +5,16 @@ use Rattle.types.specs.declared.Phase.TheVariants.{Idle}
 use Rattle.types.specs.declared.Identity.{Identity}
 use Rattle.types.specs.declared.Stored.{Stored}
 use Rattle.types.specs.declared.Record.{Record}
-use Rattle.paper.specs.Registers.{storedBits}
-use Rattle.paper.specs.History.{recordAfterCalls}
-use Rattle.yawlspar.specs.Face.{packed, Asked, identityOf, registersOf, upOf, powerUpAnswer, powerUpBytes}
-use Rattle.suspended.specs.UnderWay.{neverIdle}
+use Rattle.paper.specs.Registers.{stored_bits}
+use Rattle.paper.specs.History.{record_after_calls}
+use Rattle.yawlspar.specs.Face.{packed, Asked, identity_of, registers_of, up_of, power_up_answer, power_up_bytes}
+use Rattle.suspended.specs.UnderWay.{never_idle}
 use Rattle.laws.specs.Writes.{erase, Write, steps, at_start, Begun}
-use Rattle.restart.specs.Cuts.{upAgain, Cut, Event, calls, power, Lives, recordAfterEvents, historyThrough, nothingElse, nothingOutside}
+use Rattle.restart.specs.Cuts.{up_again, Cut, Event, calls, power, Lives, record_after_events, history_through, nothing_else, nothing_outside}
 use Rattle.restart.specs.Restart.{CutAt, Undisturbed, Again}
 use Rattle.from_c.specs.Driven.{Lent, lent, CCall, transact, calls_of, Driven, heard}
 use Rattle.from_c.specs.Holding.{Holding}
-use Rattle.from_c.specs.LawsFromC.{boardIn, RestedIn}
+use Rattle.from_c.specs.LawsFromC.{board_in, RestedIn}
 
 -- what a C program does with a part: calls, or a power-up into a buffer, whatever that holds
 pub data CEvent : Type 0 where
@@ -25,36 +25,36 @@ pub data CEvent : Type 0 where
 abbrev pub SamePart : ℕ → Identity → List CEvent → Type 0
 SamePart n id [] = Unit {0}
 SamePart n id (drives cs ∷ es) = SamePart n id es
-SamePart n id (powers q bs ∷ es) = (q.blocks ≡ n) × (identityOf q ≡ id) × SamePart n id es
+SamePart n id (powers q bs ∷ es) = (q.blocks ≡ n) × (identity_of q ≡ id) × SamePart n id es
 
 -- the events that these stand for, from the record p on
-abbrev pub eventsOf : List CEvent → Record → List Event
-eventsOf [] p = []
-eventsOf (drives cs ∷ es) p = calls (calls_of cs p) ∷ eventsOf es (recordAfterCalls (calls_of cs p) p)
-eventsOf (powers q bs ∷ es) p = power (registersOf q) ∷ eventsOf es (upOf q).next
+abbrev pub events_of : List CEvent → Record → List Event
+events_of [] p = []
+events_of (drives cs ∷ es) p = calls (calls_of cs p) ∷ events_of es (record_after_calls (calls_of cs p) p)
+events_of (powers q bs ∷ es) p = power (registers_of q) ∷ events_of es (up_of q).next
 
 -- what is lent before, the events, and what is lent after. Each power-up answers 0, and array and rows are as they were
 pub data LivesInC : Lent → List CEvent → Lent → Type 0 where
   over : {l : Lent} → LivesInC l [] l
   driven : {l m n : Lent} {cs : List CCall} {es : List CEvent} → Driven l cs m → LivesInC m es n → LivesInC l (drives cs ∷ es) n
-  powered : {l n : Lent} {q : Asked} {bs : List ℕ} {es : List CEvent} → powerUpAnswer (length bs) q ≡ 0 → LivesInC (lent (powerUpBytes q bs) l.array l.rows) es n → LivesInC l (powers q bs ∷ es) n
+  powered : {l n : Lent} {q : Asked} {bs : List ℕ} {es : List CEvent} → power_up_answer (length bs) q ≡ 0 → LivesInC (lent (power_up_bytes q bs) l.array l.rows) es n → LivesInC l (powers q bs ∷ es) n
 
 -- what events from C make: what the events that they stand for make of the part
 pub record LivedFromC (p : Record) (l : Lent) (es : List CEvent) (m : Lent) : Type 0 where
   pub next : Record
   pub holding : Holding m next
-  pub is : next ≡ recordAfterEvents (eventsOf es p) p
-  pub lives : Lives (boardIn l p) (eventsOf es p) (boardIn m next)
+  pub is : next ≡ record_after_events (events_of es p) p
+  pub lives : Lives (board_in l p) (events_of es p) (board_in m next)
 
 -- a cut of a part of n blocks and that identity: 99h, which answers 0; or a power-up, which does
 pub data CutInC (n : ℕ) (id : Identity) (m : Lent) : Lent → Type 0 where
-  by-reset : {k : Lent} (wp x : ℕ) → wp ≤ 1 → (chain : Driven m (transact wp (0x99 ∷ []) (x ∷ []) ∷ []) k) → heard chain ≡ packed 0 1 ∷ [] → CutInC n id m k
-  by-power : (q : Asked) (bs : List ℕ) → q.blocks ≡ n → identityOf q ≡ id → powerUpAnswer (length bs) q ≡ 0 → CutInC n id m (lent (powerUpBytes q bs) m.array m.rows)
+  by_reset : {k : Lent} (wp x : ℕ) → wp ≤ 1 → (chain : Driven m (transact wp (0x99 ∷ []) (x ∷ []) ∷ []) k) → heard chain ≡ packed 0 1 ∷ [] → CutInC n id m k
+  by_power : (q : Asked) (bs : List ℕ) → q.blocks ≡ n → identity_of q ≡ id → power_up_answer (length bs) q ≡ 0 → CutInC n id m (lent (power_up_bytes q bs) m.array m.rows)
 
 -- the registers that the part has after it, if its record at the cut is p: the stored bits of those that it had, or those that power-up got
-abbrev pub registersInC : {n : ℕ} {id : Identity} {m k : Lent} → CutInC n id m k → Record → Stored
-registersInC (by-reset wp x l chain e) p = storedBits p.part.stored
-registersInC (by-power q bs e f z) p = registersOf q
+abbrev pub registers_in_c : {n : ℕ} {id : Identity} {m k : Lent} → CutInC n id m k → Record → Stored
+registers_in_c (by_reset wp x l chain e) p = stored_bits p.part.stored
+registers_in_c (by_power q bs e f z) p = registers_of q
 
 -- what it leaves, from what l lends to what m lends at the cut and k after it
 pub record CutAtInC (l : Lent) (p : Record) (u : EraseUnit) (w : Write) (m k : Lent) (c : CutInC p.part.blocks p.identity m k) : Type 0 where
@@ -62,27 +62,27 @@ pub record CutAtInC (l : Lent) (p : Record) (u : EraseUnit) (w : Write) (m k : L
   pub after : Record
   pub held_at : Holding m at
   pub held_after : Holding k after
-  pub cut : Cut (boardIn m at) (boardIn k after)
-  pub told : CutAt (boardIn l p) u w (boardIn m at) (boardIn k after) cut
-  pub fresh : after ≡ (upAgain (registersInC c at) p).next
+  pub cut : Cut (board_in m at) (board_in k after)
+  pub told : CutAt (board_in l p) u w (board_in m at) (board_in k after) cut
+  pub fresh : after ≡ (up_again (registers_in_c c at) p).next
 
 -- an erase that is done over, from C: from its first start, where l lends, to its last, where m lends, and its end, where k does; and an undisturbed one, from l to o
 pub record DoneInC (l : Lent) (p : Record) (u : EraseUnit) (a : ℕ) (es : List CEvent) (m k o : Lent) : Type 0 where
   pub rested : RestedIn l p
-  pub same-part : SamePart p.part.blocks p.identity es
+  pub same_part : SamePart p.part.blocks p.identity es
   pub lives : LivesInC l es m
-  pub idle : (recordAfterEvents (eventsOf es p) p).phase ≡ Idle
-  pub awake : (recordAfterEvents (eventsOf es p) p).part.asleep ≡ false
+  pub idle : (record_after_events (events_of es p) p).phase ≡ Idle
+  pub awake : (record_after_events (events_of es p) p).part.asleep ≡ false
   pub last : Write
-  pub again : Again (recordAfterEvents (eventsOf es p) p) u a last
-  pub last-calls : List CCall
-  pub last-stands : calls_of last-calls (recordAfterEvents (eventsOf es p) p) ≡ steps last
-  pub last-driven : Driven m last-calls k
+  pub again : Again (record_after_events (events_of es p) p) u a last
+  pub last_calls : List CCall
+  pub last_stands : calls_of last_calls (record_after_events (events_of es p) p) ≡ steps last
+  pub last_driven : Driven m last_calls k
   pub only : Write
   pub undisturbed : Undisturbed p u a only
   pub only_calls : List CCall
-  pub only-stands : calls_of only_calls p ≡ steps only
-  pub only-driven : Driven l only_calls o
+  pub only_stands : calls_of only_calls p ≡ steps only
+  pub only_driven : Driven l only_calls o
 
 -- the same array and rows
 pub record SameMemoryInC (k o : Lent) : Type 0 where
@@ -93,10 +93,10 @@ pub record RestartFromC : Type 0 where
   -- what events from C make is told by the events that they stand for, so that each law speaks of them
   pub lives : (l m : Lent) (p : Record) (es : List CEvent) → Holding l p → SamePart p.part.blocks p.identity es → LivesInC l es m → LivedFromC p l es m
   -- what a cut leaves
-  pub at-the-cut : (l m k : Lent) (p : Record) (u : EraseUnit) (w : Write) (cs : List CCall) → RestedIn l p → Begun p (erase u) w → calls_of cs p ≡ steps w → Driven l cs m
-      → neverIdle w.wait (at_start p w) ≡ true → (c : CutInC p.part.blocks p.identity m k) → CutAtInC l p u w m k c
+  pub at_the_cut : (l m k : Lent) (p : Record) (u : EraseUnit) (w : Write) (cs : List CCall) → RestedIn l p → Begun p (erase u) w → calls_of cs p ≡ steps w → Driven l cs m
+      → never_idle w.wait (at_start p w) ≡ true → (c : CutInC p.part.blocks p.identity m k) → CutAtInC l p u w m k c
   -- an erase that is done over, with nothing else written from its first start on; and with programs of pages in its unit too
-  pub done-over : (l m k o : Lent) (p : Record) (u : EraseUnit) (a : ℕ) (es : List CEvent) → DoneInC l p u a es m k o
-      → nothingElse u p.part.blocks a (historyThrough (eventsOf es p) p) ≡ true → SameMemoryInC k o
-  pub update-restarts : (l m k o : Lent) (p : Record) (u : EraseUnit) (a : ℕ) (es : List CEvent) → DoneInC l p u a es m k o
-      → nothingOutside u p.part.blocks a (historyThrough (eventsOf es p) p) ≡ true → SameMemoryInC k o
+  pub done_over : (l m k o : Lent) (p : Record) (u : EraseUnit) (a : ℕ) (es : List CEvent) → DoneInC l p u a es m k o
+      → nothing_else u p.part.blocks a (history_through (events_of es p) p) ≡ true → SameMemoryInC k o
+  pub update_restarts : (l m k o : Lent) (p : Record) (u : EraseUnit) (a : ℕ) (es : List CEvent) → DoneInC l p u a es m k o
+      → nothing_outside u p.part.blocks a (history_through (events_of es p) p) ≡ true → SameMemoryInC k o

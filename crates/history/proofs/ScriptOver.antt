@@ -7,81 +7,81 @@ use native.Mathlib.Omega.{arith}
 use lib.Dec.{eqb}
 use lib.ListN.{length, get_or}
 use borrow.Author.Tests.{eqb-true, eqb-false, ne_eqb}
-use Rattle.words.specs.Logic.{whenZero}
+use Rattle.words.specs.Logic.{when_zero}
 use Rattle.words.specs.Lists.{between}
-use Rattle.words.proofs.Sums.{sum-le}
+use Rattle.words.proofs.Sums.{sum_le}
 use Rattle.paper.specs.History.{Call}
-use Rattle.paper.specs.Board.{Board, Own, afterCalls, overCalls}
-use Rattle.paper.specs.Script.{Script, Scripted, stepAt, stepLength, calls_at, afterSteps, overSteps, unstepped, refusalOf, stopBefore, callsBefore, scriptCalls}
-use Rattle.paper.proofs.Numbers.{script-taken}
-use Rattle.paper.proofs.Boards.{calls-own, over-append}
+use Rattle.paper.specs.Board.{Board, Own, after_calls, over_calls}
+use Rattle.paper.specs.Script.{Script, Scripted, step_at, step_length, calls_at, after_steps, over_steps, unstepped, refusal_of, stop_before, calls_before, script_calls}
+use Rattle.paper.proofs.Numbers.{script_taken}
+use Rattle.paper.proofs.Boards.{calls_own, over_append}
 use Rattle.history.specs.ScriptLaws.{StepsTold}
-use Rattle.history.proofs.ScriptSteps.{ownCalls, step-calls, between-length}
-use Rattle.history.proofs.Scripts.{steps-told, taken-script}
+use Rattle.history.proofs.ScriptSteps.{own_calls, step_calls_lem, between_length}
+use Rattle.history.proofs.Scripts.{steps_told, taken_script}
 
 -- something that f changes with each call, and a script that is not refused, on a sound part with its own memory
-module _ {A : Type 0} (f : Call → Board → A → A) (ok : Bool) (s : Script) (b : Board) (o n d : List ℕ) (x : A) (own : Own b) (z : refusalOf ok s b o n d ≡ 0) where
+module _ {A : Type 0} (f : Call → Board → A → A) (ok : Bool) (s : Script) (b : Board) (o n d : List ℕ) (x : A) (own : Own b) (z : refusal_of ok s b o n d ≡ 0) where
   abbrev after : ℕ → Scripted
-  after k = afterSteps s k (unstepped 0 b o n d)
+  after k = after_steps s k (unstepped 0 b o n d)
 
   abbrev stop : ℕ → ℕ
-  stop k = stopBefore s b.state.part.blocks k
+  stop k = stop_before s b.state.part.blocks k
 
   abbrev calls : ℕ → List Call
-  calls k = callsBefore s b.state.part.blocks k
+  calls k = calls_before s b.state.part.blocks k
 
   abbrev over : ℕ → A
-  over k = overSteps f s k (unstepped 0 b o n d) x
+  over k = over_steps f s k (unstepped 0 b o n d) x
 
   -- step k
   module _ (k : ℕ) (l : k < length s.lengths) where
     abbrev input_at : List ℕ
-    input_at = between (stepAt s k) (stepLength s k) s.input
+    input_at = between (step_at s k) (step_length s k) s.input
 
-    abbrev outputAt : List ℕ
-    outputAt = between (stepAt s k) (stepLength s k) (after k).output
+    abbrev output_at : List ℕ
+    output_at = between (step_at s k) (step_length s k) (after k).output
 
-    abbrev stepOwn : List Call
-    stepOwn = ownCalls s.wp input_at (get_or s.ticks k 0) (stepLength s k)
+    abbrev step_own : List Call
+    step_own = own_calls s.wp input_at (get_or s.ticks k 0) (step_length s k)
 
     told : StepsTold s b o n d k (after k) (calls k) (stop k)
-    told = steps-told (record { ok = ok; script = s; board = b; output = o; answers = n; done = d; is-sound = own.is-sound; unrefused = z }) k (omega arith)
+    told = steps_told (record { ok = ok; script = s; board = b; output = o; answers = n; done = d; is_sound = own.is_sound; unrefused = z }) k (omega arith)
 
-    fits : stepAt s k + stepLength s k ≤ length s.input
-    fits = rw (← (script-taken _ _ _ _ _ _ _ _ _ _ z).input) (sum-le s.lengths (suc k) (length s.lengths) l)
+    fits : step_at s k + step_length s k ≤ length s.input
+    fits = rw (← (script_taken _ _ _ _ _ _ _ _ _ _ z).input) (sum_le s.lengths (suc k) (length s.lengths) l)
 
-    output-is : length outputAt ≡ stepLength s k
-    output-is =
-        between-length (stepAt s k) (stepLength s k) (after k).output (rw (told.output-length, (script-taken _ _ _ _ _ _ _ _ _ _ z).output) fits)
+    output_is : length output_at ≡ step_length s k
+    output_is =
+        between_length (step_at s k) (step_length s k) (after k).output (rw (told.output_length, (script_taken _ _ _ _ _ _ _ _ _ _ z).output) fits)
 
     -- makes the calls that are told of it
-    calls-then : calls_at s k (after k) ≡ stepOwn
-    calls-then =
-        let there = subst⁻¹ Own told.board (calls-own (calls k) b own) in
-        step-calls s.wp input_at (get_or s.ticks k 0) (after k).board outputAt there.is-sound there.own-array there.own-rows (between-length (stepAt s k) (stepLength s k) s.input fits ∙ sym output-is)
-        ∙ ap (ownCalls s.wp input_at (get_or s.ticks k 0)) output-is
+    calls_then_lem : calls_at s k (after k) ≡ step_own
+    calls_then_lem =
+        let there = subst⁻¹ Own told.board (calls_own (calls k) b own) in
+        step_calls_lem s.wp input_at (get_or s.ticks k 0) (after k).board output_at there.is_sound there.own_array there.own_rows (between_length (step_at s k) (step_length s k) s.input fits ∙ sym output_is)
+        ∙ ap (own_calls s.wp input_at (get_or s.ticks k 0)) output_is
 
-    step-as : (t : Bool) → eqb (stop k) 0 ≡ t → over k ≡ overCalls f (calls k) b x → over (suc k) ≡ overCalls f (calls (suc k)) b x
-    step-as true e before =
-        ap (λ (j : ℕ). whenZero j (overCalls f (calls_at s k (after k)) (after k).board (over k)) (over k)) (told.number_is ∙ eqb-true _ _ e)
-        ∙ ap (λ (cs : List Call). overCalls f cs (after k).board (over k)) calls-then
-        ∙ ap (λ (c : Board). overCalls f stepOwn c (over k)) told.board
-        ∙ ap (overCalls f stepOwn (afterCalls (calls k) b)) before
-        ∙ sym (over-append f (calls k) stepOwn b x)
-        ∙ ap (λ (t : Bool). overCalls f (calls k ++ cond t stepOwn []) b x) (sym e)
-    step-as false e before =
-        ap (λ (t : Bool). cond t (overCalls f (calls_at s k (after k)) (after k).board (over k)) (over k)) (ne_eqb _ _ (λ h. eqb-false _ _ e (sym told.number_is ∙ h)))
+    step_as : (t : Bool) → eqb (stop k) 0 ≡ t → over k ≡ over_calls f (calls k) b x → over (suc k) ≡ over_calls f (calls (suc k)) b x
+    step_as true e before =
+        ap (λ (j : ℕ). when_zero j (over_calls f (calls_at s k (after k)) (after k).board (over k)) (over k)) (told.number_is ∙ eqb-true _ _ e)
+        ∙ ap (λ (cs : List Call). over_calls f cs (after k).board (over k)) calls_then_lem
+        ∙ ap (λ (c : Board). over_calls f step_own c (over k)) told.board
+        ∙ ap (over_calls f step_own (after_calls (calls k) b)) before
+        ∙ sym (over_append f (calls k) step_own b x)
+        ∙ ap (λ (t : Bool). over_calls f (calls k ++ cond t step_own []) b x) (sym e)
+    step_as false e before =
+        ap (λ (t : Bool). cond t (over_calls f (calls_at s k (after k)) (after k).board (over k)) (over k)) (ne_eqb _ _ (λ h. eqb-false _ _ e (sym told.number_is ∙ h)))
         ∙ before
-        ∙ ap (λ (cs : List Call). overCalls f cs b x) (sym (append-nil (calls k)))
-        ∙ ap (λ (t : Bool). overCalls f (calls k ++ cond t stepOwn []) b x) (sym e)
+        ∙ ap (λ (cs : List Call). over_calls f cs b x) (sym (append-nil (calls k)))
+        ∙ ap (λ (t : Bool). over_calls f (calls k ++ cond t step_own []) b x) (sym e)
 
-  pub steps-over : (k : ℕ) → k ≤ length s.lengths → over k ≡ overCalls f (calls k) b x
-  steps-over zero l = refl
-  steps-over (suc k) l = step-as k l (eqb (stop k) 0) refl (steps-over k (omega arith))
+  pub steps_over : (k : ℕ) → k ≤ length s.lengths → over k ≡ over_calls f (calls k) b x
+  steps_over zero l = refl
+  steps_over (suc k) l = step_as k l (eqb (stop k) 0) refl (steps_over k (omega arith))
 
 -- all steps, where it is not refused
-pub taken-over : {A : Type 0} (f : Call → Board → A → A) (ok : Bool) (s : Script) (b : Board) (o n d : List ℕ) (x : A) → Own b → refusalOf ok s b o n d ≡ 0
-    → overSteps f s (length s.lengths) (unstepped 0 b o n d) x ≡ overCalls f (scriptCalls ok s b.state (length o) (length n) (length d)) b x
-taken-over f ok s b o n d x own z =
-    steps-over f ok s b o n d x own z (length s.lengths) (omega arith)
-    ∙ ap (λ (cs : List Call). overCalls f cs b x) (sym (taken-script ok s b o n d own.own-array own.own-rows z).1)
+pub taken_over : {A : Type 0} (f : Call → Board → A → A) (ok : Bool) (s : Script) (b : Board) (o n d : List ℕ) (x : A) → Own b → refusal_of ok s b o n d ≡ 0
+    → over_steps f s (length s.lengths) (unstepped 0 b o n d) x ≡ over_calls f (script_calls ok s b.state (length o) (length n) (length d)) b x
+taken_over f ok s b o n d x own z =
+    steps_over f ok s b o n d x own z (length s.lengths) (omega arith)
+    ∙ ap (λ (cs : List Call). over_calls f cs b x) (sym (taken_script ok s b o n d own.own_array own.own_rows z).1)

@@ -5,7 +5,7 @@ use Rattle.types.specs.declared.Answer.{Answer}
 use Rattle.types.specs.declared.Ticked.{Ticked}
 use Rattle.paper.specs.Operations.{Touch}
 use Rattle.paper.specs.Calls.{transacted, ticked}
-use Rattle.paper.specs.History.{Call, transaction, ticks, reachedBy}
+use Rattle.paper.specs.History.{Call, transaction, ticks, reached_by}
 use Rattle.history.specs.Run.{Run, done, sends, waits}
 
 -- what a call did: its answer, with the record that it returned, and for ticks what they reached, in order
@@ -17,15 +17,15 @@ pub data Step : Type 0 where
 abbrev pub course : {p q : Record} {xs rs ys ts : List ℕ} {cs : List Call} → Run p xs rs cs q ys ts → List Step
 course done = []
 course (sends a h run) = sent a ∷ course run
-course (waits {p} {q} {xs} {rs} {xs'} {rs'} {ys} {ts} {n} {cs} t h hx hr run) = waited t (reachedBy t.number n p) ∷ course run
+course (waits {p} {q} {xs} {rs} {xs'} {rs'} {ys} {ts} {n} {cs} t h hx hr run) = waited t (reached_by t.number n p) ∷ course run
 
 -- the course that calls tell, from a record with an array of a and rows of r bytes. It takes no stored byte
-abbrev pub courseOf : List Call → Record → ℕ → ℕ → List Step
-courseOf [] p a r = []
-courseOf (transaction wp i o ∷ cs) p a r =
-    sent (transacted p a r wp i o) ∷ courseOf cs (transacted p a r wp i o).next a r
-courseOf (ticks n ∷ cs) p a r =
-    waited (ticked p a r n) (reachedBy (ticked p a r n).number n p) ∷ courseOf cs (ticked p a r n).next a r
+abbrev pub course_of : List Call → Record → ℕ → ℕ → List Step
+course_of [] p a r = []
+course_of (transaction wp i o ∷ cs) p a r =
+    sent (transacted p a r wp i o) ∷ course_of cs (transacted p a r wp i o).next a r
+course_of (ticks n ∷ cs) p a r =
+    waited (ticked p a r n) (reached_by (ticked p a r n).number n p) ∷ course_of cs (ticked p a r n).next a r
 
 -- what the steps of a course reached, in order
 abbrev pub reached : List Step → List Touch

@@ -1,10 +1,10 @@
 // Why a command is ignored: the numbers 21 to 28, in the paper's order.
 ghost use Rattle.std.specs.Prelude.{◌≡◌, not};
 ghost use Rattle.words.specs.Logic.{◌or◌};
-ghost use Rattle.paper.specs.Phases.{eraseHalted, isSuspended};
-ghost use Rattle.paper.specs.Table.{takenSuspended};
+ghost use Rattle.paper.specs.Phases.{erase_halted, is_suspended};
+ghost use Rattle.paper.specs.Table.{taken_suspended};
 ghost use Rattle.paper.specs.Suspend.{suspendable};
-ghost use Rattle.paper.specs.Numbers.{stateOk, addressOk, pinOk, writeOk, freeOk, commandNumber};
+ghost use Rattle.paper.specs.Numbers.{state_ok, address_ok, pin_ok, write_ok, free_ok, command_number};
 
 use types::{
     Addressing, Columns, Named, Operation, Part, Phase, Register, Stored, Taken, Wanted, Work,
@@ -24,7 +24,7 @@ fn suspendable(phase: Phase) -> bool
 
 // 25: something runs that can be suspended, something can be resumed, the reset is armed.
 fn state_ok(wanted: Wanted, part: Part, phase: Phase) -> bool
-    ensures { result ≡ stateOk wanted part phase }
+    ensures { result ≡ state_ok wanted part phase }
 {
     match wanted {
         Wanted::Any => true,
@@ -36,7 +36,7 @@ fn state_ok(wanted: Wanted, part: Part, phase: Phase) -> bool
 
 // 27: a row address is valid.
 fn address_ok(named: Named, form: Addressing, input: &[u8]) -> bool
-    ensures { result ≡ addressOk named form input.now }
+    ensures { result ≡ address_ok named form input.now }
 {
     match named {
         Named::Bare => true,
@@ -47,7 +47,7 @@ fn address_ok(named: Named, form: Addressing, input: &[u8]) -> bool
 }
 
 fn pin_ok(register: Register, stored: Stored, wp: bool) -> bool
-    ensures { result ≡ pinOk register stored wp }
+    ensures { result ≡ pin_ok register stored wp }
 {
     match register {
         Register::Status => !protection::is_barred(stored.status, wp),
@@ -58,7 +58,7 @@ fn pin_ok(register: Register, stored: Stored, wp: bool) -> bool
 
 // A status write is not barred by the pin.
 fn write_ok(op: Operation, stored: Stored, wp: bool) -> bool
-    ensures { result ≡ writeOk op stored wp }
+    ensures { result ≡ write_ok op stored wp }
 {
     match op {
         Operation::Program { .. } => true,
@@ -69,7 +69,7 @@ fn write_ok(op: Operation, stored: Stored, wp: bool) -> bool
 
 // 28: what a command begins is not protected or locked, no program into the suspended unit, and not barred.
 fn free_ok(work: Work, part: Part, phase: Phase, wp: bool) -> bool
-    ensures { result ≡ freeOk work part phase wp }
+    ensures { result ≡ free_ok work part phase wp }
 {
     let stored = part.stored;
     match work {
@@ -84,7 +84,7 @@ fn free_ok(work: Work, part: Part, phase: Phase, wp: bool) -> bool
 
 // 23: the part is not suspended, or the command is taken then. What it is suspended from is looked at only where it is.
 fn suspended_ok(taken: Taken, phase: Phase) -> bool
-    ensures { result ≡ (takenSuspended taken (eraseHalted phase) or not (isSuspended phase)) }
+    ensures { result ≡ (taken_suspended taken (erase_halted phase) or not (is_suspended phase)) }
 {
     if !phases::is_suspended(phase) {
         return true;
@@ -103,7 +103,7 @@ pub fn command_number(
     input: &[u8],
     wp: bool,
 ) -> u8
-    ensures { result ≡ commandNumber k form work part phase input.now wp }
+    ensures { result ≡ command_number k form work part phase input.now wp }
 {
     let taken = k.taken;
     let length = k.length;

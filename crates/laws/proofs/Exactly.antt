@@ -10,39 +10,39 @@ use Rattle.types.specs.declared.Work.{Work}
 use Rattle.types.specs.declared.Record.{Record}
 use Rattle.types.specs.declared.Answer.{Answer}
 use Rattle.words.proofs.Tests.{and_l}
-use Rattle.paper.specs.Sizes.{arrayBytes, rowsBytes}
+use Rattle.paper.specs.Sizes.{array_bytes, rows_bytes}
 use Rattle.paper.specs.Table.{columns}
 use Rattle.paper.specs.Commands.{begun}
-use Rattle.paper.specs.Numbers.{addressOk, freeOk}
+use Rattle.paper.specs.Numbers.{address_ok, free_ok}
 use Rattle.paper.specs.Calls.{transacted}
-use Rattle.paper.proofs.Numbers.{transaction-taken, command-taken}
-use Rattle.paper.proofs.Answers.{not-refused-then, not-ignored}
+use Rattle.paper.proofs.Numbers.{transaction_taken, command_taken}
+use Rattle.paper.proofs.Answers.{not_refused_then, not_ignored}
 use Rattle.laws.specs.Writes.{Kind, OfKind, Fitting}
 use Rattle.laws.specs.DriverLaws.{FitsExactly}
-use Rattle.laws.proofs.Commanded.{sent-as, begun-as, commanded, enabled, enabled-sound, fits-standing, standing-fits}
-use Rattle.laws.proofs.Written.{opened-number}
+use Rattle.laws.proofs.Commanded.{sent_as_lem, begun_as_lem, commanded, enabled, enabled_sound, fits_standing, standing_fits}
+use Rattle.laws.proofs.Written.{opened_number}
 
 -- a record: what it executes fits it
-executed-fits : (p : Record) (d : Kind) (wp : Bool) (i : List ℕ) → OfKind p.part.blocks p.part.bank d i → (transacted p (arrayBytes p.part.blocks) rowsBytes wp i (length i)).number ≡ 0 → Fitting p d i
-executed-fits p d wp i c z =
+executed_fits : (p : Record) (d : Kind) (wp : Bool) (i : List ℕ) → OfKind p.part.blocks p.part.bank d i → (transacted p (array_bytes p.part.blocks) rows_bytes wp i (length i)).number ≡ 0 → Fitting p d i
+executed_fits p d wp i c z =
     let k = columns c.command in
-    let a = arrayBytes p.part.blocks in
-    let t = transaction-taken _ _ _ _ _ _ (not-refused-then p a rowsBytes wp i (length i) c.command c.known z) in
-    let x = command-taken k (begun k p.part i) p.part p.phase i wp (not-ignored p a rowsBytes wp i (length i) c.command c.known z) in
+    let a = array_bytes p.part.blocks in
+    let t = transaction_taken _ _ _ _ _ _ (not_refused_then p a rows_bytes wp i (length i) c.command c.known z) in
+    let x = command_taken k (begun k p.part i) p.part p.phase i wp (not_ignored p a rows_bytes wp i (length i) c.command c.known z) in
     record {
       code = c;
       some = t.some;
       most = t.few;
-      right-length = x.length-ok;
-      right-address = sym (ap (λ (g : Addressing). addressOk k.named g i) (sent-as p d i c)) ∙ x.address-ok;
-      free-target = and_l _ _ (sym (ap (λ (w : Work). freeOk w p.part p.phase wp) (begun-as p d i c)) ∙ x.free-ok);
+      right_length = x.length_ok_lem;
+      right_address = sym (ap (λ (g : Addressing). address_ok k.named g i) (sent_as_lem p d i c)) ∙ x.address_ok_lem;
+      free_target = and_l _ _ (sym (ap (λ (w : Work). free_ok w p.part p.phase wp) (begun_as_lem p d i c)) ∙ x.free_ok_lem);
     }
 
 -- a board: after 06h and checks the record has WEL 1, and what fits it then fitted before
-pub fits-exactly : FitsExactly
-fits-exactly b d w r c h =
+pub fits_exactly : FitsExactly
+fits_exactly b d w r c h =
     let p = b.state in
-    let n = opened-number b r w h in (
-      λ z. standing-fits p Idle true p.page d w.input (executed-fits (enabled p) d w.sentAt w.input c (sym n ∙ z)),
-      λ f. n ∙ ap (λ (t : Answer). t.number) (commanded (enabled p) (enabled-sound p r.is-sound r.idle r.awake) refl r.awake refl d w.input (fits-standing p Idle true p.page d w.input f) w.sentAt),
+    let n = opened_number b r w h in (
+      λ z. standing_fits p Idle true p.page d w.input (executed_fits (enabled p) d w.sent_at w.input c (sym n ∙ z)),
+      λ f. n ∙ ap (λ (t : Answer). t.number) (commanded (enabled p) (enabled_sound p r.is_sound r.idle r.awake) refl r.awake refl d w.input (fits_standing p Idle true p.page d w.input f) w.sent_at),
     )

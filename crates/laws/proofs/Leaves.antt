@@ -12,57 +12,57 @@ use Rattle.types.specs.declared.EraseUnit.{EraseUnit}
 use Rattle.types.specs.declared.Addressing.{Addressing}
 use Rattle.types.specs.declared.Record.{Record}
 use Rattle.words.specs.Logic.{◌and◌}
-use Rattle.words.proofs.Tests.{and_assoc, and-false, same_tests}
-use Rattle.paper.specs.Sizes.{pageBytes, sameMemory, fromOn}
+use Rattle.words.proofs.Tests.{and_assoc, and_false, same_tests}
+use Rattle.paper.specs.Sizes.{page_bytes, same_memory, from_on}
 use Rattle.paper.specs.Address.{place_in}
-use Rattle.paper.specs.Program.{pageBase, dataSent, keptCount, passedCount, pageData, program_of, narrowedByte}
-use Rattle.paper.specs.Erase.{memoryOf, unitPages, unitBytes, unitBase, erasedByte, eraseOf}
-use Rattle.paper.specs.ByPlace.{byteEnded}
+use Rattle.paper.specs.Program.{page_base, data_sent, kept_count, passed_count, page_data, program_of, narrowed_byte}
+use Rattle.paper.specs.Erase.{memory_of, unit_pages, unit_bytes, unit_base, erased_byte, erase_of}
+use Rattle.paper.specs.ByPlace.{byte_ended}
 use Rattle.paper.proofs.KeptBytes.{kept_byte}
-use Rattle.paper.proofs.ByPlace.{from_on, on-from}
-use Rattle.laws.specs.Writes.{Kind, program, erase, sentAs, begunBy, byteTo, byteProgrammed, byteErased, byteWritten}
-use Rattle.laws.proofs.Commanded.{keptFor}
+use Rattle.paper.proofs.ByPlace.{from_on_lem, on_from}
+use Rattle.laws.specs.Writes.{Kind, program, erase, sent_as, begun_by, byte_to, byte_programmed, byte_erased, byte_written}
+use Rattle.laws.proofs.Commanded.{kept_for}
 
 -- a byte of the data that counts
 module _ (d : List ℕ) (k x : ℕ) (s f : Bool) where
-  counts : fromOn 0 (keptCount d - 0) k ≡ ltb k (keptCount d)
+  counts : from_on 0 (kept_count d - 0) k ≡ ltb k (kept_count d)
   counts =
-      same_tests (fromOn 0 (keptCount d - 0) k) (ltb k (keptCount d))
-      (λ h. let r = on-from 0 (keptCount d - 0) k h in lt-ltb k (keptCount d) (omega (arith, r)))
-      (λ h. let r : k < keptCount d = ltb-true _ _ h in from_on 0 (keptCount d - 0) k (omega arith) (omega arith))
+      same_tests (from_on 0 (kept_count d - 0) k) (ltb k (kept_count d))
+      (λ h. let r = on_from 0 (kept_count d - 0) k h in lt-ltb k (kept_count d) (omega (arith, r)))
+      (λ h. let r : k < kept_count d = ltb-true _ _ h in from_on_lem 0 (kept_count d - 0) k (omega arith) (omega arith))
 
-  byte-sent : (t : Bool) → ltb k (keptCount d) ≡ t
-      → cond (s and f and t) (narrowedByte x (get_or (pageData d) k 0)) x ≡ cond (s and f and t) (narrowedByte x (get_or d (passedCount d + k) 0)) x
-  byte-sent true e = ap (λ (y : ℕ). cond (s and f and true) (narrowedByte x y) x) (kept_byte d k (ltb-true _ _ e))
-  byte-sent false e =
-      let z : (s and f and false) ≡ false = ap (λ (t : Bool). s and t) (and-false f) ∙ and-false s in
+  byte_sent : (t : Bool) → ltb k (kept_count d) ≡ t
+      → cond (s and f and t) (narrowed_byte x (get_or (page_data d) k 0)) x ≡ cond (s and f and t) (narrowed_byte x (get_or d (passed_count d + k) 0)) x
+  byte_sent true e = ap (λ (y : ℕ). cond (s and f and true) (narrowed_byte x y) x) (kept_byte d k (ltb-true _ _ e))
+  byte_sent false e =
+      let z : (s and f and false) ≡ false = ap (λ (t : Bool). s and t) (and_false f) ∙ and_false s in
       rw z refl
 
-  kept-or-sent : cond (s and f and fromOn 0 (keptCount d - 0) k) (narrowedByte x (get_or (pageData d) k 0)) x ≡ cond (s and f and ltb k (keptCount d)) (narrowedByte x (get_or d (passedCount d + k) 0)) x
-  kept-or-sent =
-      ap (λ (t : Bool). cond (s and f and t) (narrowedByte x (get_or (pageData d) k 0)) x) counts ∙ byte-sent (ltb k (keptCount d)) refl
+  kept_or_sent : cond (s and f and from_on 0 (kept_count d - 0) k) (narrowed_byte x (get_or (page_data d) k 0)) x ≡ cond (s and f and ltb k (kept_count d)) (narrowed_byte x (get_or d (passed_count d + k) 0)) x
+  kept_or_sent =
+      ap (λ (t : Bool). cond (s and f and t) (narrowed_byte x (get_or (page_data d) k 0)) x) counts ∙ byte_sent (ltb k (kept_count d)) refl
 
 module _ (m : Memory) (at x : ℕ) where
-  program-leaves : (w : Memory) (g : Addressing) (n : ℕ) (i : List ℕ)
-      → byteEnded (program_of w g n i) n (pageData (dataSent g i)) m at x ≡ byteProgrammed w (place_in w g n i) (dataSent g i) m at x
+  program_leaves : (w : Memory) (g : Addressing) (n : ℕ) (i : List ℕ)
+      → byte_ended (program_of w g n i) n (page_data (data_sent g i)) m at x ≡ byte_programmed w (place_in w g n i) (data_sent g i) m at x
   unfolding program_of
-  program-leaves w g n i =
+  program_leaves w g n i =
       let a = place_in w g n i in
-      let d = dataSent g i in
-      kept-or-sent d (byteTo a d at) x (sameMemory m w) (fromOn (pageBase a) pageBytes at)
-      ∙ ap (λ (t : Bool). cond t (narrowedByte x (get_or d (passedCount d + byteTo a d at) 0)) x) (and_assoc (sameMemory m w) (fromOn (pageBase a) pageBytes at) (ltb (byteTo a d at) (keptCount d)))
+      let d = data_sent g i in
+      kept_or_sent d (byte_to a d at) x (same_memory m w) (from_on (page_base a) page_bytes at)
+      ∙ ap (λ (t : Bool). cond t (narrowed_byte x (get_or d (passed_count d + byte_to a d at) 0)) x) (and_assoc (same_memory m w) (from_on (page_base a) page_bytes at) (ltb (byte_to a d at) (kept_count d)))
 
-  erase-leaves : (u : EraseUnit) (g : Addressing) (n : ℕ) (i page : List ℕ)
-      → byteEnded (eraseOf u g n i) n page m at x ≡ byteErased u n (place_in (memoryOf u) g n i) m at x
-  unfolding eraseOf
-  erase-leaves u g n i page =
-      let b = unitBase u n (place_in (memoryOf u) g n i) in
-      let e : b + 0 * pageBytes ≡ b = omega arith in
-      let f : (unitPages u n - 0) * pageBytes ≡ unitBytes u n = omega arith in
-      ap (λ (c : ℕ). cond (sameMemory m (memoryOf u) and fromOn c ((unitPages u n - 0) * pageBytes) at) erasedByte x) e
-      ∙ ap (λ (c : ℕ). cond (sameMemory m (memoryOf u) and fromOn b c at) erasedByte x) f
+  erase_leaves : (u : EraseUnit) (g : Addressing) (n : ℕ) (i page : List ℕ)
+      → byte_ended (erase_of u g n i) n page m at x ≡ byte_erased u n (place_in (memory_of u) g n i) m at x
+  unfolding erase_of
+  erase_leaves u g n i page =
+      let b = unit_base u n (place_in (memory_of u) g n i) in
+      let e : b + 0 * page_bytes ≡ b = omega arith in
+      let f : (unit_pages u n - 0) * page_bytes ≡ unit_bytes u n = omega arith in
+      ap (λ (c : ℕ). cond (same_memory m (memory_of u) and from_on c ((unit_pages u n - 0) * page_bytes) at) erased_byte x) e
+      ∙ ap (λ (c : ℕ). cond (same_memory m (memory_of u) and from_on b c at) erased_byte x) f
 
-  pub kind-leaves : (p : Record) (d : Kind) (i page : List ℕ)
-      → byteEnded (begunBy p d i) p.part.blocks (keptFor d (sentAs p i) i page) m at x ≡ byteWritten p d i m at x
-  kind-leaves p (program w) i page = program-leaves w (sentAs p i) p.part.blocks i
-  kind-leaves p (erase u) i page = erase-leaves u (sentAs p i) p.part.blocks i page
+  pub kind_leaves : (p : Record) (d : Kind) (i page : List ℕ)
+      → byte_ended (begun_by p d i) p.part.blocks (kept_for d (sent_as p i) i page) m at x ≡ byte_written p d i m at x
+  kind_leaves p (program w) i page = program_leaves w (sent_as p i) p.part.blocks i
+  kind_leaves p (erase u) i page = erase_leaves u (sent_as p i) p.part.blocks i page

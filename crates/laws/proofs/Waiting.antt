@@ -9,76 +9,76 @@ use Rattle.types.specs.declared.Decoded.TheVariants.{Known, Unknown}
 use Rattle.types.specs.declared.Part.{Part}
 use Rattle.types.specs.declared.Record.{Record}
 use Rattle.words.proofs.Tests.{and_l, and_r}
-use Rattle.paper.specs.Sizes.{arrayBytes, rowsBytes}
+use Rattle.paper.specs.Sizes.{array_bytes, rows_bytes}
 use Rattle.paper.specs.Records.{marked}
 use Rattle.paper.specs.Operations.{Touch}
 use Rattle.paper.specs.Soundness.{sound}
 use Rattle.paper.specs.Table.{decoded}
-use Rattle.paper.specs.Ticks.{recordAfter}
-use Rattle.paper.specs.History.{Call, transaction, ticks, recordAfterCall, ticksBy, recordAfterCalls, tickTouches, callTouches, history}
-use Rattle.paper.proofs.Soundness.{recordOf}
-use Rattle.paper.proofs.Kept.{run_sound, run-keeps}
-use Rattle.paper.proofs.ManyTicks.{ticks-more}
+use Rattle.paper.specs.Ticks.{record_after}
+use Rattle.paper.specs.History.{Call, transaction, ticks, record_after_call, ticks_by, record_after_calls, tick_touches, call_touches, history}
+use Rattle.paper.proofs.Soundness.{record_of}
+use Rattle.paper.proofs.Kept.{run_sound, run_keeps}
+use Rattle.paper.proofs.ManyTicks.{ticks_more}
 use Rattle.paper.proofs.ReadsKept.{after_read}
-use Rattle.paper.proofs.TickCalls.{Passes, ticks-pass}
-use Rattle.paper.proofs.Histories.{touches-more}
-use Rattle.laws.specs.Waiting.{isReadBy, waits, allWait, ticksGiven}
+use Rattle.paper.proofs.TickCalls.{Passes, ticks_pass}
+use Rattle.paper.proofs.Histories.{touches_more}
+use Rattle.laws.specs.Waiting.{is_read_by, waits, all_wait, ticks_given}
 
 -- a sound, awake and unarmed part of n blocks under a bank register
 pub record Quiet (n bank : ℕ) (p : Record) : Type 0 where
-  pub is-sound : sound p ≡ true
+  pub is_sound : sound p ≡ true
   pub awake : p.part.asleep ≡ false
   pub unarmed : p.part.armed ≡ false
   pub size : p.part.blocks ≡ n
-  pub bank-is : p.part.bank ≡ bank
+  pub bank_is : p.part.bank ≡ bank
 
 -- a call leaves a record, and reaches what was told
 record Does (c : Call) (p q : Record) (ts : List Touch) : Type 0 where
-  next : recordAfterCall c p ≡ q
-  reached : callTouches c p ≡ ts
+  next : record_after_call c p ≡ q
+  reached : call_touches c p ≡ ts
 
 module _ (n bank : ℕ) (p : Record) (r : Quiet n bank p) where
   -- a read
-  read_by : (wp : Bool) (i : List ℕ) (o : ℕ) (d : Decoded) → decoded p.part.blocks p.part.bank (get_or i 0 0) ≡ d → isReadBy d ≡ true → recordAfterCall (transaction wp i o) p ≡ p
+  read_by : (wp : Bool) (i : List ℕ) (o : ℕ) (d : Decoded) → decoded p.part.blocks p.part.bank (get_or i 0 0) ≡ d → is_read_by d ≡ true → record_after_call (transaction wp i o) p ≡ p
   read_by wp i o (Known k) e h =
-      after_read (λ (q : Record). q ≡ p) p r.awake wp i refl (ap (λ (t : Bool). recordOf p.identity (marked p.part t) p.phase p.page) (sym r.unarmed)) k e h (arrayBytes p.part.blocks) rowsBytes o
+      after_read (λ (q : Record). q ≡ p) p r.awake wp i refl (ap (λ (t : Bool). record_of p.identity (marked p.part t) p.phase p.page) (sym r.unarmed)) k e h (array_bytes p.part.blocks) rows_bytes o
   read_by wp i o Unknown e h = absurd (false≢true h)
 
-  waits_one : (c : Call) → waits n bank c ≡ true → Does c p (recordAfter (ticksBy n c) p) (tickTouches (ticksBy n c) p)
+  waits_one : (c : Call) → waits n bank c ≡ true → Does c p (record_after (ticks_by n c) p) (tick_touches (ticks_by n c) p)
   waits_one (transaction wp i o) h =
-      let e : decoded p.part.blocks p.part.bank (get_or i 0 0) ≡ decoded n bank (get_or i 0 0) = rw (r.size, r.bank-is) refl in
+      let e : decoded p.part.blocks p.part.bank (get_or i 0 0) ≡ decoded n bank (get_or i 0 0) = rw (r.size, r.bank_is) refl in
       record { next = read_by wp i o (decoded n bank (get_or i 0 0)) e h; reached = refl }
   waits_one (ticks k) h =
-      let d = subst (λ (b : ℕ). Passes p k (ticksBy b (ticks k))) r.size (ticks-pass p r.is-sound k) in
+      let d = subst (λ (b : ℕ). Passes p k (ticks_by b (ticks k))) r.size (ticks_pass p r.is_sound k) in
       record { next = d.next; reached = d.reached }
 
   -- ticks leave it so
-  quiet-after : (k : ℕ) → Quiet n bank (recordAfter k p)
-  quiet-after k =
+  quiet_after : (k : ℕ) → Quiet n bank (record_after k p)
+  quiet_after k =
       record {
-        is-sound = run_sound k p r.is-sound;
-        awake = run-keeps (λ (q : Part). q.asleep) (λ q g h wel. refl) k p ∙ r.awake;
-        unarmed = run-keeps (λ (q : Part). q.armed) (λ q g h wel. refl) k p ∙ r.unarmed;
-        size = run-keeps (λ (q : Part). q.blocks) (λ q g h wel. refl) k p ∙ r.size;
-        bank-is = run-keeps (λ (q : Part). q.bank) (λ q g h wel. refl) k p ∙ r.bank-is;
+        is_sound = run_sound k p r.is_sound;
+        awake = run_keeps (λ (q : Part). q.asleep) (λ q g h wel. refl) k p ∙ r.awake;
+        unarmed = run_keeps (λ (q : Part). q.armed) (λ q g h wel. refl) k p ∙ r.unarmed;
+        size = run_keeps (λ (q : Part). q.blocks) (λ q g h wel. refl) k p ∙ r.size;
+        bank_is = run_keeps (λ (q : Part). q.bank) (λ q g h wel. refl) k p ∙ r.bank_is;
       }
 
 -- calls that wait
 module _ (n bank : ℕ) where
-  pub waited-record : (cs : List Call) (p : Record) → Quiet n bank p → allWait n bank cs ≡ true → recordAfterCalls cs p ≡ recordAfter (ticksGiven n cs) p
-  waited-record [] p r h = refl
-  waited-record (c ∷ cs) p r h =
-      let k = ticksBy n c in
-      ap (recordAfterCalls cs) (waits_one n bank p r c (and_l _ _ h)).next
-      ∙ waited-record cs (recordAfter k p) (quiet-after n bank p r k) (and_r _ _ h)
-      ∙ sym (ticks-more k (ticksGiven n cs) p)
+  pub waited_record : (cs : List Call) (p : Record) → Quiet n bank p → all_wait n bank cs ≡ true → record_after_calls cs p ≡ record_after (ticks_given n cs) p
+  waited_record [] p r h = refl
+  waited_record (c ∷ cs) p r h =
+      let k = ticks_by n c in
+      ap (record_after_calls cs) (waits_one n bank p r c (and_l _ _ h)).next
+      ∙ waited_record cs (record_after k p) (quiet_after n bank p r k) (and_r _ _ h)
+      ∙ sym (ticks_more k (ticks_given n cs) p)
 
-  pub waited-touches : (cs : List Call) (p : Record) → Quiet n bank p → allWait n bank cs ≡ true → history cs p ≡ tickTouches (ticksGiven n cs) p
-  waited-touches [] p r h = refl
-  waited-touches (c ∷ cs) p r h =
-      let k = ticksBy n c in
+  pub waited_touches : (cs : List Call) (p : Record) → Quiet n bank p → all_wait n bank cs ≡ true → history cs p ≡ tick_touches (ticks_given n cs) p
+  waited_touches [] p r h = refl
+  waited_touches (c ∷ cs) p r h =
+      let k = ticks_by n c in
       let d = waits_one n bank p r c (and_l _ _ h) in
-      ap (λ (ts : List Touch). ts ++ history cs (recordAfterCall c p)) d.reached
-      ∙ ap (λ (q : Record). tickTouches k p ++ history cs q) d.next
-      ∙ ap (λ (ts : List Touch). tickTouches k p ++ ts) (waited-touches cs (recordAfter k p) (quiet-after n bank p r k) (and_r _ _ h))
-      ∙ sym (touches-more k (ticksGiven n cs) p)
+      ap (λ (ts : List Touch). ts ++ history cs (record_after_call c p)) d.reached
+      ∙ ap (λ (q : Record). tick_touches k p ++ history cs q) d.next
+      ∙ ap (λ (ts : List Touch). tick_touches k p ++ ts) (waited_touches cs (record_after k p) (quiet_after n bank p r k) (and_r _ _ h))
+      ∙ sym (touches_more k (ticks_given n cs) p)

@@ -1,6 +1,6 @@
 -- A local array, lent whole as a `&mut [T]`, and its room once it is back.
 --     lends_local      the cell of an array of n elements, and what it owns  ⊢ ⇛ ∃ γ. own (the `&κ mut [T]` ((b, 0), γ, xs)) ∗ the lender's part.        `Denote/Lend.antt`'s `slice_back` takes it back
---     room-local       n elements side by side, as `slice_back` gives them  ⊢  the room of the array's local
+--     room_local       n elements side by side, as `slice_back` gives them  ⊢  the room of the array's local
 -- Assumes `Logic`, that T has one MIR type, and for the room that T's relation tells its machine values.
 use mathlib.Core.Path.{◌≡◌, refl, sym, subst}
 use Prim.Native.Nat.{ℕ}
@@ -48,9 +48,9 @@ module _ {M : Type 1} {𝓤 : Ura M} (𝓛 : Logic 𝓤) (R : RattleType) (one :
       (subst (λ (m : ℕ). ent 𝓤 (sem 𝓛 (cells (mem R) xs b 0)) (H.⇛ (ex 𝓤 (λ (γ : GName). sep 𝓤 (sem 𝓛 ((MutSlice ℓ κ R).own_val (record { ref_ptr = (b, 0); ghost_name = γ; now = xs }) (slice_val (b, 0) m ∷ []))) (A.lent κ (Held R m b 0 γ)))))) e
       (lends_slice 𝓛 R ℓ κ xs b 0 (subst (Room R) (sym e) room)))
 
-  pub room-local : (vals : R.Denot → List Val) → Tells R (Is R) vals → (zs : List R.Denot) → ent 𝓤 (sem 𝓛 ((arr_parts (shares R) n).part full_share zs b 0)) (H.room τ b 0)
+  pub room_local : (vals : R.Denot → List Val) → Tells R (Is R) vals → (zs : List R.Denot) → ent 𝓤 (sem 𝓛 ((arr_parts (shares R) n).part full_share zs b 0)) (H.room τ b 0)
   unfolding part_of
-  room-local vals tells zs =
+  room_local vals tells zs =
       qed 𝓛 (‵ ((arr_parts (shares R) n).part full_share zs b 0) ∷ []) ∵ use1 𝓛 (‵ (part_at (Array R n) full_share zs b 0)) (Array-whole 𝓛 R full_share n zs b 0) $ fpick ! (λ vs. fsplit ! $ move ! (1 ∷ []) $
       peeks ! (Array R n) (Is (Array R n)) (shows 𝓛 (Array R n)) zs vs (λ is. drop ! $ rewrite ! 0 (λ (us : List Val). ‵ (cell_at full_share (Array R n).mir us b 0)) (Array-Tells R vals tells n zs vs is) refl $
       use1 𝓛 (‵ (fat full_share τ b 0 (only (array_vals vals zs)))) (𝓛.laws.raw_at full_share τ b 0 (only (array_vals vals zs))) $ use1 𝓛 (‵ (froom τ b 0)) (𝓛.laws.at_room τ b 0 (only (array_vals vals zs))) $ done !))

@@ -13,40 +13,40 @@ use Rattle.types.specs.declared.Line.TheVariants.{Transaction, Ticks, Neither}
 use Rattle.words.specs.Logic.{◌and◌}
 use Rattle.words.specs.Lists.{every}
 use Rattle.words.proofs.Lists.{drop_min}
-use Rattle.words.proofs.Tests.{and_l, and_r, and-false, same-leb}
-use Rattle.paper.specs.Bench.{isHex, letterT, letterL, letterK, begins, numeralFrom, pairsOk, digitsOk, line_of}
+use Rattle.words.proofs.Tests.{and_l, and_r, and_false, same_leb}
+use Rattle.paper.specs.Bench.{is_hex, letter_t, letter_l, letter_k, begins, numeral_from, pairs_ok, digits_ok, line_of}
 
 -- what follows the first two characters, if they are there
-pub rest-is : (l : List ℕ) (s : ℕ) → s ≡ min 2 (length l) → take (length l - s) (drop s l) ≡ drop 2 l
-rest-is l s h = take_all (length l - s) (drop s l) (simp length-drop (omega arith)) ∙ rw h (drop_min 2 l)
+pub rest_is : (l : List ℕ) (s : ℕ) → s ≡ min 2 (length l) → take (length l - s) (drop s l) ≡ drop 2 l
+rest_is l s h = take_all (length l - s) (drop s l) (simp length-drop (omega arith)) ∙ rw h (drop_min 2 l)
 
 -- a line of fewer than two characters begins with no letter and space
-pub begins-short : (letter : ℕ) (l : List ℕ) → length l < 2 → begins letter l ≡ false
+pub begins_short : (letter : ℕ) (l : List ℕ) → length l < 2 → begins letter l ≡ false
 unfolding begins
-begins-short letter l h =
+begins_short letter l h =
     let e : get_or l 1 0 ≡ 0 = get_or-eq_default l 0 (omega arith) in
-    rw e (and-false _)
+    rw e (and_false _)
 
 -- an even number of characters is at most twice so many where its half is at most so many
-few-pairs : (n most : ℕ) (t u v : Bool) → eqb (n % 2) 0 ≡ t → (t and u and leb (n / 2) most and v) ≡ (t and u and leb n (2 * most) and v)
+few_pairs : (n most : ℕ) (t u v : Bool) → eqb (n % 2) 0 ≡ t → (t and u and leb (n / 2) most and v) ≡ (t and u and leb n (2 * most) and v)
 unfolding ◌and◌
-few-pairs n most true u v e =
+few_pairs n most true u v e =
     let z : n % 2 ≡ 0 = eqb-true (n % 2) 0 e in
-    rw (same-leb (n / 2) most n (2 * most) (λ h. omega arith) (λ h. omega arith))
-few-pairs n most false u v e = refl
+    rw (same_leb (n / 2) most n (2 * most) (λ h. omega arith) (λ h. omega arith))
+few_pairs n most false u v e = refl
 
-pub pairs-as : (most : ℕ) (xs : List ℕ) → (eqb (length xs % 2) 0 and leb 2 (length xs) and leb (length xs / 2) most and every isHex xs) ≡ pairsOk most xs
-unfolding pairsOk
-pairs-as most xs = few-pairs (length xs) most _ _ _ refl
+pub pairs_as : (most : ℕ) (xs : List ℕ) → (eqb (length xs % 2) 0 and leb 2 (length xs) and leb (length xs / 2) most and every is_hex xs) ≡ pairs_ok most xs
+unfolding pairs_ok
+pairs_as most xs = few_pairs (length xs) most _ _ _ refl
 
 -- the lengths of digits, and of pairs
-pub digits-count : (xs : List ℕ) → digitsOk xs ≡ true → (1 ≤ length xs) × (length xs ≤ 5)
-unfolding digitsOk
-digits-count xs e = (leb-true _ _ (and_l _ _ e), leb-true _ _ (and_l _ _ (and_r _ _ e)))
+pub digits_count : (xs : List ℕ) → digits_ok xs ≡ true → (1 ≤ length xs) × (length xs ≤ 5)
+unfolding digits_ok
+digits_count xs e = (leb-true _ _ (and_l _ _ e), leb-true _ _ (and_l _ _ (and_r _ _ e)))
 
-pub pairs-count : (most : ℕ) (xs : List ℕ) → pairsOk most xs ≡ true → (length xs % 2 ≡ 0) × (2 ≤ length xs) × (length xs ≤ 2 * most)
-unfolding pairsOk
-pairs-count most xs e =
+pub pairs_count : (most : ℕ) (xs : List ℕ) → pairs_ok most xs ≡ true → (length xs % 2 ≡ 0) × (2 ≤ length xs) × (length xs ≤ 2 * most)
+unfolding pairs_ok
+pairs_count most xs e =
     (eqb-true _ _ (and_l _ _ e), leb-true _ _ (and_l _ _ (and_r _ _ e)), leb-true _ _ (and_l _ _ (and_r _ _ (and_r _ _ e))))
 
 -- a test r of a line's beginning and of what follows, ds, which the code has as ts
@@ -55,17 +55,17 @@ said F X x y r v ts ds e f g h k = rw (← e, ← h, ← g, ← f) k
 
 -- a line that says a transaction has pairs, and one that says ticks has digits
 abbrev pub Says : ℕ → List ℕ → Line → Type 0
-Says most l (Transaction wp) = pairsOk most (drop 2 l) ≡ true
-Says most l (Ticks n) = digitsOk (drop 2 l) ≡ true
+Says most l (Transaction wp) = pairs_ok most (drop 2 l) ≡ true
+Says most l (Ticks n) = digits_ok (drop 2 l) ≡ true
 Says most l Neither = Unit {0}
 
-says-as : (most : ℕ) (l : List ℕ) (n : ℕ) (t u v : Bool) → (begins letterT l and pairsOk most (drop 2 l)) ≡ t → (begins letterL l and pairsOk most (drop 2 l)) ≡ u → (begins letterK l and digitsOk (drop 2 l)) ≡ v
+says_as : (most : ℕ) (l : List ℕ) (n : ℕ) (t u v : Bool) → (begins letter_t l and pairs_ok most (drop 2 l)) ≡ t → (begins letter_l l and pairs_ok most (drop 2 l)) ≡ u → (begins letter_k l and digits_ok (drop 2 l)) ≡ v
     → Says most l (cond t (Transaction true) (cond u (Transaction false) (cond v (Ticks n) Neither)))
-says-as most l n true u v e f g = and_r _ _ e
-says-as most l n false true v e f g = and_r _ _ f
-says-as most l n false false true e f g = and_r _ _ g
-says-as most l n false false false e f g = tt
+says_as most l n true u v e f g = and_r _ _ e
+says_as most l n false true v e f g = and_r _ _ f
+says_as most l n false false true e f g = and_r _ _ g
+says_as most l n false false false e f g = tt
 
-pub line-says : (most : ℕ) (l : List ℕ) → Says most l (line_of most l)
+pub line_says : (most : ℕ) (l : List ℕ) → Says most l (line_of most l)
 unfolding line_of
-line-says most l = says-as most l (numeralFrom 0 (drop 2 l)) _ _ _ refl refl refl
+line_says most l = says_as most l (numeral_from 0 (drop 2 l)) _ _ _ refl refl refl

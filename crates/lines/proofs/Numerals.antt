@@ -8,8 +8,8 @@ use lib.Dec.{leb}
 use lib.ListN.{length, drop, get_or, set, length-drop, drop_of_length-le}
 use lib.Seq.{sets, sets-eq, drop-cons, drop-length}
 use borrow.Author.Tests.{leb-true, leb-false}
-use Rattle.words.proofs.Lists.{sets-out}
-use Rattle.paper.specs.Bench.{digitValue, hexValue, pairs, numeralFrom}
+use Rattle.words.proofs.Lists.{sets_out}
+use Rattle.paper.specs.Bench.{digit_value, hex_value, pairs, numeral_from}
 
 -- 10 times 10, so often
 abbrev pub tens : ℕ → ℕ
@@ -17,43 +17,43 @@ tens zero = 1
 tens (suc i) = 10 * tens i
 
 -- a number of at most five digits
-pub tens-most : (i : ℕ) → i ≤ 5 → tens i ≤ 100000
-tens-most zero h = omega arith
-tens-most (suc zero) h = omega arith
-tens-most (suc (suc zero)) h = omega arith
-tens-most (suc (suc (suc zero))) h = omega arith
-tens-most (suc (suc (suc (suc zero)))) h = omega arith
-tens-most (suc (suc (suc (suc (suc zero))))) h = omega arith
-tens-most (suc (suc (suc (suc (suc (suc i)))))) h = absurd (omega arith)
+pub tens_most : (i : ℕ) → i ≤ 5 → tens i ≤ 100000
+tens_most zero h = omega arith
+tens_most (suc zero) h = omega arith
+tens_most (suc (suc zero)) h = omega arith
+tens_most (suc (suc (suc zero))) h = omega arith
+tens_most (suc (suc (suc (suc zero)))) h = omega arith
+tens_most (suc (suc (suc (suc (suc zero))))) h = omega arith
+tens_most (suc (suc (suc (suc (suc (suc i)))))) h = absurd (omega arith)
 
-pub numeral-more : (xs : List ℕ) (n i : ℕ) → i < length xs → numeralFrom n (drop i xs) ≡ numeralFrom (10 * n + digitValue (get_or xs i 0)) (drop (suc i) xs)
-numeral-more xs n i h = rw (drop-cons xs i 0 h)
+pub numeral_more : (xs : List ℕ) (n i : ℕ) → i < length xs → numeral_from n (drop i xs) ≡ numeral_from (10 * n + digit_value (get_or xs i 0)) (drop (suc i) xs)
+numeral_more xs n i h = rw (drop-cons xs i 0 h)
 
-pub numeral-end : (xs : List ℕ) (n i : ℕ) → length xs ≤ i → numeralFrom n (drop i xs) ≡ n
-numeral-end xs n i h = rw (drop_of_length-le xs h)
+pub numeral_end : (xs : List ℕ) (n i : ℕ) → length xs ≤ i → numeral_from n (drop i xs) ≡ n
+numeral_end xs n i h = rw (drop_of_length-le xs h)
 
 -- pairs put into bs from a place on: one more, and none where the pairs or the places are at an end
-pub pairs-more : (xs bs : List ℕ) (i : ℕ) → 2 * i + 1 < length xs
-    → sets bs i (pairs (drop (2 * i) xs)) ≡ sets (set bs i (16 * hexValue (get_or xs (2 * i) 0) + hexValue (get_or xs (2 * i + 1) 0))) (suc i) (pairs (drop (2 * suc i) xs))
-pairs-more xs bs i h =
+pub pairs_more : (xs bs : List ℕ) (i : ℕ) → 2 * i + 1 < length xs
+    → sets bs i (pairs (drop (2 * i) xs)) ≡ sets (set bs i (16 * hex_value (get_or xs (2 * i) 0) + hex_value (get_or xs (2 * i + 1) 0))) (suc i) (pairs (drop (2 * suc i) xs))
+pairs_more xs bs i h =
     let e : suc (2 * i) ≡ 2 * i + 1 = omega arith in
     let f : 2 * suc i ≡ suc (2 * i + 1) = omega arith in
     rw (drop-cons xs (2 * i) 0 (omega arith), e, drop-cons xs (2 * i + 1) 0 h, f)
 
 -- a character alone is no pair
-pairs-none : (xs : List ℕ) → length xs < 2 → pairs xs ≡ []
-pairs-none [] h = refl
-pairs-none (x ∷ []) h = refl
-pairs-none (x ∷ y ∷ xs) h = absurd (omega arith)
+pairs_none : (xs : List ℕ) → length xs < 2 → pairs xs ≡ []
+pairs_none [] h = refl
+pairs_none (x ∷ []) h = refl
+pairs_none (x ∷ y ∷ xs) h = absurd (omega arith)
 
-pairs-end-as : (xs bs : List ℕ) (i : ℕ) (t : Bool) → leb (length bs) i ≡ t → min (length xs / 2) (length bs) ≤ i → sets bs i (pairs (drop (2 * i) xs)) ≡ bs
-pairs-end-as xs bs i true e h = sets-out bs i (pairs (drop (2 * i) xs)) (leb-true (length bs) i e)
-pairs-end-as xs bs i false e h =
+pairs_end_as : (xs bs : List ℕ) (i : ℕ) (t : Bool) → leb (length bs) i ≡ t → min (length xs / 2) (length bs) ≤ i → sets bs i (pairs (drop (2 * i) xs)) ≡ bs
+pairs_end_as xs bs i true e h = sets_out bs i (pairs (drop (2 * i) xs)) (leb-true (length bs) i e)
+pairs_end_as xs bs i false e h =
     let l : i < length bs = leb-false (length bs) i e in
-    rw (pairs-none (drop (2 * i) xs) (simp length-drop (omega arith)))
+    rw (pairs_none (drop (2 * i) xs) (simp length-drop (omega arith)))
 
 pub pairs_end : (xs bs : List ℕ) (i : ℕ) → min (length xs / 2) (length bs) ≤ i → sets bs i (pairs (drop (2 * i) xs)) ≡ bs
-pairs_end xs bs i h = pairs-end-as xs bs i (leb (length bs) i) refl h
+pairs_end xs bs i h = pairs_end_as xs bs i (leb (length bs) i) refl h
 
 -- two characters are a byte
 pub length_pairs : (xs : List ℕ) → length (pairs xs) ≡ length xs / 2
@@ -62,7 +62,7 @@ length_pairs (h ∷ []) = omega arith
 length_pairs (h ∷ l ∷ xs) = let e = length_pairs xs in omega arith
 
 -- pairs for which there is just room are all that is left
-pub pairs-whole : (xs bs : List ℕ) → length xs ≡ 2 * length bs → sets bs 0 (pairs xs) ≡ pairs xs
-pairs-whole xs bs h =
+pub pairs_whole : (xs bs : List ℕ) → length xs ≡ 2 * length bs → sets bs 0 (pairs xs) ≡ pairs xs
+pairs_whole xs bs h =
     let n : 0 + length (pairs xs) ≡ length bs = omega (arith, length_pairs xs) in
     sets-eq (pairs xs) bs 0 (omega arith) ∙ rw (n, drop-length, append-nil)

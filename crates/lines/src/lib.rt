@@ -2,13 +2,13 @@
 ghost use Rattle.std.specs.Prelude.{◌≡◌, ◌≤◌, length};
 ghost use Rattle.std.proofs.lemmas.List.Edits.{sets};
 ghost use Rattle.words.specs.Lists.{every};
-ghost use Rattle.paper.specs.Bench.{isDigit, isHex, digitValue, hexValue, pairs, numeralFrom, begins, pairsOk, digitsOk, line_of};
-ghost use Rattle.lines.specs.Characters.{isFigure};
+ghost use Rattle.paper.specs.Bench.{is_digit, is_hex, digit_value, hex_value, pairs, numeral_from, begins, pairs_ok, digits_ok, line_of};
+ghost use Rattle.lines.specs.Characters.{is_figure};
 
 use types::Line;
 
 fn is_digit(x: u8) -> bool
-    ensures { result ≡ isDigit x }
+    ensures { result ≡ is_digit x }
 {
     let low = 48 <= x;
     let high = x <= 57;
@@ -16,7 +16,7 @@ fn is_digit(x: u8) -> bool
 }
 
 fn is_hex(x: u8) -> bool
-    ensures { result ≡ isHex x }
+    ensures { result ≡ is_hex x }
 {
     let digit = is_digit(x);
     let low = 65 <= x;
@@ -26,13 +26,13 @@ fn is_hex(x: u8) -> bool
 
 // A hex digit, or a decimal one.
 fn is_figure(hex: bool, x: u8) -> bool
-    ensures { result ≡ isFigure hex x }
+    ensures { result ≡ is_figure hex x }
 {
     if hex { is_hex(x) } else { is_digit(x) }
 }
 
 fn all_figures(hex: bool, text: &[u8]) -> bool
-    ensures { result ≡ every (isFigure hex) text.now }
+    ensures { result ≡ every (is_figure hex) text.now }
 {
     let mut all = true;
     let mut i = 0;
@@ -44,7 +44,7 @@ fn all_figures(hex: bool, text: &[u8]) -> bool
 }
 
 fn digit_value(x: u8) -> u8
-    ensures value { result ≡ digitValue x }
+    ensures value { result ≡ digit_value x }
     ensures upper_bound { result ≤ 9 }
 {
     if is_digit(x) {
@@ -54,7 +54,7 @@ fn digit_value(x: u8) -> u8
 }
 
 fn hex_value(x: u8) -> u8
-    ensures value { result ≡ hexValue x }
+    ensures value { result ≡ hex_value x }
     ensures upper_bound { result ≤ 15 }
 {
     if is_digit(x) {
@@ -69,7 +69,7 @@ fn hex_value(x: u8) -> u8
 // The number that one to five digits are.
 fn number_of(text: &[u8]) -> usize
     requires { length text.now ≤ 5 }
-    ensures { result ≡ numeralFrom 0 text.now }
+    ensures { result ≡ numeral_from 0 text.now }
 {
     let mut n: usize = 0;
     let mut i = 0;
@@ -109,7 +109,7 @@ fn begins_with(letter: u8, line: &[u8]) -> bool
 }
 
 fn pairs_ok(most: usize, text: &[u8]) -> bool
-    ensures { result ≡ pairsOk most text.now }
+    ensures { result ≡ pairs_ok most text.now }
 {
     let n = text.len();
     let even = n % 2 == 0;
@@ -120,7 +120,7 @@ fn pairs_ok(most: usize, text: &[u8]) -> bool
 }
 
 fn digits_ok(text: &[u8]) -> bool
-    ensures { result ≡ digitsOk text.now }
+    ensures { result ≡ digits_ok text.now }
 {
     let n = text.len();
     let some = 1 <= n;

@@ -6,51 +6,51 @@ use mathlib.Core.List.{List}
 use lib.Dec.{eqb}
 use lib.ListN.{length}
 use borrow.Author.Tests.{eqb-false}
-use Rattle.words.specs.Logic.{unless, ◌orElse◌}
-use Rattle.paper.specs.Sizes.{mapBytes}
+use Rattle.words.specs.Logic.{unless, ◌or_else◌}
+use Rattle.paper.specs.Sizes.{map_bytes}
 use Rattle.paper.specs.Soundness.{sound}
-use Rattle.paper.specs.Numbers.{mapNumber, tickNumber}
+use Rattle.paper.specs.Numbers.{map_number, tick_number}
 use Rattle.paper.specs.Calls.{ticked}
 use Rattle.paper.specs.Board.{Board, Own, waited}
-use Rattle.paper.specs.Script.{Script, unstepped, refusalOf, scripted}
-use Rattle.paper.specs.Map.{mapTickNumberOf, mapTicked, mapRefusalOf, mapScripted}
-use Rattle.history.proofs.Scripts.{script-laws}
+use Rattle.paper.specs.Script.{Script, unstepped, refusal_of, scripted}
+use Rattle.paper.specs.Map.{map_tick_number_of, map_ticked, map_refusal_of, map_scripted}
+use Rattle.history.proofs.Scripts.{script_laws}
 use Rattle.map_laws.proofs.Stands.{number_is, refusal_is}
 
 -- ticks
 module _ (n : ℕ) (b : Board) (m : List ℕ) (own : Own b) where
   abbrev plain : ℕ
-  plain = tickNumber b.state.part.blocks (sound b.state) (length b.array) (length b.rows) n
+  plain = tick_number b.state.part.blocks (sound b.state) (length b.array) (length b.rows) n
 
-  ticks-as : mapTickNumberOf b n m ≡ plain → (t : Bool) → eqb plain 0 ≡ t → ((mapTicked b n m).number ≡ (waited b n).number) × ((mapTicked b n m).done ≡ (waited b n).done)
-  unfolding mapTicked ticked
-  ticks-as e true z = (rw (e, z) refl, rw (e, z) refl)
-  ticks-as e false z = (rw (e, z) refl, rw (e, z) refl)
+  ticks_as : map_tick_number_of b n m ≡ plain → (t : Bool) → eqb plain 0 ≡ t → ((map_ticked b n m).number ≡ (waited b n).number) × ((map_ticked b n m).done ≡ (waited b n).done)
+  unfolding map_ticked ticked
+  ticks_as e true z = (rw (e, z) refl, rw (e, z) refl)
+  ticks_as e false z = (rw (e, z) refl, rw (e, z) refl)
 
-  pub ticks-answer : eqb (length m) (mapBytes b.state.part.blocks) ≡ true → ((mapTicked b n m).number ≡ (waited b n).number) × ((mapTicked b n m).done ≡ (waited b n).done)
-  unfolding mapNumber unless ◌orElse◌
-  ticks-answer e = ticks-as (number_is n b m own ∙ rw e refl) (eqb plain 0) refl
+  pub ticks_answer : eqb (length m) (map_bytes b.state.part.blocks) ≡ true → ((map_ticked b n m).number ≡ (waited b n).number) × ((map_ticked b n m).done ≡ (waited b n).done)
+  unfolding map_number unless ◌or_else◌
+  ticks_answer e = ticks_as (number_is n b m own ∙ rw e refl) (eqb plain 0) refl
 
-  pub ticks-36 : eqb (length m) (mapBytes b.state.part.blocks) ≡ false → ((mapTicked b n m).number ≡ 36) × ((mapTicked b n m).done ≡ 0)
-  unfolding mapTicked mapNumber unless ◌orElse◌
-  ticks-36 e =
-      let z : mapTickNumberOf b n m ≡ 36 = number_is n b m own ∙ rw e refl in
+  pub ticks_36 : eqb (length m) (map_bytes b.state.part.blocks) ≡ false → ((map_ticked b n m).number ≡ 36) × ((map_ticked b n m).done ≡ 0)
+  unfolding map_ticked map_number unless ◌or_else◌
+  ticks_36 e =
+      let z : map_tick_number_of b n m ≡ 36 = number_is n b m own ∙ rw e refl in
       (rw z refl, rw z refl)
 
 -- scripts
 module _ (ok : Bool) (s : Script) (b : Board) (o n d m : List ℕ) (own : Own b) where
-  script-as : mapRefusalOf ok s b o n d m ≡ refusalOf ok s b o n d → (t : Bool) → eqb (refusalOf ok s b o n d) 0 ≡ t → (mapScripted ok s b o n d m).run ≡ scripted ok s b o n d
-  unfolding mapScripted
-  script-as e true z = rw (e, z) refl
-  script-as e false z =
-      rw (e, z) (sym (script-laws.refused ok s b o n d own.own-array own.own-rows (eqb-false _ _ z)).0)
+  script_as : map_refusal_of ok s b o n d m ≡ refusal_of ok s b o n d → (t : Bool) → eqb (refusal_of ok s b o n d) 0 ≡ t → (map_scripted ok s b o n d m).run ≡ scripted ok s b o n d
+  unfolding map_scripted
+  script_as e true z = rw (e, z) refl
+  script_as e false z =
+      rw (e, z) (sym (script_laws.refused ok s b o n d own.own_array own.own_rows (eqb-false _ _ z)).0)
 
-  pub script-answer : eqb (length m) (mapBytes b.state.part.blocks) ≡ true → (mapScripted ok s b o n d m).run ≡ scripted ok s b o n d
-  unfolding mapNumber unless ◌orElse◌
-  script-answer e = script-as (refusal_is ok s b o n d m own ∙ rw e refl) (eqb (refusalOf ok s b o n d) 0) refl
+  pub script_answer_lem : eqb (length m) (map_bytes b.state.part.blocks) ≡ true → (map_scripted ok s b o n d m).run ≡ scripted ok s b o n d
+  unfolding map_number unless ◌or_else◌
+  script_answer_lem e = script_as (refusal_is ok s b o n d m own ∙ rw e refl) (eqb (refusal_of ok s b o n d) 0) refl
 
-  pub script-36 : eqb (length m) (mapBytes b.state.part.blocks) ≡ false → (mapScripted ok s b o n d m).run ≡ unstepped 36 b o n d
-  unfolding mapScripted mapNumber unless ◌orElse◌
-  script-36 e =
-      let z : mapRefusalOf ok s b o n d m ≡ 36 = refusal_is ok s b o n d m own ∙ rw e refl in
+  pub script_36 : eqb (length m) (map_bytes b.state.part.blocks) ≡ false → (map_scripted ok s b o n d m).run ≡ unstepped 36 b o n d
+  unfolding map_scripted map_number unless ◌or_else◌
+  script_36 e =
+      let z : map_refusal_of ok s b o n d m ≡ 36 = refusal_is ok s b o n d m own ∙ rw e refl in
       rw z refl

@@ -6,77 +6,77 @@ use mathlib.Core.List.{List, [], ◌∷◌}
 use lib.Dec.{eqb}
 use lib.ListN.{length}
 use borrow.Author.Tests.{ne_eqb}
-use Rattle.words.specs.Logic.{◌orElse◌}
+use Rattle.words.specs.Logic.{◌or_else◌}
 use Rattle.paper.specs.Soundness.{sound}
 use Rattle.paper.specs.Phases.{running}
-use Rattle.paper.specs.Numbers.{mapNumber, rowsNumber, soundNumber, ticksNumber, tickNumber, mapTickNumber, laterScriptRefusal, scriptRefusal, mapScriptRefusal}
-use Rattle.paper.specs.Calls.{ticked, tickedMemory}
+use Rattle.paper.specs.Numbers.{map_number, rows_number, sound_number, ticks_number, tick_number, map_tick_number, later_script_refusal, script_refusal, map_script_refusal}
+use Rattle.paper.specs.Calls.{ticked, ticked_memory}
 use Rattle.paper.specs.History.{Call, ticks}
-use Rattle.paper.specs.Board.{Board, Own, waited, afterCalls, afterTicks}
-use Rattle.paper.specs.Script.{Script, unstepped, refusalOf, scripted, scriptCalls}
-use Rattle.paper.specs.Map.{MapTicked, MapScripted, mapAfterCall, mapAfterCalls, mapTickNumberOf, mapTicked, scriptMap, mapRefusalOf, mapScripted}
+use Rattle.paper.specs.Board.{Board, Own, waited, after_calls, after_ticks}
+use Rattle.paper.specs.Script.{Script, unstepped, refusal_of, scripted, script_calls}
+use Rattle.paper.specs.Map.{MapTicked, MapScripted, map_after_call, map_after_calls, map_tick_number_of, map_ticked, script_map, map_refusal_of, map_scripted}
 use Rattle.paper.proofs.Map.{none_kept}
-use Rattle.history.proofs.ScriptMap.{script-map}
-use Rattle.history.proofs.Beside.{own-number, stands, taken-board, no-script-calls}
+use Rattle.history.proofs.ScriptMap.{script_map_lem}
+use Rattle.history.proofs.Beside.{own_number, stands, taken_board, no_script_calls}
 use Rattle.map_laws.specs.MapLaws.{TicksStand, ScriptsStand}
 
 -- ticks
 module _ (n : ℕ) (b : Board) (m : List ℕ) (own : Own b) where
   abbrev plain : ℕ
-  plain = tickNumber b.state.part.blocks (sound b.state) (length b.array) (length b.rows) n
+  plain = tick_number b.state.part.blocks (sound b.state) (length b.array) (length b.rows) n
 
-  pub number_is : mapTickNumberOf b n m ≡ (mapNumber b.state.part.blocks (length m) or_else plain)
-  unfolding mapTickNumber tickNumber
+  pub number_is : map_tick_number_of b n m ≡ (map_number b.state.part.blocks (length m) or_else plain)
+  unfolding map_tick_number tick_number
   number_is =
-      own-number b own (mapNumber b.state.part.blocks (length m)) (rowsNumber (length b.rows) or_else soundNumber (sound b.state) or_else ticksNumber b.state.part.blocks n)
+      own_number b own (map_number b.state.part.blocks (length m)) (rows_number (length b.rows) or_else sound_number (sound b.state) or_else ticks_number b.state.part.blocks n)
 
   -- refused by the plain call's number, it does nothing either
-  refused-ticks : (plain ≡ 0 → ⊥) → (afterTicks b n ≡ b) × (mapAfterCall (ticks n) b m ≡ m)
-  unfolding ticked tickedMemory
-  refused-ticks h =
+  refused_ticks : (plain ≡ 0 → ⊥) → (after_ticks b n ≡ b) × (map_after_call (ticks n) b m ≡ m)
+  unfolding ticked ticked_memory
+  refused_ticks h =
       let e : eqb plain 0 ≡ false = ne_eqb plain 0 h in
       (rw e refl, rw e (none_kept (running b.state.phase) b.array m))
 
   abbrev given : MapTicked
-  given = record { board = afterTicks b n; map = mapAfterCall (ticks n) b m; number = 0; done = (waited b n).done }
+  given = record { board = after_ticks b n; map = map_after_call (ticks n) b m; number = 0; done = (waited b n).done }
 
   abbrev left : ℕ → MapTicked
   left x = record { board = b; map = m; number = x; done = 0 }
 
-pub ticks-stand : TicksStand
-unfolding mapTicked
-ticks-stand n b m own =
-    let k = mapNumber b.state.part.blocks (length m) in
+pub ticks_stand : TicksStand
+unfolding map_ticked
+ticks_stand n b m own =
+    let k = map_number b.state.part.blocks (length m) in
     record {
-      part = stands (λ (w : MapTicked). w.board) (λ (cs : List Call). afterCalls cs b) (ticks n ∷ []) k (plain n b m own) (given n b m own) (left n b m own) (λ j. refl) (λ z. refl) (λ h. (refused-ticks n b m own h).0) (mapTickNumberOf b n m) (number_is n b m own);
-      map = stands (λ (w : MapTicked). w.map) (λ (cs : List Call). mapAfterCalls cs b m) (ticks n ∷ []) k (plain n b m own) (given n b m own) (left n b m own) (λ j. refl) (λ z. refl) (λ h. (refused-ticks n b m own h).1) (mapTickNumberOf b n m) (number_is n b m own);
+      part = stands (λ (w : MapTicked). w.board) (λ (cs : List Call). after_calls cs b) (ticks n ∷ []) k (plain n b m own) (given n b m own) (left n b m own) (λ j. refl) (λ z. refl) (λ h. (refused_ticks n b m own h).0) (map_tick_number_of b n m) (number_is n b m own);
+      map = stands (λ (w : MapTicked). w.map) (λ (cs : List Call). map_after_calls cs b m) (ticks n ∷ []) k (plain n b m own) (given n b m own) (left n b m own) (λ j. refl) (λ z. refl) (λ h. (refused_ticks n b m own h).1) (map_tick_number_of b n m) (number_is n b m own);
     }
 
 -- scripts
 module _ (ok : Bool) (s : Script) (b : Board) (o n d m : List ℕ) (own : Own b) where
   abbrev calls : List Call
-  calls = scriptCalls ok s b.state (length o) (length n) (length d)
+  calls = script_calls ok s b.state (length o) (length n) (length d)
 
-  pub refusal_is : mapRefusalOf ok s b o n d m ≡ (mapNumber b.state.part.blocks (length m) or_else refusalOf ok s b o n d)
-  unfolding mapScriptRefusal scriptRefusal
+  pub refusal_is : map_refusal_of ok s b o n d m ≡ (map_number b.state.part.blocks (length m) or_else refusal_of ok s b o n d)
+  unfolding map_script_refusal script_refusal
   refusal_is =
-      own-number b own (mapNumber b.state.part.blocks (length m)) (laterScriptRefusal ok (length b.rows) s.lengths (length s.ticks) (length n) (length d) (length s.input) (length o))
+      own_number b own (map_number b.state.part.blocks (length m)) (later_script_refusal ok (length b.rows) s.lengths (length s.ticks) (length n) (length d) (length s.input) (length o))
 
   abbrev ran : MapScripted
-  ran = record { run = scripted ok s b o n d; map = scriptMap ok s b o n d m }
+  ran = record { run = scripted ok s b o n d; map = script_map ok s b o n d m }
 
   abbrev unrun : ℕ → MapScripted
   unrun x = record { run = unstepped x b o n d; map = m }
 
-  unmade : (refusalOf ok s b o n d ≡ 0 → ⊥) → calls ≡ []
-  unmade = no-script-calls ok s b o n d own
+  unmade : (refusal_of ok s b o n d ≡ 0 → ⊥) → calls ≡ []
+  unmade = no_script_calls ok s b o n d own
 
-pub scripts-stand : ScriptsStand
-unfolding mapScripted
-scripts-stand ok s b o n d m own =
-    let k = mapNumber b.state.part.blocks (length m) in
-    let x = mapRefusalOf ok s b o n d m in
+pub scripts_stand : ScriptsStand
+unfolding map_scripted
+scripts_stand ok s b o n d m own =
+    let k = map_number b.state.part.blocks (length m) in
+    let x = map_refusal_of ok s b o n d m in
     record {
-      part = stands (λ (w : MapScripted). w.run.board) (λ (cs : List Call). afterCalls cs b) (calls ok s b o n d m own) k (refusalOf ok s b o n d) (ran ok s b o n d m own) (unrun ok s b o n d m own) (λ j. refl) (taken-board ok s b o n d own) (λ h. ap (λ (cs : List Call). afterCalls cs b) (unmade ok s b o n d m own h)) x (refusal_is ok s b o n d m own);
-      map = stands (λ (w : MapScripted). w.map) (λ (cs : List Call). mapAfterCalls cs b m) (calls ok s b o n d m own) k (refusalOf ok s b o n d) (ran ok s b o n d m own) (unrun ok s b o n d m own) (λ j. refl) (λ z. script-map ok s b o n d m own) (λ h. ap (λ (cs : List Call). mapAfterCalls cs b m) (unmade ok s b o n d m own h)) x (refusal_is ok s b o n d m own);
+      part = stands (λ (w : MapScripted). w.run.board) (λ (cs : List Call). after_calls cs b) (calls ok s b o n d m own) k (refusal_of ok s b o n d) (ran ok s b o n d m own) (unrun ok s b o n d m own) (λ j. refl) (taken_board ok s b o n d own) (λ h. ap (λ (cs : List Call). after_calls cs b) (unmade ok s b o n d m own h)) x (refusal_is ok s b o n d m own);
+      map = stands (λ (w : MapScripted). w.map) (λ (cs : List Call). map_after_calls cs b m) (calls ok s b o n d m own) k (refusal_of ok s b o n d) (ran ok s b o n d m own) (unrun ok s b o n d m own) (λ j. refl) (λ z. script_map_lem ok s b o n d m own) (λ h. ap (λ (cs : List Call). map_after_calls cs b m) (unmade ok s b o n d m own h)) x (refusal_is ok s b o n d m own);
     }

@@ -1,9 +1,9 @@
 // Ticks and scripts that are lent a map of blank pages, on the record that bytes hold: as the plain calls, and the map is kept.
 ghost use Rattle.std.specs.Prelude.{◌≡◌, length};
-ghost use Rattle.record_bytes.specs.Read.{recordIn};
-ghost use Rattle.script.specs.InBytes.{scriptOf, ranOf};
-ghost use Rattle.mapped.specs.InBytes.{heldMapTicked, keptOf, heldMapScripted, mapRefusal};
-ghost use Rattle.beside.specs.Beside.{boardBytes};
+ghost use Rattle.record_bytes.specs.Read.{record_in};
+ghost use Rattle.script.specs.InBytes.{script_of, ran_of};
+ghost use Rattle.mapped.specs.InBytes.{held_map_ticked, kept_of, held_map_scripted, map_refusal};
+ghost use Rattle.beside.specs.Beside.{board_bytes};
 
 use script::Ran;
 
@@ -20,7 +20,7 @@ const MAPPED: usize = 2048;
 // 1 or 36, where the map hasn't one bit for each page of the array; else 0, and the plain call judges what is left. Where the
 // bytes hold no record there is no size to judge by.
 fn map_refusal(bytes: &[u8], array: usize, map: usize) -> u8
-    ensures { result ≡ mapRefusal (recordIn bytes.now) array map }
+    ensures { result ≡ map_refusal (record_in bytes.now) array map }
 {
     beside::refusal(bytes, map == array / MAPPED, array, 36)
 }
@@ -34,11 +34,11 @@ pub fn tick(
     ticks: usize,
     map: &mut [u8],
 ) -> Kept
-    ensures answer { result ≡ keptOf (heldMapTicked (recordIn bytes.old) array.old rows.old ticks map.old) }
-    ensures bytes { bytes.new ≡ boardBytes (recordIn bytes.old) (heldMapTicked (recordIn bytes.old) array.old rows.old ticks map.old).board bytes.old }
-    ensures array { array.new ≡ (heldMapTicked (recordIn bytes.old) array.old rows.old ticks map.old).board.array }
-    ensures rows { rows.new ≡ (heldMapTicked (recordIn bytes.old) array.old rows.old ticks map.old).board.rows }
-    ensures map { map.new ≡ (heldMapTicked (recordIn bytes.old) array.old rows.old ticks map.old).map }
+    ensures answer { result ≡ kept_of (held_map_ticked (record_in bytes.old) array.old rows.old ticks map.old) }
+    ensures bytes { bytes.new ≡ board_bytes (record_in bytes.old) (held_map_ticked (record_in bytes.old) array.old rows.old ticks map.old).board bytes.old }
+    ensures array { array.new ≡ (held_map_ticked (record_in bytes.old) array.old rows.old ticks map.old).board.array }
+    ensures rows { rows.new ≡ (held_map_ticked (record_in bytes.old) array.old rows.old ticks map.old).board.rows }
+    ensures map { map.new ≡ (held_map_ticked (record_in bytes.old) array.old rows.old ticks map.old).map }
 {
     let number = map_refusal(bytes, array.len(), map.len());
     if number != 0 {
@@ -71,14 +71,14 @@ pub fn script(
     done: &mut [u16],
     map: &mut [u8],
 ) -> Ran
-    ensures answer { result ≡ ranOf (heldMapScripted (recordIn bytes.old) wp (scriptOf wp input.now lengths.now ticks.now) array.old rows.old output.old answers.old done.old map.old).run }
-    ensures bytes { bytes.new ≡ boardBytes (recordIn bytes.old) (heldMapScripted (recordIn bytes.old) wp (scriptOf wp input.now lengths.now ticks.now) array.old rows.old output.old answers.old done.old map.old).run.board bytes.old }
-    ensures array { array.new ≡ (heldMapScripted (recordIn bytes.old) wp (scriptOf wp input.now lengths.now ticks.now) array.old rows.old output.old answers.old done.old map.old).run.board.array }
-    ensures rows { rows.new ≡ (heldMapScripted (recordIn bytes.old) wp (scriptOf wp input.now lengths.now ticks.now) array.old rows.old output.old answers.old done.old map.old).run.board.rows }
-    ensures output { output.new ≡ (heldMapScripted (recordIn bytes.old) wp (scriptOf wp input.now lengths.now ticks.now) array.old rows.old output.old answers.old done.old map.old).run.output }
-    ensures answers { answers.new ≡ (heldMapScripted (recordIn bytes.old) wp (scriptOf wp input.now lengths.now ticks.now) array.old rows.old output.old answers.old done.old map.old).run.answers }
-    ensures done { done.new ≡ (heldMapScripted (recordIn bytes.old) wp (scriptOf wp input.now lengths.now ticks.now) array.old rows.old output.old answers.old done.old map.old).run.done }
-    ensures map { map.new ≡ (heldMapScripted (recordIn bytes.old) wp (scriptOf wp input.now lengths.now ticks.now) array.old rows.old output.old answers.old done.old map.old).map }
+    ensures answer { result ≡ ran_of (held_map_scripted (record_in bytes.old) wp (script_of wp input.now lengths.now ticks.now) array.old rows.old output.old answers.old done.old map.old).run }
+    ensures bytes { bytes.new ≡ board_bytes (record_in bytes.old) (held_map_scripted (record_in bytes.old) wp (script_of wp input.now lengths.now ticks.now) array.old rows.old output.old answers.old done.old map.old).run.board bytes.old }
+    ensures array { array.new ≡ (held_map_scripted (record_in bytes.old) wp (script_of wp input.now lengths.now ticks.now) array.old rows.old output.old answers.old done.old map.old).run.board.array }
+    ensures rows { rows.new ≡ (held_map_scripted (record_in bytes.old) wp (script_of wp input.now lengths.now ticks.now) array.old rows.old output.old answers.old done.old map.old).run.board.rows }
+    ensures output { output.new ≡ (held_map_scripted (record_in bytes.old) wp (script_of wp input.now lengths.now ticks.now) array.old rows.old output.old answers.old done.old map.old).run.output }
+    ensures answers { answers.new ≡ (held_map_scripted (record_in bytes.old) wp (script_of wp input.now lengths.now ticks.now) array.old rows.old output.old answers.old done.old map.old).run.answers }
+    ensures done { done.new ≡ (held_map_scripted (record_in bytes.old) wp (script_of wp input.now lengths.now ticks.now) array.old rows.old output.old answers.old done.old map.old).run.done }
+    ensures map { map.new ≡ (held_map_scripted (record_in bytes.old) wp (script_of wp input.now lengths.now ticks.now) array.old rows.old output.old answers.old done.old map.old).map }
 {
     let number = map_refusal(bytes, array.len(), map.len());
     if number != 0 {

@@ -11,33 +11,33 @@ use Rattle.types.specs.declared.Register.{Register}
 use Rattle.types.specs.declared.Operation.TheVariants.{Program, Erase, Write}
 use Rattle.types.specs.declared.Stored.{Stored}
 use Rattle.words.specs.Logic.{◌and◌}
-use Rattle.words.proofs.Tests.{and-true}
-use Rattle.paper.specs.Sizes.{memoryBytes, pageBytes}
-use Rattle.paper.specs.Program.{pageBase}
-use Rattle.paper.specs.Erase.{memoryOf, unitPages, unitBytes, unitBase}
-use Rattle.paper.specs.Registers.{heldByte}
-use Rattle.paper.specs.Operations.{free, unitFree}
-use Rattle.paper.specs.Soundness.{operationOk}
+use Rattle.words.proofs.Tests.{and_true}
+use Rattle.paper.specs.Sizes.{memory_bytes, page_bytes}
+use Rattle.paper.specs.Program.{page_base}
+use Rattle.paper.specs.Erase.{memory_of, unit_pages, unit_bytes, unit_base}
+use Rattle.paper.specs.Registers.{held_byte}
+use Rattle.paper.specs.Operations.{free, unit_free}
+use Rattle.paper.specs.Soundness.{operation_ok}
 
 -- a program with ticks left keeps a byte, and its start is one of a page's places
-content-as : (d k s : ℕ) → s < pageBytes → (t : Bool) → ltb d k ≡ t → (t and leb 1 k and leb k pageBytes and ltb s pageBytes) ≡ (t and leb k pageBytes)
+content_as : (d k s : ℕ) → s < page_bytes → (t : Bool) → ltb d k ≡ t → (t and leb 1 k and leb k page_bytes and ltb s page_bytes) ≡ (t and leb k page_bytes)
 unfolding ◌and◌
-content-as d k s h true e =
+content_as d k s h true e =
     let l : d < k = ltb-true _ _ e in
-    rw (le-leb 1 k (omega arith), lt-ltb s pageBytes h) (and-true (leb k pageBytes))
-content-as d k s h false e = refl
+    rw (le-leb 1 k (omega arith), lt-ltb s page_bytes h) (and_true (leb k page_bytes))
+content_as d k s h false e = refl
 
-pub program-as : (m : Memory) (s b k d n : ℕ) (g : Stored) → s < pageBytes
-    → operationOk (Program m s b k d) n g ≡ (eqb (pageBase b) b and leb (b + pageBytes) (memoryBytes m n) and free m b n g and ltb d k and leb k pageBytes)
-unfolding operationOk
-program-as m s b k d n g h =
-    ap (λ (t : Bool). eqb (pageBase b) b and leb (b + pageBytes) (memoryBytes m n) and free m b n g and t) (content-as d k s h (ltb d k) refl)
+pub program_as : (m : Memory) (s b k d n : ℕ) (g : Stored) → s < page_bytes
+    → operation_ok (Program m s b k d) n g ≡ (eqb (page_base b) b and leb (b + page_bytes) (memory_bytes m n) and free m b n g and ltb d k and leb k page_bytes)
+unfolding operation_ok
+program_as m s b k d n g h =
+    ap (λ (t : Bool). eqb (page_base b) b and leb (b + page_bytes) (memory_bytes m n) and free m b n g and t) (content_as d k s h (ltb d k) refl)
 
-pub erase-as : (u : EraseUnit) (b d n : ℕ) (g : Stored)
-    → operationOk (Erase u b d) n g ≡ (eqb (unitBase u n b) b and leb (b + unitBytes u n) (memoryBytes (memoryOf u) n) and unitFree u b n g and ltb d (unitPages u n))
-unfolding operationOk
-erase-as u b d n g = rw (and-true (ltb d (unitPages u n)))
+pub erase_as : (u : EraseUnit) (b d n : ℕ) (g : Stored)
+    → operation_ok (Erase u b d) n g ≡ (eqb (unit_base u n b) b and leb (b + unit_bytes u n) (memory_bytes (memory_of u) n) and unit_free u b n g and ltb d (unit_pages u n))
+unfolding operation_ok
+erase_as u b d n g = rw (and_true (ltb d (unit_pages u n)))
 
-pub write_as : (r : Register) (v n : ℕ) (g : Stored) → operationOk (Write r v) n g ≡ eqb (heldByte r v) v
-unfolding operationOk ◌and◌
+pub write_as : (r : Register) (v n : ℕ) (g : Stored) → operation_ok (Write r v) n g ≡ eqb (held_byte r v) v
+unfolding operation_ok ◌and◌
 write_as r v n g = refl

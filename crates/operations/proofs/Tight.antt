@@ -9,26 +9,26 @@ use Rattle.operations.proofs.target_free.Reads as target_free
 use Rattle.operations.proofs.outside_of.Reads as Outside-of
 use Rattle.operations.proofs.operation_ok.Reads as operation-ok
 
-pub ticks-in-all-one : OneResult ticks-in-all.Learnt
-ticks-in-all-one κ a x y s t p q = agree p q
+pub ticks_in_all_one : OneResult ticks-in-all.Learnt
+ticks_in_all_one κ a x y s t p q = agree p q
 
-pub ticks-done-one : OneResult ticks-done.Learnt
-ticks-done-one κ a x y s t p q = agree p q
+pub ticks_done_one : OneResult ticks-done.Learnt
+ticks_done_one κ a x y s t p q = agree p q
 
-pub kept-by-one : OneResult kept_by.Learnt
-kept-by-one κ a x y s t p q = agree p q
+pub kept_by_one : OneResult kept_by.Learnt
+kept_by_one κ a x y s t p q = agree p q
 
-pub can-suspend-one : OneResult can-suspend.Learnt
-can-suspend-one κ a x y s t p q = agree p q
+pub can_suspend_one : OneResult can-suspend.Learnt
+can_suspend_one κ a x y s t p q = agree p q
 
-pub held-byte-one : OneResult held-byte.Learnt
-held-byte-one κ a x y s t p q = agree p q
+pub held_byte_one : OneResult held-byte.Learnt
+held_byte_one κ a x y s t p q = agree p q
 
-pub target-free-one : OneResult target_free.Learnt
-target-free-one κ a x y s t p q = agree p q
+pub target_free_one : OneResult target_free.Learnt
+target_free_one κ a x y s t p q = agree p q
 
-pub outside-of-one : OneResult Outside-of.Learnt
-outside-of-one κ a x y s t p q = agree p q
+pub outside_of_one : OneResult Outside-of.Learnt
+outside_of_one κ a x y s t p q = agree p q
 
-pub operation-ok-one : OneResult operation-ok.Learnt
-operation-ok-one κ a x y s t p q = agree p q
+pub operation_ok_one : OneResult operation-ok.Learnt
+operation_ok_one κ a x y s t p q = agree p q

@@ -2,17 +2,17 @@
 ghost use Rattle.std.specs.Prelude.{◌≡◌, ◌+◌, leb};
 ghost use Rattle.types.specs.declared.Operation.TheVariants.{Program, Erase};
 ghost use Rattle.words.specs.Logic.{◌and◌};
-ghost use Rattle.paper.specs.Sizes.{memoryBytes, sameMemory, fromOn};
-ghost use Rattle.paper.specs.Protection.{code_of, wholeCode};
-ghost use Rattle.paper.specs.Registers.{heldByte};
-ghost use Rattle.paper.specs.Operations.{ticksInAll, ticksDone, free, unitFree, targetFree, memorySuspends, unitSuspends, canSuspend, inUnit, outside, outsideOf, keptBy};
-ghost use Rattle.paper.specs.Soundness.{operationOk};
+ghost use Rattle.paper.specs.Sizes.{memory_bytes, same_memory, from_on};
+ghost use Rattle.paper.specs.Protection.{code_of, whole_code};
+ghost use Rattle.paper.specs.Registers.{held_byte};
+ghost use Rattle.paper.specs.Operations.{ticks_in_all, ticks_done, free, unit_free, target_free, memory_suspends, unit_suspends, can_suspend, in_unit, outside, outside_of, kept_by};
+ghost use Rattle.paper.specs.Soundness.{operation_ok};
 
 use types::{EraseUnit, Memory, Operation, Register, Stored, Work};
 
 // The ticks that an operation takes in all on a part of so many blocks.
 pub fn ticks_in_all(op: Operation, blocks: u16) -> usize
-    ensures { result ≡ ticksInAll op blocks }
+    ensures { result ≡ ticks_in_all op blocks }
 {
     match op {
         Operation::Program { count, .. } => count,
@@ -23,7 +23,7 @@ pub fn ticks_in_all(op: Operation, blocks: u16) -> usize
 
 // Its ticks done.
 pub fn ticks_done(op: Operation) -> usize
-    ensures { result ≡ ticksDone op }
+    ensures { result ≡ ticks_done op }
 {
     match op {
         Operation::Program { done, .. } => done,
@@ -34,7 +34,7 @@ pub fn ticks_done(op: Operation) -> usize
 
 // How many bytes of page data it keeps.
 pub fn kept_by(op: Operation) -> usize
-    ensures { result ≡ keptBy op }
+    ensures { result ≡ kept_by op }
 {
     match op {
         Operation::Program { count: kept, .. } => kept,
@@ -44,7 +44,7 @@ pub fn kept_by(op: Operation) -> usize
 }
 
 fn memory_suspends(memory: Memory) -> bool
-    ensures { result ≡ memorySuspends memory }
+    ensures { result ≡ memory_suspends memory }
 {
     match memory {
         Memory::Array => true,
@@ -53,7 +53,7 @@ fn memory_suspends(memory: Memory) -> bool
 }
 
 fn unit_suspends(unit: EraseUnit) -> bool
-    ensures { result ≡ unitSuspends unit }
+    ensures { result ≡ unit_suspends unit }
 {
     match unit {
         EraseUnit::Sector => true,
@@ -66,7 +66,7 @@ fn unit_suspends(unit: EraseUnit) -> bool
 
 // Whether it can be suspended: PP, SER, BER32 and BER64 can.
 pub fn can_suspend(op: Operation) -> bool
-    ensures { result ≡ canSuspend op }
+    ensures { result ≡ can_suspend op }
 {
     match op {
         Operation::Program { memory, .. } => memory_suspends(memory),
@@ -77,7 +77,7 @@ pub fn can_suspend(op: Operation) -> bool
 
 // The byte that a write of a register holds: the bits that it does not store are zero.
 pub fn held_byte(register: Register, byte: u8) -> u8
-    ensures { result ≡ heldByte register byte }
+    ensures { result ≡ held_byte register byte }
 {
     match register {
         Register::Status => byte / 4 * 4,
@@ -87,7 +87,7 @@ pub fn held_byte(register: Register, byte: u8) -> u8
 }
 
 fn memory_bytes(memory: Memory, blocks: u16) -> usize
-    ensures { result ≡ memoryBytes memory blocks }
+    ensures { result ≡ memory_bytes memory blocks }
 {
     match memory {
         Memory::Array => (blocks as usize) * types::BLOCK_BYTES,
@@ -114,7 +114,7 @@ fn code_of(status: u8) -> u8
 
 // The code with TBS above it, of which the protection question is asked.
 fn whole_code(stored: Stored) -> u8
-    ensures { result ≡ wholeCode stored }
+    ensures { result ≡ whole_code stored }
 {
     code_of(stored.status) + 16 * (stored.function / 2 % 2)
 }
@@ -136,7 +136,7 @@ fn is_free(memory: Memory, base: usize, blocks: u16, stored: Stored) -> bool
 
 // Whether a unit is: CER needs all four BP bits 0, whichever blocks they protect.
 fn is_unit_free(unit: EraseUnit, base: usize, blocks: u16, stored: Stored) -> bool
-    ensures { result ≡ unitFree unit base blocks stored }
+    ensures { result ≡ unit_free unit base blocks stored }
 {
     match unit {
         EraseUnit::Sector => is_free(Memory::Array, base, blocks, stored),
@@ -149,7 +149,7 @@ fn is_unit_free(unit: EraseUnit, base: usize, blocks: u16, stored: Stored) -> bo
 
 // Whether its target is unprotected or unlocked under the registers.
 pub fn target_free(op: Operation, blocks: u16, stored: Stored) -> bool
-    ensures { result ≡ targetFree op blocks stored }
+    ensures { result ≡ target_free op blocks stored }
 {
     match op {
         Operation::Program { memory, base, .. } => is_free(memory, base, blocks, stored),
@@ -159,7 +159,7 @@ pub fn target_free(op: Operation, blocks: u16, stored: Stored) -> bool
 }
 
 fn same_memory(a: Memory, b: Memory) -> bool
-    ensures { result ≡ sameMemory a b }
+    ensures { result ≡ same_memory a b }
 {
     match a {
         Memory::Array => match b {
@@ -175,7 +175,7 @@ fn same_memory(a: Memory, b: Memory) -> bool
 
 // Whether a place is one of size bytes from a base on.
 fn lies_within(place: usize, base: usize, size: usize) -> bool
-    ensures { result ≡ fromOn base size place }
+    ensures { result ≡ from_on base size place }
 {
     if place < base {
         return false;
@@ -185,7 +185,7 @@ fn lies_within(place: usize, base: usize, size: usize) -> bool
 
 // Whether a place of a memory lies in its unit, if it is an erase.
 fn in_unit(op: Operation, blocks: u16, memory: Memory, place: usize) -> bool
-    ensures { result ≡ inUnit op blocks memory place }
+    ensures { result ≡ in_unit op blocks memory place }
 {
     match op {
         Operation::Program { .. } => false,
@@ -211,7 +211,7 @@ fn is_outside(outer: Operation, blocks: u16, op: Operation) -> bool
 
 // Whether it lies outside the suspended unit, where one is suspended.
 pub fn outside_of(halted: Work, blocks: u16, op: Operation) -> bool
-    ensures { result ≡ outsideOf halted blocks op }
+    ensures { result ≡ outside_of halted blocks op }
 {
     match halted {
         Work::NoWork => true,
@@ -221,7 +221,7 @@ pub fn outside_of(halted: Work, blocks: u16, op: Operation) -> bool
 
 // Whether it can be at an erase of a unit.
 fn erase_ok(unit: EraseUnit, base: usize, done: usize, blocks: u16, stored: Stored) -> bool
-    ensures { result ≡ operationOk (Erase unit base done) blocks stored }
+    ensures { result ≡ operation_ok (Erase unit base done) blocks stored }
 {
     let pages = pages::unit_pages(unit, blocks);
     let begins = pages::unit_base(unit, blocks, base) == base;
@@ -238,7 +238,7 @@ fn erase_ok(unit: EraseUnit, base: usize, done: usize, blocks: u16, stored: Stor
 // Whether a part of so many blocks with these registers can be at an operation: its target is aligned,
 // inside the part and free, its ticks done are fewer than all, and what it holds is in order.
 pub fn operation_ok(op: Operation, blocks: u16, stored: Stored) -> bool
-    ensures { result ≡ operationOk op blocks stored }
+    ensures { result ≡ operation_ok op blocks stored }
 {
     match op {
         Operation::Program {

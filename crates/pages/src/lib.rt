@@ -1,20 +1,20 @@
 // Pages: the place of a byte in its page, the units of erases, and a page that is erased.
 ghost use Rattle.std.specs.Prelude.{◌≡◌};
-ghost use Rattle.paper.specs.Program.{pagePlace};
-ghost use Rattle.paper.specs.Erase.{memoryOf, unitPages, unitBase, pageErased};
+ghost use Rattle.paper.specs.Program.{page_place};
+ghost use Rattle.paper.specs.Erase.{memory_of, unit_pages, unit_base, page_erased};
 
 use types::{EraseUnit, Memory};
 
 // The place in the page of byte index of bytes that start at a place of the page.
 pub fn page_place(start: u8, index: usize) -> u8
-    ensures { result ≡ pagePlace start index }
+    ensures { result ≡ page_place start index }
 {
     std::num::wrapping_add_u8(start, (index % 256) as u8)
 }
 
 // The memory that a unit is a part of.
 pub fn unit_memory(unit: EraseUnit) -> Memory
-    ensures { result ≡ memoryOf unit }
+    ensures { result ≡ memory_of unit }
 {
     match unit {
         EraseUnit::Sector => Memory::Array,
@@ -27,7 +27,7 @@ pub fn unit_memory(unit: EraseUnit) -> Memory
 
 // The pages of a unit of a part, each of which takes one tick.
 pub fn unit_pages(unit: EraseUnit, blocks: u16) -> usize
-    ensures { result ≡ unitPages unit blocks }
+    ensures { result ≡ unit_pages unit blocks }
 {
     match unit {
         EraseUnit::Sector => 16,
@@ -40,7 +40,7 @@ pub fn unit_pages(unit: EraseUnit, blocks: u16) -> usize
 
 // Where the unit of a part that holds a place begins.
 pub fn unit_base(unit: EraseUnit, blocks: u16, place: usize) -> usize
-    ensures { result ≡ unitBase unit blocks place }
+    ensures { result ≡ unit_base unit blocks place }
 {
     let size = unit_pages(unit, blocks) * types::PAGE_BYTES;
     if size == 0 {
@@ -51,7 +51,7 @@ pub fn unit_base(unit: EraseUnit, blocks: u16, place: usize) -> usize
 
 // The page of 256 bytes from base on set to FFh. A page that does not fit leaves the bytes as they are.
 pub fn erase_page(memory: &mut [u8], base: usize)
-    ensures { memory.new ≡ pageErased memory.old base }
+    ensures { memory.new ≡ page_erased memory.old base }
 {
     let n = memory.len();
     if n < types::PAGE_BYTES {

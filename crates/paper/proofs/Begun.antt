@@ -20,22 +20,22 @@ use Rattle.types.specs.declared.Phase.TheVariants.{Idle, Busy, Suspended, Nested
 use Rattle.types.specs.declared.Stored.{Stored}
 use Rattle.types.specs.declared.Part.{Part}
 use Rattle.types.specs.declared.Record.{Record}
-use Rattle.words.specs.Lists.{allZero}
+use Rattle.words.specs.Lists.{all_zero}
 use Rattle.words.proofs.Tests.{and_l, and_r, and_in}
-use Rattle.paper.specs.Sizes.{sizeOk, arrayBytes, rowsBytes, memoryBytes, pageBytes, downTo}
-use Rattle.paper.specs.Address.{addressCount, addressSent, addressIn, rowAt, row_ok, rowPlace, place_in}
-use Rattle.paper.specs.Program.{pageBase, pagePlace, dataSent, keptCount, passedCount, pageData, program_of}
-use Rattle.paper.specs.Erase.{memoryOf, unitPages, unitBytes, unitBase, eraseOf}
-use Rattle.paper.specs.Registers.{heldByte, writeOf}
-use Rattle.paper.specs.Phases.{isErase}
+use Rattle.paper.specs.Sizes.{size_ok, array_bytes, rows_bytes, memory_bytes, page_bytes, down_to}
+use Rattle.paper.specs.Address.{address_count, address_sent, address_in, row_at, row_ok, row_place, place_in}
+use Rattle.paper.specs.Program.{page_base, page_place, data_sent, kept_count, passed_count, page_data, program_of}
+use Rattle.paper.specs.Erase.{memory_of, unit_pages, unit_bytes, unit_base, erase_of}
+use Rattle.paper.specs.Registers.{held_byte, write_of}
+use Rattle.paper.specs.Phases.{is_erase}
 use Rattle.paper.specs.Records.{settled}
-use Rattle.paper.specs.Operations.{targetFree, outside}
-use Rattle.paper.specs.Soundness.{latchOk, largeOk, operationOk, phaseOk, keptIn, pageOk, sound, soundOf}
+use Rattle.paper.specs.Operations.{target_free, outside}
+use Rattle.paper.specs.Soundness.{latch_ok, large_ok, operation_ok, phase_ok, kept_in, page_ok, sound, sound_of}
 use Rattle.paper.proofs.Addresses.{row_inside}
-use Rattle.paper.proofs.Sizes.{size-range}
-use Rattle.paper.proofs.KeptBytes.{zeros-after}
-use Rattle.paper.proofs.MadeSound.{made-sound}
-use Rattle.paper.proofs.Soundness.{sound-of, sound-in, awake-ok, in-order-whole, in-nest-whole}
+use Rattle.paper.proofs.Sizes.{size_range}
+use Rattle.paper.proofs.KeptBytes.{zeros_after}
+use Rattle.paper.proofs.MadeSound.{made_sound}
+use Rattle.paper.proofs.Soundness.{sound_of_lem, sound_in, awake_ok, in-order-whole, in-nest-whole}
 
 -- a row address is valid where the memory asks for one
 abbrev pub Valid : Memory → Addressing → List ℕ → Type 0
@@ -43,133 +43,133 @@ Valid Array g i = Unit {0}
 Valid Rows g i = row_ok g i ≡ true
 
 -- the place that a transaction names lies in its memory
-place_inside : (m : Memory) (a : Addressing) (n : ℕ) (i : List ℕ) → 1 ≤ n → Valid m a i → place_in m a n i < memoryBytes m n
-unfolding addressIn rowPlace
-place_inside Array a n i h v = mod-lt (addressSent a i) {m = arrayBytes n} (omega arith)
+place_inside : (m : Memory) (a : Addressing) (n : ℕ) (i : List ℕ) → 1 ≤ n → Valid m a i → place_in m a n i < memory_bytes m n
+unfolding address_in row_place
+place_inside Array a n i h v = mod-lt (address_sent a i) {m = array_bytes n} (omega arith)
 place_inside Rows a n i h v =
-    let l : get_or i (rowAt a + 1) 0 / 16 * pageBytes < rowsBytes = row_inside a i v in
+    let l : get_or i (row_at a + 1) 0 / 16 * page_bytes < rows_bytes = row_inside a i v in
     omega arith
 
-page-inside : (m : Memory) (n a : ℕ) → a < memoryBytes m n → pageBase a + pageBytes ≤ memoryBytes m n
-page-inside Array n a h = omega arith
-page-inside Rows n a h = omega arith
+page_inside : (m : Memory) (n a : ℕ) → a < memory_bytes m n → page_base a + page_bytes ≤ memory_bytes m n
+page_inside Array n a h = omega arith
+page_inside Rows n a h = omega arith
 
-program-ok : (m : Memory) (w : Addressing) (n : ℕ) (g : Stored) (i : List ℕ) → 1 ≤ n → 2 + addressCount w ≤ length i → Valid m w i
-    → targetFree (program_of m w n i) n g ≡ true → operationOk (program_of m w n i) n g ≡ true
-unfolding program_of pagePlace
-program-ok m w n g i h l v f =
+program_ok : (m : Memory) (w : Addressing) (n : ℕ) (g : Stored) (i : List ℕ) → 1 ≤ n → 2 + address_count w ≤ length i → Valid m w i
+    → target_free (program_of m w n i) n g ≡ true → operation_ok (program_of m w n i) n g ≡ true
+unfolding program_of page_place
+program_ok m w n g i h l v f =
     let a = place_in m w n i in
-    let k : 1 ≤ keptCount (dataSent w i) = simp length-drop (omega arith) in
+    let k : 1 ≤ kept_count (data_sent w i) = simp length-drop (omega arith) in
     in-order-whole (program_of m w n i) n g
     (record {
-      begins = eq-eqb (pageBase (pageBase a)) (pageBase a) (omega arith);
-      within = le-leb _ _ (page-inside m n a (place_inside m w n i h v));
-      open-target = f;
+      begins = eq-eqb (page_base (page_base a)) (page_base a) (omega arith);
+      within = le-leb _ _ (page_inside m n a (place_inside m w n i h v));
+      open_target = f;
       going = k;
-      content = and_in (le-leb 1 (keptCount (dataSent w i)) k) (and_in (le-leb (keptCount (dataSent w i)) pageBytes (omega arith)) (lt-ltb (pagePlace a (passedCount (dataSent w i))) pageBytes (omega arith)));
+      content = and_in (le-leb 1 (kept_count (data_sent w i)) k) (and_in (le-leb (kept_count (data_sent w i)) page_bytes (omega arith)) (lt-ltb (page_place a (passed_count (data_sent w i))) page_bytes (omega arith)));
     })
 
 -- a memory of so many units
 module _ (size : ℕ) (some : 0 < size) (a : ℕ) where
-  unit-aligned : downTo size (downTo size a) ≡ downTo size a
-  unit-aligned = ap (λ (t : ℕ). t * size) (mul-div_cancel (a / size) some)
+  unit_aligned : down_to size (down_to size a) ≡ down_to size a
+  unit_aligned = ap (λ (t : ℕ). t * size) (mul-div_cancel (a / size) some)
 
-  unit-inside : (q : ℕ) → a < q * size → downTo size a + size ≤ q * size
-  unit-inside q h =
+  unit_inside : (q : ℕ) → a < q * size → down_to size a + size ≤ q * size
+  unit_inside q h =
       let l : a / size < q = (div-lt_iff_lt-mul some).1 h in
       rw (← suc-mul) (mul-le-mul_right size l)
 
-unit-some : (u : EraseUnit) (n : ℕ) → 1 ≤ n → 0 < unitPages u n
-unit-some Sector n h = omega arith
-unit-some Block32 n h = omega arith
-unit-some Block64 n h = omega arith
-unit-some Chip n h = omega arith
-unit-some Row n h = omega arith
+unit_some : (u : EraseUnit) (n : ℕ) → 1 ≤ n → 0 < unit_pages u n
+unit_some Sector n h = omega arith
+unit_some Block32 n h = omega arith
+unit_some Block64 n h = omega arith
+unit_some Chip n h = omega arith
+unit_some Row n h = omega arith
 
 -- how many units of a kind there are
-abbrev unitCount : EraseUnit → ℕ → ℕ
-unitCount Sector n = n * 16
-unitCount Block32 n = n * 2
-unitCount Block64 n = n
-unitCount Chip n = 1
-unitCount Row n = 4
+abbrev unit_count : EraseUnit → ℕ → ℕ
+unit_count Sector n = n * 16
+unit_count Block32 n = n * 2
+unit_count Block64 n = n
+unit_count Chip n = 1
+unit_count Row n = 4
 
 -- they fill their memory
-units-fill : (u : EraseUnit) (n : ℕ) → memoryBytes (memoryOf u) n ≡ unitCount u n * unitBytes u n
-units-fill Sector n = omega arith
-units-fill Block32 n = omega arith
-units-fill Block64 n = omega arith
-units-fill Chip n = omega arith
-units-fill Row n = omega arith
+units_fill : (u : EraseUnit) (n : ℕ) → memory_bytes (memory_of u) n ≡ unit_count u n * unit_bytes u n
+units_fill Sector n = omega arith
+units_fill Block32 n = omega arith
+units_fill Block64 n = omega arith
+units_fill Chip n = omega arith
+units_fill Row n = omega arith
 
-erase-ok : (u : EraseUnit) (w : Addressing) (n : ℕ) (g : Stored) (i : List ℕ) → 1 ≤ n → Valid (memoryOf u) w i
-    → targetFree (eraseOf u w n i) n g ≡ true → operationOk (eraseOf u w n i) n g ≡ true
-unfolding eraseOf
-erase-ok u w n g i h v f =
-    let a = place_in (memoryOf u) w n i in
-    let s : 0 < unitBytes u n = omega (arith, unit-some u n h) in
-    let q : a < unitCount u n * unitBytes u n = rw (← units-fill u n) (place_inside (memoryOf u) w n i h v) in
-    let e : unitBase u n a + unitBytes u n ≤ memoryBytes (memoryOf u) n = rw (units-fill u n) (unit-inside (unitBytes u n) s a (unitCount u n) q) in
-    in-order-whole (eraseOf u w n i) n g
-    (record { begins = eq-eqb _ _ (unit-aligned (unitBytes u n) s a); within = le-leb _ _ e; open-target = f; going = unit-some u n h; content = refl })
+erase_ok : (u : EraseUnit) (w : Addressing) (n : ℕ) (g : Stored) (i : List ℕ) → 1 ≤ n → Valid (memory_of u) w i
+    → target_free (erase_of u w n i) n g ≡ true → operation_ok (erase_of u w n i) n g ≡ true
+unfolding erase_of
+erase_ok u w n g i h v f =
+    let a = place_in (memory_of u) w n i in
+    let s : 0 < unit_bytes u n = omega (arith, unit_some u n h) in
+    let q : a < unit_count u n * unit_bytes u n = rw (← units_fill u n) (place_inside (memory_of u) w n i h v) in
+    let e : unit_base u n a + unit_bytes u n ≤ memory_bytes (memory_of u) n = rw (units_fill u n) (unit_inside (unit_bytes u n) s a (unit_count u n) q) in
+    in-order-whole (erase_of u w n i) n g
+    (record { begins = eq-eqb _ _ (unit_aligned (unit_bytes u n) s a); within = le-leb _ _ e; open_target = f; going = unit_some u n h; content = refl })
 
 -- to hold a byte again changes nothing
-held-again : (r : Register) (b : ℕ) → heldByte r (heldByte r b) ≡ heldByte r b
-held-again Status b = omega arith
-held-again Function b = omega arith
-held-again Extended b = omega arith
+held_again : (r : Register) (b : ℕ) → held_byte r (held_byte r b) ≡ held_byte r b
+held_again Status b = omega arith
+held_again Function b = omega arith
+held_again Extended b = omega arith
 
-write-ok : (r : Register) (n : ℕ) (g : Stored) (i : List ℕ) → operationOk (writeOf r i) n g ≡ true
-unfolding writeOf
-write-ok r n g i =
-    in-order-whole (writeOf r i) n g
-    (record { begins = refl; within = refl; open-target = refl; going = omega arith; content = eq-eqb _ _ (held-again r (get_or i 1 0)) })
+write_ok_lem : (r : Register) (n : ℕ) (g : Stored) (i : List ℕ) → operation_ok (write_of r i) n g ≡ true
+unfolding write_of
+write_ok_lem r n g i =
+    in-order-whole (write_of r i) n g
+    (record { begins = refl; within = refl; open_target = refl; going = omega arith; content = eq-eqb _ _ (held_again r (get_or i 1 0)) })
 
 -- an awake part in another phase
-module _ (p : Part) (size : sizeOk p.blocks ≡ true) (large : largeOk p.blocks p.stored.function p.bank ≡ true) (awake : p.asleep ≡ false) where
-  pub settled-sound : (f : Phase) (wel : Bool) (d : List ℕ) → latchOk f wel ≡ true → phaseOk f p.blocks p.stored ≡ true → pageOk f d ≡ true
-      → soundOf (settled p f wel) f d ≡ true
-  settled-sound f wel d l o g =
-      sound-of (settled p f wel) f d (made-sound p p.stored f wel size (rw awake (awake-ok f)) l o large) g
+module _ (p : Part) (size : size_ok p.blocks ≡ true) (large : large_ok p.blocks p.stored.function p.bank ≡ true) (awake : p.asleep ≡ false) where
+  pub settled_sound : (f : Phase) (wel : Bool) (d : List ℕ) → latch_ok f wel ≡ true → phase_ok f p.blocks p.stored ≡ true → page_ok f d ≡ true
+      → sound_of (settled p f wel) f d ≡ true
+  settled_sound f wel d l o g =
+      sound_of_lem (settled p f wel) f d (made_sound p p.stored f wel size (rw awake (awake_ok f)) l o large) g
 
   -- a program, whose address is sent in one way or the other
-  module _ (w : Addressing) (i : List ℕ) (long : 2 + addressCount w ≤ length i) where
-    pub program-begun : (m : Memory) → Valid m w i → targetFree (program_of m w p.blocks i) p.blocks p.stored ≡ true
-        → soundOf (settled p (Busy (program_of m w p.blocks i)) true) (Busy (program_of m w p.blocks i)) (pageData (dataSent w i)) ≡ true
-    unfolding program_of pageOk
-    program-begun m v f =
-        settled-sound (Busy (program_of m w p.blocks i)) true (pageData (dataSent w i)) refl
-        (program-ok m w p.blocks p.stored i (size-range p.blocks size).0 long v f) (zeros-after (dataSent w i))
+  module _ (w : Addressing) (i : List ℕ) (long : 2 + address_count w ≤ length i) where
+    pub program_begun : (m : Memory) → Valid m w i → target_free (program_of m w p.blocks i) p.blocks p.stored ≡ true
+        → sound_of (settled p (Busy (program_of m w p.blocks i)) true) (Busy (program_of m w p.blocks i)) (page_data (data_sent w i)) ≡ true
+    unfolding program_of page_ok
+    program_begun m v f =
+        settled_sound (Busy (program_of m w p.blocks i)) true (page_data (data_sent w i)) refl
+        (program_ok m w p.blocks p.stored i (size_range p.blocks size).0 long v f) (zeros_after (data_sent w i))
 
     -- the same within a suspended erase, of a page of the array outside of its unit
-    pub program-nested : (e : Operation) → isErase e ≡ true → phaseOk (Suspended e) p.blocks p.stored ≡ true
-        → targetFree (program_of Array w p.blocks i) p.blocks p.stored ≡ true → outside e p.blocks (program_of Array w p.blocks i) ≡ true
-        → soundOf (settled p (Nested (program_of Array w p.blocks i) e) true) (Nested (program_of Array w p.blocks i) e) (pageData (dataSent w i)) ≡ true
-    unfolding program_of pageOk
-    program-nested e h g f a =
+    pub program_nested : (e : Operation) → is_erase e ≡ true → phase_ok (Suspended e) p.blocks p.stored ≡ true
+        → target_free (program_of Array w p.blocks i) p.blocks p.stored ≡ true → outside e p.blocks (program_of Array w p.blocks i) ≡ true
+        → sound_of (settled p (Nested (program_of Array w p.blocks i) e) true) (Nested (program_of Array w p.blocks i) e) (page_data (data_sent w i)) ≡ true
+    unfolding program_of page_ok
+    program_nested e h g f a =
         let o = program_of Array w p.blocks i in
-        let q = program-ok Array w p.blocks p.stored i (size-range p.blocks size).0 long tt f in
-        let k = in-nest-whole e o p.blocks (record { erases = h; suspends = and_l _ _ g; programs = refl; array-page = refl; apart = a }) in
-        settled-sound (Nested o e) true (pageData (dataSent w i)) refl (and_in k (and_in (and_r _ _ g) q)) (zeros-after (dataSent w i))
+        let q = program_ok Array w p.blocks p.stored i (size_range p.blocks size).0 long tt f in
+        let k = in-nest-whole e o p.blocks (record { erases = h; suspends = and_l _ _ g; programs = refl; array_page = refl; apart = a }) in
+        settled_sound (Nested o e) true (page_data (data_sent w i)) refl (and_in k (and_in (and_r _ _ g) q)) (zeros_after (data_sent w i))
 
   -- a phase that keeps no page data, where there is none
-  module _ (d : List ℕ) (none : allZero d ≡ true) where
-    pub settled-empty : (f : Phase) (wel : Bool) → latchOk f wel ≡ true → phaseOk f p.blocks p.stored ≡ true → keptIn f ≡ 0
-        → soundOf (settled p f wel) f d ≡ true
-    unfolding pageOk
-    settled-empty f wel l o k = settled-sound f wel d l o (ap (λ (n : ℕ). allZero (drop n d)) k ∙ none)
+  module _ (d : List ℕ) (none : all_zero d ≡ true) where
+    pub settled_empty : (f : Phase) (wel : Bool) → latch_ok f wel ≡ true → phase_ok f p.blocks p.stored ≡ true → kept_in f ≡ 0
+        → sound_of (settled p f wel) f d ≡ true
+    unfolding page_ok
+    settled_empty f wel l o k = settled_sound f wel d l o (ap (λ (n : ℕ). all_zero (drop n d)) k ∙ none)
 
-    pub erase-begun : (u : EraseUnit) (w : Addressing) (i : List ℕ) → Valid (memoryOf u) w i → targetFree (eraseOf u w p.blocks i) p.blocks p.stored ≡ true
-        → soundOf (settled p (Busy (eraseOf u w p.blocks i)) true) (Busy (eraseOf u w p.blocks i)) d ≡ true
-    unfolding eraseOf
-    erase-begun u w i v f =
-        settled-empty (Busy (eraseOf u w p.blocks i)) true refl (erase-ok u w p.blocks p.stored i (size-range p.blocks size).0 v f) refl
+    pub erase_begun : (u : EraseUnit) (w : Addressing) (i : List ℕ) → Valid (memory_of u) w i → target_free (erase_of u w p.blocks i) p.blocks p.stored ≡ true
+        → sound_of (settled p (Busy (erase_of u w p.blocks i)) true) (Busy (erase_of u w p.blocks i)) d ≡ true
+    unfolding erase_of
+    erase_begun u w i v f =
+        settled_empty (Busy (erase_of u w p.blocks i)) true refl (erase_ok u w p.blocks p.stored i (size_range p.blocks size).0 v f) refl
 
-    pub write-begun : (r : Register) (i : List ℕ) → soundOf (settled p (Busy (writeOf r i)) true) (Busy (writeOf r i)) d ≡ true
-    unfolding writeOf
-    write-begun r i = settled-empty (Busy (writeOf r i)) true refl (write-ok r p.blocks p.stored i) refl
+    pub write_begun : (r : Register) (i : List ℕ) → sound_of (settled p (Busy (write_of r i)) true) (Busy (write_of r i)) d ≡ true
+    unfolding write_of
+    write_begun r i = settled_empty (Busy (write_of r i)) true refl (write_ok_lem r p.blocks p.stored i) refl
 
 -- an idle part has no page data
-pub idle-empty : (p : Record) → p.phase ≡ Idle → sound p ≡ true → allZero p.page ≡ true
-unfolding pageOk
-idle-empty p e s = (sound-in p Idle e s).page-ok
+pub idle_empty : (p : Record) → p.phase ≡ Idle → sound p ≡ true → all_zero p.page ≡ true
+unfolding page_ok
+idle_empty p e s = (sound_in p Idle e s).page_ok_lem

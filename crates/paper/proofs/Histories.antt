@@ -9,27 +9,27 @@ use Rattle.types.specs.declared.Work.TheVariants.{NoWork}
 use Rattle.types.specs.declared.Record.{Record}
 use Rattle.paper.specs.Phases.{running}
 use Rattle.paper.specs.Operations.{Touch}
-use Rattle.paper.specs.Ticks.{recordAfter, touchAt, touch_of}
-use Rattle.paper.specs.History.{tickTouches, byteAfter, byteAfterAll}
-use Rattle.paper.proofs.ManyTicks.{ticks-more, rest-record}
+use Rattle.paper.specs.Ticks.{record_after, touch_at, touch_of}
+use Rattle.paper.specs.History.{tick_touches, byte_after, byte_after_all}
+use Rattle.paper.proofs.ManyTicks.{ticks_more, rest_record}
 
-pub bytes-append : (m : Memory) (at : ℕ) (ts us : List Touch) (x : ℕ) → byteAfterAll m at (ts ++ us) x ≡ byteAfterAll m at us (byteAfterAll m at ts x)
-bytes-append m at [] us x = refl
-bytes-append m at (t ∷ ts) us x = bytes-append m at ts us (byteAfter m at t x)
+pub bytes_append : (m : Memory) (at : ℕ) (ts us : List Touch) (x : ℕ) → byte_after_all m at (ts ++ us) x ≡ byte_after_all m at us (byte_after_all m at ts x)
+bytes_append m at [] us x = refl
+bytes_append m at (t ∷ ts) us x = bytes_append m at ts us (byte_after m at t x)
 
-pub touches-more : (a b : ℕ) (p : Record) → tickTouches (a + b) p ≡ tickTouches a p ++ tickTouches b (recordAfter a p)
-touches-more a zero p = rw add-zero (sym (append-nil (tickTouches a p)))
-touches-more a (suc b) p =
+pub touches_more : (a b : ℕ) (p : Record) → tick_touches (a + b) p ≡ tick_touches a p ++ tick_touches b (record_after a p)
+touches_more a zero p = rw add-zero (sym (append-nil (tick_touches a p)))
+touches_more a (suc b) p =
     rw add-suc
-    (ap (λ (q : Record). tickTouches (a + b) p ++ (touch_of q ∷ [])) (ticks-more a b p)
-    ∙ ap (λ (ts : List Touch). ts ++ (touch_of (recordAfter b (recordAfter a p)) ∷ [])) (touches-more a b p)
-    ∙ append_assoc (tickTouches a p) (tickTouches b (recordAfter a p)) (touch_of (recordAfter b (recordAfter a p)) ∷ []))
+    (ap (λ (q : Record). tick_touches (a + b) p ++ (touch_of q ∷ [])) (ticks_more a b p)
+    ∙ ap (λ (ts : List Touch). ts ++ (touch_of (record_after b (record_after a p)) ∷ [])) (touches_more a b p)
+    ∙ append_assoc (tick_touches a p) (tick_touches b (record_after a p)) (touch_of (record_after b (record_after a p)) ∷ []))
 
 -- a part on which nothing runs: ticks reach nothing
-pub rest-bytes : (m : Memory) (at n : ℕ) (p : Record) (x : ℕ) → running p.phase ≡ NoWork → byteAfterAll m at (tickTouches n p) x ≡ x
-rest-bytes m at zero p x e = refl
-rest-bytes m at (suc n) p x e =
-    bytes-append m at (tickTouches n p) (touch_of (recordAfter n p) ∷ []) x
-    ∙ ap (λ (q : Record). byteAfter m at (touch_of q) (byteAfterAll m at (tickTouches n p) x)) (rest-record p e n)
-    ∙ ap (λ (w : Work). byteAfter m at (touchAt w p.page) (byteAfterAll m at (tickTouches n p) x)) e
-    ∙ rest-bytes m at n p x e
+pub rest_bytes : (m : Memory) (at n : ℕ) (p : Record) (x : ℕ) → running p.phase ≡ NoWork → byte_after_all m at (tick_touches n p) x ≡ x
+rest_bytes m at zero p x e = refl
+rest_bytes m at (suc n) p x e =
+    bytes_append m at (tick_touches n p) (touch_of (record_after n p) ∷ []) x
+    ∙ ap (λ (q : Record). byte_after m at (touch_of q) (byte_after_all m at (tick_touches n p) x)) (rest_record p e n)
+    ∙ ap (λ (w : Work). byte_after m at (touch_at w p.page) (byte_after_all m at (tick_touches n p) x)) e
+    ∙ rest_bytes m at n p x e

@@ -13,147 +13,147 @@ use Rattle.types.specs.declared.Record.{Record}
 use Rattle.types.specs.declared.Reached.{Reached}
 use Rattle.words.specs.Logic.{◌or◌}
 use Rattle.words.specs.Lists.{AreBytes}
-use Rattle.words.specs.Bits.{bitIn, byteOf}
-use Rattle.words.proofs.Tests.{nor-l, nor-r}
-use Rattle.words.proofs.Lists.{length-upTo}
-use Rattle.words.proofs.BitLists.{same_bits, upTo-bit, upTo-bytes, puts-length, puts-bytes, puts-bit, puts_none}
-use Rattle.paper.specs.Sizes.{sameMemory, pageBytes, arrayBytes, arrayPages, mapBytes, rowsBytes}
-use Rattle.paper.specs.Erase.{memoryOf}
+use Rattle.words.specs.Bits.{bit_in, byte_of}
+use Rattle.words.proofs.Tests.{nor_l, nor_r}
+use Rattle.words.proofs.Lists.{length_up_to}
+use Rattle.words.proofs.BitLists.{same_bits, up_to_bit, up_to_bytes, puts_length, puts_bytes, puts_bit, puts_none}
+use Rattle.paper.specs.Sizes.{same_memory, page_bytes, array_bytes, array_pages, map_bytes, rows_bytes}
+use Rattle.paper.specs.Erase.{memory_of}
 use Rattle.paper.specs.Calls.{ticked}
-use Rattle.paper.specs.Reached.{reached, touchPage, workFirst, workPages, reachesPage}
-use Rattle.paper.specs.History.{Call, transaction, ticks, recordAfterCall, callTouches, history}
-use Rattle.paper.specs.Board.{Board, Own, waited, after_call, afterCalls, afterTicks}
-use Rattle.paper.specs.Map.{blankPage, Right, mapOf, kept, mapAfterCall, mapAfterCalls}
-use Rattle.paper.proofs.Boards.{call-own, own-state, own-size, calls-own, calls-size}
-use Rattle.paper.proofs.Reached.{page-append, call-pages}
+use Rattle.paper.specs.Reached.{reached, touch_page, work_first, work_pages, reaches_page}
+use Rattle.paper.specs.History.{Call, transaction, ticks, record_after_call, call_touches, history}
+use Rattle.paper.specs.Board.{Board, Own, waited, after_call, after_calls, after_ticks}
+use Rattle.paper.specs.Map.{blank_page, Right, map_of, kept, map_after_call, map_after_calls}
+use Rattle.paper.proofs.Boards.{call_own, own_state, own_size, calls_own, calls_size}
+use Rattle.paper.proofs.Reached.{page_append, call_pages}
 use Rattle.paper.proofs.BlankPages.{call_same}
 
 -- there is one right map of an array
-pub right-only : (m k xs : List ℕ) → Right m xs → Right k xs → m ≡ k
-right-only m k xs r s =
+pub right_only : (m k xs : List ℕ) → Right m xs → Right k xs → m ≡ k
+right_only m k xs r s =
     same_bits m k (omega (arith, r.size, s.size)) r.bytes s.bytes
     (λ q l. r.bits q l ∙ sym (s.bits q (omega (arith, r.size, s.size))))
 
-pub map-right : (n : ℕ) (xs : List ℕ) → length xs ≡ arrayBytes n → Right (mapOf n xs) xs
-unfolding mapOf
-map-right n xs e =
-    let l = length-upTo (mapBytes n) (byteOf (blankPage xs)) in
-    record { size = omega (arith, l, e); bytes = upTo-bytes (mapBytes n) (blankPage xs); bits = λ q h. upTo-bit (mapBytes n) (blankPage xs) q (omega (arith, l)) }
+pub map_right : (n : ℕ) (xs : List ℕ) → length xs ≡ array_bytes n → Right (map_of n xs) xs
+unfolding map_of
+map_right n xs e =
+    let l = length_up_to (map_bytes n) (byte_of (blank_page xs)) in
+    record { size = omega (arith, l, e); bytes = up_to_bytes (map_bytes n) (blank_page xs); bits = λ q h. up_to_bit (map_bytes n) (blank_page xs) q (omega (arith, l)) }
 
 -- a map that is kept
 module _ (r : Reached) (xs m : List ℕ) where
-  pub kept-length : length (kept r xs m) ≡ length m
+  pub kept_length : length (kept r xs m) ≡ length m
   unfolding kept
-  kept-length = puts-length (workFirst r.work) (blankPage xs) m (workPages r.work r.count)
+  kept_length = puts_length (work_first r.work) (blank_page xs) m (work_pages r.work r.count)
 
-  pub kept-bytes : AreBytes m → AreBytes (kept r xs m)
+  pub kept_bytes : AreBytes m → AreBytes (kept r xs m)
   unfolding kept
-  kept-bytes h = puts-bytes (workFirst r.work) (blankPage xs) m (workPages r.work r.count) h
+  kept_bytes h = puts_bytes (work_first r.work) (blank_page xs) m (work_pages r.work r.count) h
 
-  pub kept-bit : (q : ℕ) → q < length m * 8 → bitIn (kept r xs m) q ≡ cond (reachesPage r q) (blankPage xs q) (bitIn m q)
+  pub kept_bit : (q : ℕ) → q < length m * 8 → bit_in (kept r xs m) q ≡ cond (reaches_page r q) (blank_page xs q) (bit_in m q)
   unfolding kept
-  kept-bit q l = puts-bit (workFirst r.work) (blankPage xs) m (workPages r.work r.count) q l
+  kept_bit q l = puts_bit (work_first r.work) (blank_page xs) m (work_pages r.work r.count) q l
 
 -- where no tick did work, it is as it was
 pub none_kept : (w : Work) (xs m : List ℕ) → kept (record { work = w; count = 0 }) xs m ≡ m
 unfolding kept
 none_kept NoWork xs m = refl
-none_kept (At (Program w s b c d)) xs m = puts_none (sameMemory Array w) (b / pageBytes) (blankPage xs) m
-none_kept (At (Erase u b d)) xs m = puts_none (sameMemory Array (memoryOf u)) (b / pageBytes + d) (blankPage xs) m
+none_kept (At (Program w s b c d)) xs m = puts_none (same_memory Array w) (b / page_bytes) (blank_page xs) m
+none_kept (At (Erase u b d)) xs m = puts_none (same_memory Array (memory_of u)) (b / page_bytes + d) (blank_page xs) m
 none_kept (At (Write r v)) xs m = refl
 
 -- a tick call reached the pages that its touches lie in
-own-pages : (n : ℕ) (b : Board) → Own b → (q : ℕ) → touchPage (callTouches (ticks n) b.state) q ≡ reachesPage (reached b.state (waited b n)) q
-own-pages n b own q =
-    call-pages b.state own.is-sound q n
-    ∙ ap (λ (a : ℕ). reachesPage (reached b.state (ticked b.state a rowsBytes n)) q) (sym own.own-array)
-    ∙ ap (λ (r : ℕ). reachesPage (reached b.state (ticked b.state (length b.array) r n)) q) (sym own.own-rows)
+own_pages : (n : ℕ) (b : Board) → Own b → (q : ℕ) → touch_page (call_touches (ticks n) b.state) q ≡ reaches_page (reached b.state (waited b n)) q
+own_pages n b own q =
+    call_pages b.state own.is_sound q n
+    ∙ ap (λ (a : ℕ). reaches_page (reached b.state (ticked b.state a rows_bytes n)) q) (sym own.own_array)
+    ∙ ap (λ (r : ℕ). reaches_page (reached b.state (ticked b.state (length b.array) r n)) q) (sym own.own_rows)
 
 -- a page that calls did not touch is as it was
-call-left : (c : Call) (b : Board) → Own b → (q : ℕ) → q < arrayPages b.state.part.blocks → touchPage (callTouches c b.state) q ≡ false → blankPage (after_call c b).array q ≡ blankPage b.array q
-call-left (transaction wp i o) b own q l f = refl
-call-left (ticks n) b own q l f =
-    call_same b.state own.is-sound b.array own.own-array n (length b.array) (length b.rows) q l (sym (own-pages n b own q) ∙ f)
+call_left : (c : Call) (b : Board) → Own b → (q : ℕ) → q < array_pages b.state.part.blocks → touch_page (call_touches c b.state) q ≡ false → blank_page (after_call c b).array q ≡ blank_page b.array q
+call_left (transaction wp i o) b own q l f = refl
+call_left (ticks n) b own q l f =
+    call_same b.state own.is_sound b.array own.own_array n (length b.array) (length b.rows) q l (sym (own_pages n b own q) ∙ f)
 
 -- what calls touch after the first
-rest-pages : (c : Call) (cs : List Call) (b : Board) → Own b → (q : ℕ) → touchPage (history (c ∷ cs) b.state) q ≡ (touchPage (callTouches c b.state) q or touchPage (history cs (after_call c b).state) q)
-rest-pages c cs b own q =
-    page-append (callTouches c b.state) (history cs (recordAfterCall c b.state)) q
-    ∙ ap (λ (p : Record). touchPage (callTouches c b.state) q or touchPage (history cs p) q) (sym (own-state c b own))
+rest_pages : (c : Call) (cs : List Call) (b : Board) → Own b → (q : ℕ) → touch_page (history (c ∷ cs) b.state) q ≡ (touch_page (call_touches c b.state) q or touch_page (history cs (after_call c b).state) q)
+rest_pages c cs b own q =
+    page_append (call_touches c b.state) (history cs (record_after_call c b.state)) q
+    ∙ ap (λ (p : Record). touch_page (call_touches c b.state) q or touch_page (history cs p) q) (sym (own_state c b own))
 
-calls-left : (cs : List Call) (b : Board) → Own b → (q : ℕ) → q < arrayPages b.state.part.blocks → touchPage (history cs b.state) q ≡ false → blankPage (afterCalls cs b).array q ≡ blankPage b.array q
-calls-left [] b own q l f = refl
-calls-left (c ∷ cs) b own q l f =
-    let g = sym (rest-pages c cs b own q) ∙ f in
-    calls-left cs (after_call c b) (call-own c b own) q (rw (own-size c b own) l) (nor-r _ _ g) ∙ call-left c b own q l (nor-l _ _ g)
+calls_left : (cs : List Call) (b : Board) → Own b → (q : ℕ) → q < array_pages b.state.part.blocks → touch_page (history cs b.state) q ≡ false → blank_page (after_calls cs b).array q ≡ blank_page b.array q
+calls_left [] b own q l f = refl
+calls_left (c ∷ cs) b own q l f =
+    let g = sym (rest_pages c cs b own q) ∙ f in
+    calls_left cs (after_call c b) (call_own c b own) q (rw (own_size c b own) l) (nor_r _ _ g) ∙ call_left c b own q l (nor_l _ _ g)
 
 -- a map after a call, whatever it was
-call_length : (c : Call) (b : Board) (m : List ℕ) → length (mapAfterCall c b m) ≡ length m
+call_length : (c : Call) (b : Board) (m : List ℕ) → length (map_after_call c b m) ≡ length m
 call_length (transaction wp i o) b m = refl
-call_length (ticks n) b m = kept-length (reached b.state (waited b n)) (afterTicks b n).array m
+call_length (ticks n) b m = kept_length (reached b.state (waited b n)) (after_ticks b n).array m
 
-call-bytes : (c : Call) (b : Board) (m : List ℕ) → AreBytes m → AreBytes (mapAfterCall c b m)
-call-bytes (transaction wp i o) b m h = h
-call-bytes (ticks n) b m h = kept-bytes (reached b.state (waited b n)) (afterTicks b n).array m h
+call_bytes : (c : Call) (b : Board) (m : List ℕ) → AreBytes m → AreBytes (map_after_call c b m)
+call_bytes (transaction wp i o) b m h = h
+call_bytes (ticks n) b m h = kept_bytes (reached b.state (waited b n)) (after_ticks b n).array m h
 
-call-bit : (c : Call) (b : Board) (m : List ℕ) → Own b → (q : ℕ) → q < length m * 8
-    → bitIn (mapAfterCall c b m) q ≡ cond (touchPage (callTouches c b.state) q) (blankPage (after_call c b).array q) (bitIn m q)
-call-bit (transaction wp i o) b m own q l = refl
-call-bit (ticks n) b m own q l =
-    kept-bit (reached b.state (waited b n)) (afterTicks b n).array m q l
-    ∙ ap (λ (t : Bool). cond t (blankPage (afterTicks b n).array q) (bitIn m q)) (sym (own-pages n b own q))
+call_bit : (c : Call) (b : Board) (m : List ℕ) → Own b → (q : ℕ) → q < length m * 8
+    → bit_in (map_after_call c b m) q ≡ cond (touch_page (call_touches c b.state) q) (blank_page (after_call c b).array q) (bit_in m q)
+call_bit (transaction wp i o) b m own q l = refl
+call_bit (ticks n) b m own q l =
+    kept_bit (reached b.state (waited b n)) (after_ticks b n).array m q l
+    ∙ ap (λ (t : Bool). cond t (blank_page (after_ticks b n).array q) (bit_in m q)) (sym (own_pages n b own q))
 
 -- and after calls
-pub calls-length : (cs : List Call) (b : Board) (m : List ℕ) → length (mapAfterCalls cs b m) ≡ length m
-calls-length [] b m = refl
-calls-length (c ∷ cs) b m = calls-length cs (after_call c b) (mapAfterCall c b m) ∙ call_length c b m
+pub calls_length : (cs : List Call) (b : Board) (m : List ℕ) → length (map_after_calls cs b m) ≡ length m
+calls_length [] b m = refl
+calls_length (c ∷ cs) b m = calls_length cs (after_call c b) (map_after_call c b m) ∙ call_length c b m
 
-pub calls-bytes : (cs : List Call) (b : Board) (m : List ℕ) → AreBytes m → AreBytes (mapAfterCalls cs b m)
-calls-bytes [] b m h = h
-calls-bytes (c ∷ cs) b m h = calls-bytes cs (after_call c b) (mapAfterCall c b m) (call-bytes c b m h)
+pub calls_bytes : (cs : List Call) (b : Board) (m : List ℕ) → AreBytes m → AreBytes (map_after_calls cs b m)
+calls_bytes [] b m h = h
+calls_bytes (c ∷ cs) b m h = calls_bytes cs (after_call c b) (map_after_call c b m) (call_bytes c b m h)
 
 -- touched by the calls after the first, or by the first alone, or not
-frame-as : (s t : Bool) (x y z : Bool) → (s ≡ false → x ≡ y) → cond s x (cond t y z) ≡ cond (t or s) x z
+frame_as : (s t : Bool) (x y z : Bool) → (s ≡ false → x ≡ y) → cond s x (cond t y z) ≡ cond (t or s) x z
 unfolding ◌or◌
-frame-as true true x y z h = refl
-frame-as true false x y z h = refl
-frame-as false true x y z h = sym (h refl)
-frame-as false false x y z h = refl
+frame_as true true x y z h = refl
+frame_as true false x y z h = refl
+frame_as false true x y z h = sym (h refl)
+frame_as false false x y z h = refl
 
 -- the bits of pages that were touched are right, and every other bit is as it was
-pub calls-frame : (cs : List Call) (b : Board) (m : List ℕ) → Own b → (q : ℕ) → q < arrayPages b.state.part.blocks → q < length m * 8
-    → bitIn (mapAfterCalls cs b m) q ≡ cond (touchPage (history cs b.state) q) (blankPage (afterCalls cs b).array q) (bitIn m q)
-calls-frame [] b m own q l h = refl
-calls-frame (c ∷ cs) b m own q l h =
+pub calls_frame : (cs : List Call) (b : Board) (m : List ℕ) → Own b → (q : ℕ) → q < array_pages b.state.part.blocks → q < length m * 8
+    → bit_in (map_after_calls cs b m) q ≡ cond (touch_page (history cs b.state) q) (blank_page (after_calls cs b).array q) (bit_in m q)
+calls_frame [] b m own q l h = refl
+calls_frame (c ∷ cs) b m own q l h =
     let d = after_call c b in
-    let in-part : q < arrayPages d.state.part.blocks = rw (own-size c b own) l in
-    let later = touchPage (history cs d.state) q in
-    let first = touchPage (callTouches c b.state) q in
-    let x = blankPage (afterCalls cs d).array q in
-    calls-frame cs d (mapAfterCall c b m) (call-own c b own) q in-part (rw (call_length c b m) h)
-    ∙ ap (λ (t : Bool). cond later x t) (call-bit c b m own q h)
-    ∙ frame-as later first x (blankPage d.array q) (bitIn m q) (λ f. calls-left cs d (call-own c b own) q in-part f)
-    ∙ ap (λ (t : Bool). cond t x (bitIn m q)) (sym (rest-pages c cs b own q))
+    let in-part : q < array_pages d.state.part.blocks = rw (own_size c b own) l in
+    let later = touch_page (history cs d.state) q in
+    let first = touch_page (call_touches c b.state) q in
+    let x = blank_page (after_calls cs d).array q in
+    calls_frame cs d (map_after_call c b m) (call_own c b own) q in-part (rw (call_length c b m) h)
+    ∙ ap (λ (t : Bool). cond later x t) (call_bit c b m own q h)
+    ∙ frame_as later first x (blank_page d.array q) (bit_in m q) (λ f. calls_left cs d (call_own c b own) q in-part f)
+    ∙ ap (λ (t : Bool). cond t x (bit_in m q)) (sym (rest_pages c cs b own q))
 
 -- a right map stays right
 module _ (cs : List Call) (b : Board) (m : List ℕ) (own : Own b) (r : Right m b.array) where
-  right-bit : (q : ℕ) → q < arrayPages b.state.part.blocks → (t : Bool) → touchPage (history cs b.state) q ≡ t → cond t (blankPage (afterCalls cs b).array q) (bitIn m q) ≡ blankPage (afterCalls cs b).array q
-  right-bit q l true e = refl
-  right-bit q l false e = r.bits q (omega (arith, r.size, own.own-array)) ∙ sym (calls-left cs b own q l e)
+  right_bit : (q : ℕ) → q < array_pages b.state.part.blocks → (t : Bool) → touch_page (history cs b.state) q ≡ t → cond t (blank_page (after_calls cs b).array q) (bit_in m q) ≡ blank_page (after_calls cs b).array q
+  right_bit q l true e = refl
+  right_bit q l false e = r.bits q (omega (arith, r.size, own.own_array)) ∙ sym (calls_left cs b own q l e)
 
-  pub calls-right : Right (mapAfterCalls cs b m) (afterCalls cs b).array
-  calls-right =
-      let d = afterCalls cs b in
-      let k = calls-length cs b m in
-      let e = own.own-array in
+  pub calls_right : Right (map_after_calls cs b m) (after_calls cs b).array
+  calls_right =
+      let d = after_calls cs b in
+      let k = calls_length cs b m in
+      let e = own.own_array in
       record {
-        size = omega (arith, k, r.size, e, (calls-own cs b own).own-array, calls-size cs b own);
-        bytes = calls-bytes cs b m r.bytes;
+        size = omega (arith, k, r.size, e, (calls_own cs b own).own_array, calls_size cs b own);
+        bytes = calls_bytes cs b m r.bytes;
         bits = λ q l.
-            let in-part : q < arrayPages b.state.part.blocks = omega (arith, k, r.size, e) in
-            calls-frame cs b m own q in-part (omega (arith, k)) ∙ right-bit q in-part (touchPage (history cs b.state) q) refl;
+            let in-part : q < array_pages b.state.part.blocks = omega (arith, k, r.size, e) in
+            calls_frame cs b m own q in-part (omega (arith, k)) ∙ right_bit q in-part (touch_page (history cs b.state) q) refl;
       }
 
 -- ticks alone
-pub ticks-right : (n : ℕ) (b : Board) (m : List ℕ) → Own b → Right m b.array → Right (mapAfterCall (ticks n) b m) (afterTicks b n).array
-ticks-right n b m own r = calls-right (ticks n ∷ []) b m own r
+pub ticks_right : (n : ℕ) (b : Board) (m : List ℕ) → Own b → Right m b.array → Right (map_after_call (ticks n) b m) (after_ticks b n).array
+ticks_right n b m own r = calls_right (ticks n ∷ []) b m own r

@@ -14,172 +14,172 @@ use Rattle.types.specs.declared.Stored.{Stored}
 use Rattle.types.specs.declared.Operation.TheVariants.{Program, Erase}
 use Rattle.types.specs.declared.Blocks.{Blocks}
 use Rattle.types.specs.declared.Cell.{Cell}
-use Rattle.words.specs.Logic.{◌and◌, ◌or◌, unless, ◌orElse◌}
-use Rattle.words.proofs.Tests.{and_l, and_r, and_in, unless-zero, orElse-zero, fails}
-use Rattle.paper.specs.Sizes.{isLarge, sizeOk, blockBytes}
-use Rattle.paper.specs.BlockTable.{noBlocks, block_row, largeRow, cell_of, largeCellOf, tableCell}
+use Rattle.words.specs.Logic.{◌and◌, ◌or◌, unless, ◌or_else◌}
+use Rattle.words.proofs.Tests.{and_l, and_r, and_in, unless_zero, or_else_zero, fails}
+use Rattle.paper.specs.Sizes.{is_large, size_ok, block_bytes}
+use Rattle.paper.specs.BlockTable.{no_blocks, block_row, large_row, cell_of, large_cell_of, table_cell}
 use Rattle.paper.specs.Registers.{TBS}
-use Rattle.paper.specs.Protection.{code_of, wholeCode, blocksAsked, ruleCount, protectsTop, ruleBlocks, largeAsked, largeCount, largeBlocks, blocksByRule, blocksOf, codeMost, question, protectedBlocks, among, protected}
-use Rattle.paper.specs.Operations.{free, targetFree, unitSuspends}
+use Rattle.paper.specs.Protection.{code_of, whole_code, blocks_asked, rule_count, protects_top, rule_blocks, large_asked, large_count, large_blocks, blocks_by_rule, blocks_of, code_most, question, protected_blocks, among, protected}
+use Rattle.paper.specs.Operations.{free, target_free, unit_suspends}
 use Rattle.paper.proofs.Sizes.{by_size}
 
 -- block k is one of so many blocks from the first on: first <= k < first + count
 abbrev pub InBlocks : ℕ → ℕ → ℕ → Type 0
 InBlocks first count k = (first ≤ k) × (k < first + count)
 
-pub among-exactly : (b : Blocks) (k : ℕ) → (among b k ≡ true) ↔ InBlocks b.first b.count k
+pub among_exactly : (b : Blocks) (k : ℕ) → (among b k ≡ true) ↔ InBlocks b.first b.count k
 unfolding among
-among-exactly b k =
+among_exactly b k =
     (λ t. (leb-true _ _ (and_l _ _ t), ltb-true _ _ (and_r _ _ t)), λ w. and_in (le-leb _ _ w.0) (lt-ltb _ _ w.1))
 
 -- The law on which rests whatever is said of protected blocks: under code c, block k of n is protected exactly where first <= k < first + count, of the answer's first and count.
-pub protected-exactly : (c n k : ℕ) → (protected c n k ≡ true) ↔ InBlocks (protectedBlocks c n).first (protectedBlocks c n).count k
-protected-exactly c n k = among-exactly (protectedBlocks c n) k
+pub protected_exactly : (c n k : ℕ) → (protected c n k ≡ true) ↔ InBlocks (protected_blocks c n).first (protected_blocks c n).count k
+protected_exactly c n k = among_exactly (protected_blocks c n) k
 
 -- the block of place b is one of the protected blocks of a part of n blocks, under the registers
 abbrev pub Blocked : ℕ → ℕ → Stored → Type 0
 Blocked b n s =
-    InBlocks (protectedBlocks (wholeCode s) n).first (protectedBlocks (wholeCode s) n).count (b / blockBytes)
+    InBlocks (protected_blocks (whole_code s) n).first (protected_blocks (whole_code s) n).count (b / block_bytes)
 
 -- a place of the array is not free exactly where its block is one of them
-pub not-free-exactly : (b n : ℕ) (s : Stored) → (free Array b n s ≡ false) ↔ Blocked b n s
-not-free-exactly b n s =
-    let e = protected-exactly (wholeCode s) n (b / blockBytes) in
+pub not_free_exactly : (b n : ℕ) (s : Stored) → (free Array b n s ≡ false) ↔ Blocked b n s
+not_free_exactly b n s =
+    let e = protected_exactly (whole_code s) n (b / block_bytes) in
     (λ h. e.0 (not-false _ h), λ w. ap not (e.1 w))
 
 -- so the target of a page program, and that of SER, BER32 and BER64, which are the units that can be suspended: 28 and soundness ask for it. (CER goes by the bits.)
-pub program-exactly : (b p k d n : ℕ) (s : Stored) → (targetFree (Program Array p b k d) n s ≡ false) ↔ Blocked b n s
-program-exactly b p k d n s = not-free-exactly b n s
+pub program_exactly : (b p k d n : ℕ) (s : Stored) → (target_free (Program Array p b k d) n s ≡ false) ↔ Blocked b n s
+program_exactly b p k d n s = not_free_exactly b n s
 
-pub erase-exactly : (u : EraseUnit) (b d n : ℕ) (s : Stored) → unitSuspends u ≡ true → (targetFree (Erase u b d) n s ≡ false) ↔ Blocked b n s
-erase-exactly Sector b d n s h = not-free-exactly b n s
-erase-exactly Block32 b d n s h = not-free-exactly b n s
-erase-exactly Block64 b d n s h = not-free-exactly b n s
-erase-exactly Chip b d n s h = absurd (false≢true h)
-erase-exactly Row b d n s h = absurd (false≢true h)
+pub erase_exactly : (u : EraseUnit) (b d n : ℕ) (s : Stored) → unit_suspends u ≡ true → (target_free (Erase u b d) n s ≡ false) ↔ Blocked b n s
+erase_exactly Sector b d n s h = not_free_exactly b n s
+erase_exactly Block32 b d n s h = not_free_exactly b n s
+erase_exactly Block64 b d n s h = not_free_exactly b n s
+erase_exactly Chip b d n s h = absurd (false≢true h)
+erase_exactly Row b d n s h = absurd (false≢true h)
 
 -- where no block is counted, none is protected
-pub none-protected : (c n k : ℕ) → (protectedBlocks c n).count ≡ 0 → protected c n k ≡ false
-none-protected c n k e =
-    fails _ (λ t. let w = (protected-exactly c n k).0 t in omega (arith, w.0, w.1, e))
+pub none_protected : (c n k : ℕ) → (protected_blocks c n).count ≡ 0 → protected c n k ≡ false
+none_protected c n k e =
+    fails _ (λ t. let w = (protected_exactly c n k).0 t in omega (arith, w.0, w.1, e))
 
 -- what a question that is not refused may rest on
 pub record Answerable (c n : ℕ) : Type 0 where
-  pub size : sizeOk n ≡ true
-  pub known : c ≤ codeMost n
+  pub size : size_ok n ≡ true
+  pub known : c ≤ code_most n
 
 pub answerable : (c n : ℕ) → (question c n).number ≡ 0 → Answerable c n
 unfolding question
 answerable c n e =
-    let z = orElse-zero _ _ e in
-    record { size = unless-zero _ 0 z.0; known = leb-true _ _ (unless-zero _ 4 z.1) }
+    let z = or_else_zero _ _ e in
+    record { size = unless_zero _ 0 z.0; known = leb-true _ _ (unless_zero _ 4 z.1) }
 
 -- refused, it has no blocks
-pub refused_none : (c n : ℕ) → ((question c n).number ≡ 0 → ⊥) → protectedBlocks c n ≡ blocksOf noBlocks
+pub refused_none : (c n : ℕ) → ((question c n).number ≡ 0 → ⊥) → protected_blocks c n ≡ blocks_of no_blocks
 unfolding question
 refused_none c n h = rw (ne_eqb _ _ h)
 
 -- two cells are the same
-abbrev sameBlocks : Blocks → Blocks → Bool
-sameBlocks x y = eqb x.first y.first and eqb x.count y.count
+abbrev same_blocks : Blocks → Blocks → Bool
+same_blocks x y = eqb x.first y.first and eqb x.count y.count
 
-same_blocks : (x y : Blocks) → sameBlocks x y ≡ true → x ≡ y
-same_blocks x y h =
+same_blocks_lem : (x y : Blocks) → same_blocks x y ≡ true → x ≡ y
+same_blocks_lem x y h =
     let f : x.first ≡ y.first = eqb-true _ _ (and_l _ _ h) in
     let k : x.count ≡ y.count = eqb-true _ _ (and_r _ _ h) in
-    ap (λ (n : ℕ). blocksOf (n, x.count)) f ∙ ap (λ (n : ℕ). blocksOf (y.first, n)) k
+    ap (λ (n : ℕ). blocks_of (n, x.count)) f ∙ ap (λ (n : ℕ). blocks_of (y.first, n)) k
 
 -- a test that passes at every number below n
-abbrev everyBelow : (ℕ → Bool) → ℕ → Bool
-everyBelow t zero = true
-everyBelow t (suc n) = t n and everyBelow t n
+abbrev every_below : (ℕ → Bool) → ℕ → Bool
+every_below t zero = true
+every_below t (suc n) = t n and every_below t n
 
-below-or-last : (t : ℕ → Bool) (n c : ℕ) (b : Bool) → eqb c n ≡ b → t n ≡ true → (c < n → t c ≡ true) → c < suc n → t c ≡ true
-below-or-last t n c true e last h l = ap t (eqb-true c n e) ∙ last
-below-or-last t n c false e last h l =
+below_or_last : (t : ℕ → Bool) (n c : ℕ) (b : Bool) → eqb c n ≡ b → t n ≡ true → (c < n → t c ≡ true) → c < suc n → t c ≡ true
+below_or_last t n c true e last h l = ap t (eqb-true c n e) ∙ last
+below_or_last t n c false e last h l =
     let ne : c ≡ n → ⊥ = eqb-false c n e in
     h (omega (arith, ne))
 
-below : (t : ℕ → Bool) (n c : ℕ) → everyBelow t n ≡ true → c < n → t c ≡ true
+below : (t : ℕ → Bool) (n c : ℕ) → every_below t n ≡ true → c < n → t c ≡ true
 below t zero c h l = absurd (omega arith)
-below t (suc n) c h l = below-or-last t n c (eqb c n) refl (and_l _ _ h) (below t n c (and_r _ _ h)) l
+below t (suc n) c h l = below_or_last t n c (eqb c n) refl (and_l _ _ h) (below t n c (and_r _ _ h)) l
 
 -- a number of blocks that is no size has no column
-no-column : (a b c d e : Bool) (w x y z v : Cell)
-    → (a or b or c or d or e) ≡ false → cond e v (cond d w (cond c x (cond b y (cond a z noBlocks)))) ≡ noBlocks
+no_column : (a b c d e : Bool) (w x y z v : Cell)
+    → (a or b or c or d or e) ≡ false → cond e v (cond d w (cond c x (cond b y (cond a z no_blocks)))) ≡ no_blocks
 unfolding ◌or◌
-no-column true b c d e w x y z v h = absurd (false≢true (sym h))
-no-column false true c d e w x y z v h = absurd (false≢true (sym h))
-no-column false false true d e w x y z v h = absurd (false≢true (sym h))
-no-column false false false true e w x y z v h = absurd (false≢true (sym h))
-no-column false false false false true w x y z v h = absurd (false≢true (sym h))
-no-column false false false false false w x y z v h = refl
+no_column true b c d e w x y z v h = absurd (false≢true (sym h))
+no_column false true c d e w x y z v h = absurd (false≢true (sym h))
+no_column false false true d e w x y z v h = absurd (false≢true (sym h))
+no_column false false false true e w x y z v h = absurd (false≢true (sym h))
+no_column false false false false true w x y z v h = absurd (false≢true (sym h))
+no_column false false false false false w x y z v h = refl
 
-no_size : (c n : ℕ) → sizeOk n ≡ false → tableCell c n ≡ noBlocks
-unfolding sizeOk tableCell cell_of
+no_size : (c n : ℕ) → size_ok n ≡ false → table_cell c n ≡ no_blocks
+unfolding size_ok table_cell cell_of
 no_size c n h =
-    no-column (eqb n 1) (eqb n 4) (eqb n 8) (eqb n 16) (isLarge n) (block_row c).0 (block_row c).1 (block_row c).2 (block_row c).3 (largeCellOf (leb 16 c) (largeRow (c % 16))) h
+    no_column (eqb n 1) (eqb n 4) (eqb n 8) (eqb n 16) (is_large n) (block_row c).0 (block_row c).1 (block_row c).2 (block_row c).3 (large_cell_of (leb 16 c) (large_row (c % 16))) h
 
 -- table and rule agree on a code
 abbrev agrees : ℕ → ℕ → Bool
-agrees n c = sameBlocks (protectedBlocks c n) (blocksByRule c n)
+agrees n c = same_blocks (protected_blocks c n) (blocks_by_rule c n)
 
 -- they do on each of the sixteen, in the column of each size; on each of the thirty-two of the large part
 abbrev Column : ℕ → Type 0
-Column n = everyBelow (agrees n) (suc (codeMost n)) ≡ true
+Column n = every_below (agrees n) (suc (code_most n)) ≡ true
 
 columns : (Column 16 × Column 8) × (Column 4 × Column 1)
-unfolding question block_row cell_of tableCell ruleBlocks blocksAsked sizeOk ◌and◌ ◌or◌ unless ◌orElse◌
+unfolding question block_row cell_of table_cell rule_blocks blocks_asked size_ok ◌and◌ ◌or◌ unless ◌or_else◌
 columns = ((refl, refl), (refl, refl))
 
-large-column : Column 512
-unfolding question largeRow tableCell largeBlocks largeAsked sizeOk ◌and◌ ◌or◌ unless ◌orElse◌
-large-column = refl
+large_column : Column 512
+unfolding question large_row table_cell large_blocks large_asked size_ok ◌and◌ ◌or◌ unless ◌or_else◌
+large_column = refl
 
-column : (n : ℕ) → sizeOk n ≡ true → Column n
-column = by_size Column columns.1.1 columns.1.0 columns.0.1 columns.0.0 large-column
+column : (n : ℕ) → size_ok n ≡ true → Column n
+column = by_size Column columns.1.1 columns.1.0 columns.0.1 columns.0.0 large_column
 
 -- on every code and every size the table says what the rule says
-pub table-is-rule : (c n : ℕ) → sizeOk n ≡ true → c ≤ codeMost n → protectedBlocks c n ≡ blocksByRule c n
-table-is-rule c n s h = same_blocks _ _ (below (agrees n) (suc (codeMost n)) c (column n s) (omega (arith, h)))
+pub table_is_rule : (c n : ℕ) → size_ok n ≡ true → c ≤ code_most n → protected_blocks c n ≡ blocks_by_rule c n
+table_is_rule c n s h = same_blocks_lem _ _ (below (agrees n) (suc (code_most n)) c (column n s) (omega (arith, h)))
 
 -- a code that is one: its blocks are the cell that is looked up; what is no size has none
-looked-as : (c n : ℕ) (t : Bool) → sizeOk n ≡ t → c ≤ codeMost n → protectedBlocks c n ≡ blocksOf (tableCell c n)
-unfolding question unless ◌orElse◌
-looked-as c n true e h = rw (e, le-leb c (codeMost n) h)
-looked-as c n false e h = rw (e, no_size c n e)
+looked_as : (c n : ℕ) (t : Bool) → size_ok n ≡ t → c ≤ code_most n → protected_blocks c n ≡ blocks_of (table_cell c n)
+unfolding question unless ◌or_else◌
+looked_as c n true e h = rw (e, le-leb c (code_most n) h)
+looked_as c n false e h = rw (e, no_size c n e)
 
-looked-up : (c n : ℕ) → c ≤ codeMost n → protectedBlocks c n ≡ blocksOf (tableCell c n)
-looked-up c n h = looked-as c n (sizeOk n) refl h
+looked_up : (c n : ℕ) → c ≤ code_most n → protected_blocks c n ≡ blocks_of (table_cell c n)
+looked_up c n h = looked_as c n (size_ok n) refl h
 
 -- in the table of the large part, or in that of the others
-module _ (c n : ℕ) (t : Bool) (e : isLarge n ≡ t) where
-  most-as : codeMost n ≡ cond t 31 15
-  most-as = rw e
+module _ (c n : ℕ) (t : Bool) (e : is_large n ≡ t) where
+  most_as : code_most n ≡ cond t 31 15
+  most_as = rw e
 
-  pub table-looked-up : c ≤ cond t 31 15 → protectedBlocks c n ≡ blocksOf (cond t (largeCellOf (leb 16 c) (largeRow (c % 16))) (cell_of n (block_row c)))
-  unfolding tableCell
-  table-looked-up h = looked-up c n (omega (arith, most-as, h)) ∙ rw e
+  pub table_looked_up : c ≤ cond t 31 15 → protected_blocks c n ≡ blocks_of (cond t (large_cell_of (leb 16 c) (large_row (c % 16))) (cell_of n (block_row c)))
+  unfolding table_cell
+  table_looked_up h = looked_up c n (omega (arith, most_as, h)) ∙ rw e
 
   -- a number that is no code has none
-  pub table_none : cond t 31 15 < c → protectedBlocks c n ≡ blocksOf noBlocks
-  table_none h = refused_none c n (λ z. omega (arith, most-as, h, (answerable c n z).known))
+  pub table_none : cond t 31 15 < c → protected_blocks c n ≡ blocks_of no_blocks
+  table_none h = refused_none c n (λ z. omega (arith, most_as, h, (answerable c n z).known))
 
 -- The answer is no blocks where the question is refused, and else the rule's: what holds of both holds of it.
-module _ (P : Blocks → Type 0) (c n : ℕ) (none : P (blocksOf noBlocks)) (ruled : Answerable c n → P (blocksByRule c n)) where
-  refused-or-not : (t : Bool) → eqb (question c n).number 0 ≡ t → P (protectedBlocks c n)
-  refused-or-not true e =
+module _ (P : Blocks → Type 0) (c n : ℕ) (none : P (blocks_of no_blocks)) (ruled : Answerable c n → P (blocks_by_rule c n)) where
+  refused_or_not : (t : Bool) → eqb (question c n).number 0 ≡ t → P (protected_blocks c n)
+  refused_or_not true e =
       let a = answerable c n (eqb-true _ _ e) in
-      subst⁻¹ P (table-is-rule c n a.size a.known) (ruled a)
-  refused-or-not false e = subst⁻¹ P (refused_none c n (eqb-false _ _ e)) none
+      subst⁻¹ P (table_is_rule c n a.size a.known) (ruled a)
+  refused_or_not false e = subst⁻¹ P (refused_none c n (eqb-false _ _ e)) none
 
-  by-rule : P (protectedBlocks c n)
-  by-rule = refused-or-not (eqb (question c n).number 0) refl
+  by_rule : P (protected_blocks c n)
+  by_rule = refused_or_not (eqb (question c n).number 0) refl
 
 -- there are blocks only where it is not refused
-pub some-answerable : (c n : ℕ) → ((protectedBlocks c n).count ≡ 0 → ⊥) → Answerable c n
-some-answerable c n =
-    by-rule (λ (b : Blocks). (b.count ≡ 0 → ⊥) → Answerable c n) c n (λ h. absurd (h refl)) (λ a h. a)
+pub some_answerable : (c n : ℕ) → ((protected_blocks c n).count ≡ 0 → ⊥) → Answerable c n
+some_answerable c n =
+    by_rule (λ (b : Blocks). (b.count ≡ 0 → ⊥) → Answerable c n) c n (λ h. absurd (h refl)) (λ a h. a)
 
 -- protected blocks lie inside the part; by the rule, over any number of blocks
 either_end : (t : Bool) (n k : ℕ) → k ≤ n → cond t (n - k) 0 + k ≤ n
@@ -190,30 +190,30 @@ either_side : (t : Bool) (n k : ℕ) → k ≤ n → cond t 0 (n - k) + k ≤ n
 either_side true n k h = omega arith
 either_side false n k h = omega arith
 
-pub rule-inside : (c n : ℕ) → (ruleBlocks c n).first + (ruleBlocks c n).count ≤ n
-unfolding ruleBlocks
-rule-inside c n = either_end (protectsTop c) n (ruleCount c n) (omega arith)
+pub rule_inside : (c n : ℕ) → (rule_blocks c n).first + (rule_blocks c n).count ≤ n
+unfolding rule_blocks
+rule_inside c n = either_end (protects_top c) n (rule_count c n) (omega arith)
 
-large-inside : (c n : ℕ) (bottom : Bool) → (largeBlocks c bottom n).first + (largeBlocks c bottom n).count ≤ n
-unfolding largeBlocks
-large-inside c n bottom = either_side (bottom or eqb c 0) n (largeCount c n) (omega arith)
+large_inside : (c n : ℕ) (bottom : Bool) → (large_blocks c bottom n).first + (large_blocks c bottom n).count ≤ n
+unfolding large_blocks
+large_inside c n bottom = either_side (bottom or eqb c 0) n (large_count c n) (omega arith)
 
 -- the rule of the large part, or that of the others
-abbrev ruledAs : Bool → ℕ → ℕ → Blocks
-ruledAs t c n = cond t (largeBlocks (c % 16) (leb 16 c) n) (ruleBlocks c n)
+abbrev ruled_as : Bool → ℕ → ℕ → Blocks
+ruled_as t c n = cond t (large_blocks (c % 16) (leb 16 c) n) (rule_blocks c n)
 
-by-rule-inside : (c n : ℕ) (t : Bool)
-    → (ruledAs t c n).first + (ruledAs t c n).count ≤ n
-by-rule-inside c n true = large-inside (c % 16) n (leb 16 c)
-by-rule-inside c n false = rule-inside c n
+by_rule_inside : (c n : ℕ) (t : Bool)
+    → (ruled_as t c n).first + (ruled_as t c n).count ≤ n
+by_rule_inside c n true = large_inside (c % 16) n (leb 16 c)
+by_rule_inside c n false = rule_inside c n
 
-pub protected-inside : (c n : ℕ) → (protectedBlocks c n).first + (protectedBlocks c n).count ≤ n
-protected-inside c n = by-rule (λ (b : Blocks). b.first + b.count ≤ n) c n (omega arith) (λ a. by-rule-inside c n (isLarge n))
+pub protected_inside : (c n : ℕ) → (protected_blocks c n).first + (protected_blocks c n).count ≤ n
+protected_inside c n = by_rule (λ (b : Blocks). b.first + b.count ≤ n) c n (omega arith) (λ a. by_rule_inside c n (is_large n))
 
 -- a code that protects top blocks asks for some
-top-asks : (c : ℕ) → protectsTop c ≡ true → 1 ≤ blocksAsked c
-unfolding blocksAsked ◌or◌
-top-asks c t =
+top_asks : (c : ℕ) → protects_top c ≡ true → 1 ≤ blocks_asked c
+unfolding blocks_asked ◌or◌
+top_asks c t =
     let l : 1 ≤ c = leb-true _ _ (and_l _ _ t) in
     let h : c ≤ 7 = leb-true _ _ (and_r _ _ t) in
     rw (ne_eqb c 0 (λ e. omega arith), lt-leb 15 c (omega arith), le-leb c 7 h) (pow_mono {i = 0} {j = c - 1} (omega arith))
@@ -225,63 +225,63 @@ from_zero true n k h e =
     omega arith
 from_zero false n k h e = refl
 
-pub rule-from-zero : (c n : ℕ) → (ruleBlocks c n).count ≡ 0 → (ruleBlocks c n).first ≡ 0
-unfolding ruleBlocks
-rule-from-zero c n e = from_zero (protectsTop c) n (blocksAsked c) (top-asks c) e
+pub rule_from_zero : (c n : ℕ) → (rule_blocks c n).count ≡ 0 → (rule_blocks c n).first ≡ 0
+unfolding rule_blocks
+rule_from_zero c n e = from_zero (protects_top c) n (blocks_asked c) (top_asks c) e
 
 -- a code of the large part but 0 asks for some
-pub large-asks : (c : ℕ) → (c ≡ 0 → ⊥) → 1 ≤ largeAsked c
-unfolding largeAsked
-large-asks c h = rw (ne_eqb c 0 h) (pow_mono {i = 0} {j = c - 1} (omega arith))
+pub large_asks : (c : ℕ) → (c ≡ 0 → ⊥) → 1 ≤ large_asked c
+unfolding large_asked
+large_asks c h = rw (ne_eqb c 0 h) (pow_mono {i = 0} {j = c - 1} (omega arith))
 
-large-end : (c n : ℕ) (bottom t : Bool) → eqb c 0 ≡ t → min n (largeAsked c) ≡ 0 → cond (bottom or t) 0 (n - min n (largeAsked c)) ≡ 0
+large_end : (c n : ℕ) (bottom t : Bool) → eqb c 0 ≡ t → min n (large_asked c) ≡ 0 → cond (bottom or t) 0 (n - min n (large_asked c)) ≡ 0
 unfolding ◌or◌
-large-end c n true t h e = refl
-large-end c n false true h e = refl
-large-end c n false false h e =
-    let l : 1 ≤ largeAsked c = large-asks c (eqb-false c 0 h) in
+large_end c n true t h e = refl
+large_end c n false true h e = refl
+large_end c n false false h e =
+    let l : 1 ≤ large_asked c = large_asks c (eqb-false c 0 h) in
     omega arith
 
-large-from-zero : (c n : ℕ) (bottom : Bool) → (largeBlocks c bottom n).count ≡ 0 → (largeBlocks c bottom n).first ≡ 0
-unfolding largeBlocks
-large-from-zero c n bottom e = large-end c n bottom (eqb c 0) refl e
+large_from_zero : (c n : ℕ) (bottom : Bool) → (large_blocks c bottom n).count ≡ 0 → (large_blocks c bottom n).first ≡ 0
+unfolding large_blocks
+large_from_zero c n bottom e = large_end c n bottom (eqb c 0) refl e
 
-by-rule-from-zero : (c n : ℕ) (t : Bool)
-    → (ruledAs t c n).count ≡ 0 → (ruledAs t c n).first ≡ 0
-by-rule-from-zero c n true = large-from-zero (c % 16) n (leb 16 c)
-by-rule-from-zero c n false = rule-from-zero c n
+by_rule_from_zero : (c n : ℕ) (t : Bool)
+    → (ruled_as t c n).count ≡ 0 → (ruled_as t c n).first ≡ 0
+by_rule_from_zero c n true = large_from_zero (c % 16) n (leb 16 c)
+by_rule_from_zero c n false = rule_from_zero c n
 
-pub none-from-zero : (c n : ℕ) → (protectedBlocks c n).count ≡ 0 → (protectedBlocks c n).first ≡ 0
-none-from-zero c n =
-    by-rule (λ (b : Blocks). b.count ≡ 0 → b.first ≡ 0) c n (λ e. refl) (λ a. by-rule-from-zero c n (isLarge n))
+pub none_from_zero : (c n : ℕ) → (protected_blocks c n).count ≡ 0 → (protected_blocks c n).first ≡ 0
+none_from_zero c n =
+    by_rule (λ (b : Blocks). b.count ≡ 0 → b.first ≡ 0) c n (λ e. refl) (λ a. by_rule_from_zero c n (is_large n))
 
 -- BP bits of 0 ask for no block, and have none, whatever TBS is; so has the code 15, but on the large part
-none-asked : (c n : ℕ) (t : Bool)
-    → (t ≡ true → largeAsked (c % 16) ≡ 0) → (t ≡ false → blocksAsked c ≡ 0)
-    → (ruledAs t c n).count ≡ 0
-unfolding largeBlocks ruleBlocks
-none-asked c n true l r =
-    let z : largeAsked (c % 16) ≡ 0 = l refl in
+none_asked : (c n : ℕ) (t : Bool)
+    → (t ≡ true → large_asked (c % 16) ≡ 0) → (t ≡ false → blocks_asked c ≡ 0)
+    → (ruled_as t c n).count ≡ 0
+unfolding large_blocks rule_blocks
+none_asked c n true l r =
+    let z : large_asked (c % 16) ≡ 0 = l refl in
     omega (arith, z)
-none-asked c n false l r =
-    let z : blocksAsked c ≡ 0 = r refl in
+none_asked c n false l r =
+    let z : blocks_asked c ≡ 0 = r refl in
     omega (arith, z)
 
-asked-none : (c n : ℕ) → (isLarge n ≡ true → largeAsked (c % 16) ≡ 0) → (isLarge n ≡ false → blocksAsked c ≡ 0) → (protectedBlocks c n).count ≡ 0
-asked-none c n l r =
-    by-rule (λ (b : Blocks). b.count ≡ 0) c n refl (λ a. none-asked c n (isLarge n) l r)
+asked_none : (c n : ℕ) → (is_large n ≡ true → large_asked (c % 16) ≡ 0) → (is_large n ≡ false → blocks_asked c ≡ 0) → (protected_blocks c n).count ≡ 0
+asked_none c n l r =
+    by_rule (λ (b : Blocks). b.count ≡ 0) c n refl (λ a. none_asked c n (is_large n) l r)
 
-zero-counted : (t n : ℕ) → t < 2 → (protectedBlocks (16 * t) n).count ≡ 0
-unfolding blocksAsked largeAsked ◌or◌
-zero-counted zero n h = asked-none 0 n (λ l. refl) (λ r. refl)
-zero-counted (suc zero) n h = asked-none 16 n (λ l. refl) (λ r. refl)
-zero-counted (suc (suc t)) n h = absurd (omega arith)
+zero_counted : (t n : ℕ) → t < 2 → (protected_blocks (16 * t) n).count ≡ 0
+unfolding blocks_asked large_asked ◌or◌
+zero_counted zero n h = asked_none 0 n (λ l. refl) (λ r. refl)
+zero_counted (suc zero) n h = asked_none 16 n (λ l. refl) (λ r. refl)
+zero_counted (suc (suc t)) n h = absurd (omega arith)
 
-pub none-counted : (n : ℕ) (s : Stored) → code_of s.status ≡ 0 → (protectedBlocks (wholeCode s) n).count ≡ 0
-none-counted n s e =
-    let z : wholeCode s ≡ 16 * TBS s.function = omega (arith, e) in
-    ap (λ (c : ℕ). (protectedBlocks c n).count) z ∙ zero-counted (TBS s.function) n (omega arith)
+pub none_counted : (n : ℕ) (s : Stored) → code_of s.status ≡ 0 → (protected_blocks (whole_code s) n).count ≡ 0
+none_counted n s e =
+    let z : whole_code s ≡ 16 * TBS s.function = omega (arith, e) in
+    ap (λ (c : ℕ). (protected_blocks c n).count) z ∙ zero_counted (TBS s.function) n (omega arith)
 
-pub fifteen-counted : (n : ℕ) → isLarge n ≡ false → (protectedBlocks 15 n).count ≡ 0
-unfolding blocksAsked ◌or◌
-fifteen-counted n h = asked-none 15 n (λ l. absurd (false≢true (sym h ∙ l))) (λ r. refl)
+pub fifteen_counted : (n : ℕ) → is_large n ≡ false → (protected_blocks 15 n).count ≡ 0
+unfolding blocks_asked ◌or◌
+fifteen_counted n h = asked_none 15 n (λ l. absurd (false≢true (sym h ∙ l))) (λ r. refl)

@@ -21,22 +21,22 @@ use Rattle.types.specs.declared.Stored.{Stored}
 use Rattle.types.specs.declared.Record.{Record}
 use Rattle.types.specs.declared.Ticked.{Ticked}
 use Rattle.words.specs.Logic.{◌and◌, ◌or◌}
-use Rattle.words.proofs.Tests.{or-true, or-false, or_assoc, same_tests, fails}
-use Rattle.paper.specs.Sizes.{sameMemory, fromOn, pageBytes, arrayBytes, memoryBytes, rowsBytes, tickLimit}
-use Rattle.paper.specs.Program.{pagePlace}
-use Rattle.paper.specs.Erase.{memoryOf, unitBytes, unitBase}
+use Rattle.words.proofs.Tests.{or_true, or_false, or_assoc, same_tests, fails}
+use Rattle.paper.specs.Sizes.{same_memory, from_on, page_bytes, array_bytes, memory_bytes, rows_bytes, tick_limit}
+use Rattle.paper.specs.Program.{page_place}
+use Rattle.paper.specs.Erase.{memory_of, unit_bytes, unit_base}
 use Rattle.paper.specs.Phases.{running}
-use Rattle.paper.specs.Operations.{ticksInAll, ticksDone, ticksLeft, advancedBy, Touch, none, nextTouch}
+use Rattle.paper.specs.Operations.{ticks_in_all, ticks_done, ticks_left, advanced_by, Touch, none, next_touch}
 use Rattle.paper.specs.Soundness.{sound}
-use Rattle.paper.specs.Ticks.{recordAfter, touchAt, touch_of, workingTicks}
+use Rattle.paper.specs.Ticks.{record_after, touch_at, touch_of, working_ticks}
 use Rattle.paper.specs.Calls.{ticked}
-use Rattle.paper.specs.Reached.{reached, nextTouches, workTouches, touchesOf, inPage, touchPage, firstPage, pagesBy, workFirst, workPages, reachesPage}
-use Rattle.paper.specs.History.{ticks, tickTouches, reachedBy, callTouches, byteAfterAll}
-use Rattle.paper.specs.ByPlace.{byteRan}
-use Rattle.paper.proofs.Soundness.{InOrder, running-in-order}
-use Rattle.paper.proofs.ManyTicks.{run-touch, run_past, past-touch, ran-all, rest-record, rest-works}
-use Rattle.paper.proofs.Answers.{ticks-run, ticks-refused}
-use Rattle.paper.proofs.ByPlace.{from_on, on-from, ran-bytes, ended-bytes}
+use Rattle.paper.specs.Reached.{reached, next_touches, work_touches, touches_of, in_page, touch_page, first_page, pages_by, work_first, work_pages, reaches_page}
+use Rattle.paper.specs.History.{ticks, tick_touches, reached_by, call_touches, byte_after_all}
+use Rattle.paper.specs.ByPlace.{byte_ran}
+use Rattle.paper.proofs.Soundness.{InOrder, running_in_order}
+use Rattle.paper.proofs.ManyTicks.{run_touch, run_past, past_touch, ran_all, rest_record, rest_works}
+use Rattle.paper.proofs.Answers.{ticks_run, ticks_refused}
+use Rattle.paper.proofs.ByPlace.{from_on_lem, on_from, ran_bytes, ended_bytes}
 
 -- so many ticks that reach nothing, and one more
 none_more : (k : ℕ) → replicate k none ++ (none ∷ []) ≡ replicate (suc k) none
@@ -48,213 +48,213 @@ none_after ts k = append_assoc ts (replicate k none) (none ∷ []) ∙ ap (λ (u
 -- a part that works on an operation
 module _ (p : Record) (o : Operation) (e : running p.phase ≡ At o) where
   -- k ticks that are not more than those left
-  run-touches : (k : ℕ) → ticksDone o + k ≤ ticksInAll o p.part.blocks → tickTouches k p ≡ nextTouches o k p.page
-  run-touches zero h = refl
-  run-touches (suc k) h =
-      ap (λ (ts : List Touch). ts ++ (touch_of (recordAfter k p) ∷ [])) (run-touches k (omega arith))
-      ∙ ap (λ (t : Touch). nextTouches o k p.page ++ (t ∷ [])) (run-touch p o e k (omega arith))
+  run_touches : (k : ℕ) → ticks_done o + k ≤ ticks_in_all o p.part.blocks → tick_touches k p ≡ next_touches o k p.page
+  run_touches zero h = refl
+  run_touches (suc k) h =
+      ap (λ (ts : List Touch). ts ++ (touch_of (record_after k p) ∷ [])) (run_touches k (omega arith))
+      ∙ ap (λ (t : Touch). next_touches o k p.page ++ (t ∷ [])) (run_touch p o e k (omega arith))
 
   -- and ticks past the last
-  past-touches : (k j : ℕ) → ticksDone o + suc k ≡ ticksInAll o p.part.blocks → tickTouches (suc k + j) p ≡ nextTouches o (suc k) p.page ++ replicate j none
-  past-touches k zero h = rw (add-zero) (run-touches (suc k) (omega arith)) ∙ sym (append-nil (nextTouches o (suc k) p.page))
-  past-touches k (suc j) h =
+  past_touches : (k j : ℕ) → ticks_done o + suc k ≡ ticks_in_all o p.part.blocks → tick_touches (suc k + j) p ≡ next_touches o (suc k) p.page ++ replicate j none
+  past_touches k zero h = rw (add-zero) (run_touches (suc k) (omega arith)) ∙ sym (append-nil (next_touches o (suc k) p.page))
+  past_touches k (suc j) h =
       rw add-suc
-      (ap (λ (t : Touch). tickTouches (suc k + j) p ++ (t ∷ [])) (ap touch_of (run_past p o e k j h) ∙ past-touch p o e)
-      ∙ ap (λ (ts : List Touch). ts ++ (none ∷ [])) (past-touches k j h)
-      ∙ none_after (nextTouches o (suc k) p.page) j)
+      (ap (λ (t : Touch). tick_touches (suc k + j) p ++ (t ∷ [])) (ap touch_of (run_past p o e k j h) ∙ past_touch p o e)
+      ∙ ap (λ (ts : List Touch). ts ++ (none ∷ [])) (past_touches k j h)
+      ∙ none_after (next_touches o (suc k) p.page) j)
 
   module _ (s : sound p ≡ true) where
     abbrev left : ℕ
-    left = ticksLeft o p.part.blocks
+    left = ticks_left o p.part.blocks
 
     in-order-now : InOrder o p.part.blocks p.part.stored
-    in-order-now = running-in-order p o e s
+    in-order-now = running_in_order p o e s
 
     -- as many ticks do work as are left, at most as are asked
-    pub working-is : (n : ℕ) → workingTicks n p ≡ min n left
-    working-is n = (ran-all p o e n (min n left) in-order-now.going refl).done
+    pub working_is : (n : ℕ) → working_ticks n p ≡ min n left
+    working_is n = (ran_all p o e n (min n left) in-order-now.going refl).done
 
-    pub working-fits : (n : ℕ) → ticksDone o + workingTicks n p ≤ ticksInAll o p.part.blocks
-    working-fits n = omega (arith, working-is n, in-order-now.going)
+    pub working_fits : (n : ℕ) → ticks_done o + working_ticks n p ≤ ticks_in_all o p.part.blocks
+    working_fits n = omega (arith, working_is n, in-order-now.going)
 
-    touches-as : (n k : ℕ) (t : Bool) → ltb n left ≡ t → k ≡ min n left → tickTouches n p ≡ nextTouches o k p.page ++ replicate (n - k) none
-    touches-as n k true q h =
+    touches_as : (n k : ℕ) (t : Bool) → ltb n left ≡ t → k ≡ min n left → tick_touches n p ≡ next_touches o k p.page ++ replicate (n - k) none
+    touches_as n k true q h =
         let l : n < left = ltb-true _ _ q in
         let w : n ≡ k = omega arith in
         let z : n - k ≡ 0 = omega arith in
-        rw z (ap (λ (j : ℕ). tickTouches j p) w ∙ run-touches k (omega arith) ∙ sym (append-nil (nextTouches o k p.page)))
-    touches-as n k false q h =
+        rw z (ap (λ (j : ℕ). tick_touches j p) w ∙ run_touches k (omega arith) ∙ sym (append-nil (next_touches o k p.page)))
+    touches_as n k false q h =
         let l : left ≤ n = ltb-false _ _ q in
         let w : n ≡ suc (k - 1) + (n - k) = omega (arith, in-order-now.going) in
         let z : suc (k - 1) ≡ k = omega (arith, in-order-now.going) in
-        ap (λ (j : ℕ). tickTouches j p) w
-        ∙ past-touches (k - 1) (n - k) (omega (arith, in-order-now.going))
-        ∙ ap (λ (j : ℕ). nextTouches o j p.page ++ replicate (n - k) none) z
+        ap (λ (j : ℕ). tick_touches j p) w
+        ∙ past_touches (k - 1) (n - k) (omega (arith, in-order-now.going))
+        ∙ ap (λ (j : ℕ). next_touches o j p.page ++ replicate (n - k) none) z
 
-    working-touches : (n : ℕ) → tickTouches n p ≡ nextTouches o (workingTicks n p) p.page ++ replicate (n - workingTicks n p) none
-    working-touches n = touches-as n (workingTicks n p) (ltb n left) refl (working-is n)
+    working_touches : (n : ℕ) → tick_touches n p ≡ next_touches o (working_ticks n p) p.page ++ replicate (n - working_ticks n p) none
+    working_touches n = touches_as n (working_ticks n p) (ltb n left) refl (working_is n)
 
     -- a byte of a memory after n ticks, by the working ones
-    bytes-as : (m : Memory) (at x n k : ℕ) (t : Bool) → ltb n left ≡ t → k ≡ min n left → byteAfterAll m at (tickTouches n p) x ≡ byteRan k o p.page m at x
-    bytes-as m at x n k true q h =
+    bytes_as : (m : Memory) (at x n k : ℕ) (t : Bool) → ltb n left ≡ t → k ≡ min n left → byte_after_all m at (tick_touches n p) x ≡ byte_ran k o p.page m at x
+    bytes_as m at x n k true q h =
         let l : n < left = ltb-true _ _ q in
         let w : n ≡ k = omega arith in
-        ap (λ (j : ℕ). byteAfterAll m at (tickTouches j p) x) w ∙ ran-bytes p o e in-order-now m at x k (omega arith)
-    bytes-as m at x n k false q h =
+        ap (λ (j : ℕ). byte_after_all m at (tick_touches j p) x) w ∙ ran_bytes p o e in-order-now m at x k (omega arith)
+    bytes_as m at x n k false q h =
         let l : left ≤ n = ltb-false _ _ q in
         let w : left ≡ k = omega arith in
-        ended-bytes p o e in-order-now m at x n l ∙ ap (λ (j : ℕ). byteRan j o p.page m at x) w
+        ended_bytes p o e in-order-now m at x n l ∙ ap (λ (j : ℕ). byte_ran j o p.page m at x) w
 
-    pub working-bytes : (m : Memory) (at x n : ℕ) → byteAfterAll m at (tickTouches n p) x ≡ byteRan (workingTicks n p) o p.page m at x
-    working-bytes m at x n = bytes-as m at x n (workingTicks n p) (ltb n left) refl (working-is n)
+    pub working_bytes : (m : Memory) (at x n : ℕ) → byte_after_all m at (tick_touches n p) x ≡ byte_ran (working_ticks n p) o p.page m at x
+    working_bytes m at x n = bytes_as m at x n (working_ticks n p) (ltb n left) refl (working_is n)
 
 -- a part on which nothing runs
-rest-touches : (p : Record) → running p.phase ≡ NoWork → (n : ℕ) → tickTouches n p ≡ replicate n none
-rest-touches p e zero = refl
-rest-touches p e (suc n) =
-    ap (λ (q : Record). tickTouches n p ++ (touch_of q ∷ [])) (rest-record p e n)
-    ∙ ap (λ (w : Work). tickTouches n p ++ (touchAt w p.page ∷ [])) e
-    ∙ ap (λ (ts : List Touch). ts ++ (none ∷ [])) (rest-touches p e n)
+rest_touches : (p : Record) → running p.phase ≡ NoWork → (n : ℕ) → tick_touches n p ≡ replicate n none
+rest_touches p e zero = refl
+rest_touches p e (suc n) =
+    ap (λ (q : Record). tick_touches n p ++ (touch_of q ∷ [])) (rest_record p e n)
+    ∙ ap (λ (w : Work). tick_touches n p ++ (touch_at w p.page ∷ [])) e
+    ∙ ap (λ (ts : List Touch). ts ++ (none ∷ [])) (rest_touches p e n)
     ∙ none_more n
 
 module _ (p : Record) (s : sound p ≡ true) (n : ℕ) where
-  touches_at : (w : Work) → running p.phase ≡ w → tickTouches n p ≡ workTouches w (workingTicks n p) p.page ++ replicate (n - workingTicks n p) none
+  touches_at : (w : Work) → running p.phase ≡ w → tick_touches n p ≡ work_touches w (working_ticks n p) p.page ++ replicate (n - working_ticks n p) none
   touches_at NoWork e =
-      let z : n - workingTicks n p ≡ n = omega (arith, rest-works p e n) in
-      rest-touches p e n ∙ ap (λ (j : ℕ). replicate j none) (sym z)
-  touches_at (At o) e = working-touches p o e s n
+      let z : n - working_ticks n p ≡ n = omega (arith, rest_works p e n) in
+      rest_touches p e n ∙ ap (λ (j : ℕ). replicate j none) (sym z)
+  touches_at (At o) e = working_touches p o e s n
 
   -- what n ticks reach: the touches of the working ones, and nothing after them
-  pub reached-touches : tickTouches n p ≡ touchesOf (record { work = running p.phase; count = workingTicks n p }) p.page ++ replicate (n - workingTicks n p) none
-  reached-touches = touches_at (running p.phase) refl
+  pub reached_touches : tick_touches n p ≡ touches_of (record { work = running p.phase; count = working_ticks n p }) p.page ++ replicate (n - working_ticks n p) none
+  reached_touches = touches_at (running p.phase) refl
 
 -- a place lies in a page of the array
-pub page-append : (ts us : List Touch) (q : ℕ) → touchPage (ts ++ us) q ≡ (touchPage ts q or touchPage us q)
+pub page_append : (ts us : List Touch) (q : ℕ) → touch_page (ts ++ us) q ≡ (touch_page ts q or touch_page us q)
 unfolding ◌or◌
-page-append [] us q = refl
-page-append (t ∷ ts) us q = ap (λ (b : Bool). inPage q t or b) (page-append ts us q) ∙ sym (or_assoc (inPage q t) (touchPage ts q) (touchPage us q))
+page_append [] us q = refl
+page_append (t ∷ ts) us q = ap (λ (b : Bool). in_page q t or b) (page_append ts us q) ∙ sym (or_assoc (in_page q t) (touch_page ts q) (touch_page us q))
 
-page-none : (k q : ℕ) → touchPage (replicate k none) q ≡ false
+page_none : (k q : ℕ) → touch_page (replicate k none) q ≡ false
 unfolding ◌or◌
-page-none zero q = refl
-page-none (suc k) q = page-none k q
+page_none zero q = refl
+page_none (suc k) q = page_none k q
 
 -- a page, and the base of a unit, begin where a page begins
-unit-based : (u : EraseUnit) (n b : ℕ) → eqb (unitBase u n b) b ≡ true → b + unitBytes u n ≤ memoryBytes (memoryOf u) n → b / pageBytes * pageBytes ≡ b
-unit-based Sector n b e h = let z : b / 4096 * 4096 ≡ b = eqb-true _ _ e in omega arith
-unit-based Block32 n b e h = let z : b / 32768 * 32768 ≡ b = eqb-true _ _ e in omega arith
-unit-based Block64 n b e h = let z : b / 65536 * 65536 ≡ b = eqb-true _ _ e in omega arith
-unit-based Chip n b e h = omega arith
-unit-based Row n b e h = let z : b / 256 * 256 ≡ b = eqb-true _ _ e in omega arith
+unit_based : (u : EraseUnit) (n b : ℕ) → eqb (unit_base u n b) b ≡ true → b + unit_bytes u n ≤ memory_bytes (memory_of u) n → b / page_bytes * page_bytes ≡ b
+unit_based Sector n b e h = let z : b / 4096 * 4096 ≡ b = eqb-true _ _ e in omega arith
+unit_based Block32 n b e h = let z : b / 32768 * 32768 ≡ b = eqb-true _ _ e in omega arith
+unit_based Block64 n b e h = let z : b / 65536 * 65536 ≡ b = eqb-true _ _ e in omega arith
+unit_based Chip n b e h = omega arith
+unit_based Row n b e h = let z : b / 256 * 256 ≡ b = eqb-true _ _ e in omega arith
 
-pub program-based : (w : Memory) (c b k d n : ℕ) (g : Stored) → InOrder (Program w c b k d) n g → b / pageBytes * pageBytes ≡ b
-program-based w c b k d n g i = eqb-true _ _ i.begins
+pub program_based : (w : Memory) (c b k d n : ℕ) (g : Stored) → InOrder (Program w c b k d) n g → b / page_bytes * page_bytes ≡ b
+program_based w c b k d n g i = eqb-true _ _ i.begins
 
-pub erase-based : (u : EraseUnit) (b d n : ℕ) (g : Stored) → InOrder (Erase u b d) n g → b / pageBytes * pageBytes ≡ b
-erase-based u b d n g i = unit-based u n b i.begins (leb-true _ _ i.within)
+pub erase_based : (u : EraseUnit) (b d n : ℕ) (g : Stored) → InOrder (Erase u b d) n g → b / page_bytes * page_bytes ≡ b
+erase_based u b d n g i = unit_based u n b i.begins (leb-true _ _ i.within)
 
 -- k pages and the next
-next-page : (f k q : ℕ) (t : Bool) → eqb (f + k) q ≡ t → (fromOn f k q or t) ≡ fromOn f (suc k) q
-next-page f k q true e =
+next_page : (f k q : ℕ) (t : Bool) → eqb (f + k) q ≡ t → (from_on f k q or t) ≡ from_on f (suc k) q
+next_page f k q true e =
     let h : f + k ≡ q = eqb-true _ _ e in
-    or-true _ ∙ sym (from_on f (suc k) q (omega arith) (omega arith))
-next-page f k q false e =
+    or_true _ ∙ sym (from_on_lem f (suc k) q (omega arith) (omega arith))
+next_page f k q false e =
     let h : f + k ≡ q → ⊥ = eqb-false _ _ e in
-    or-false _
-    ∙ same_tests (fromOn f k q) (fromOn f (suc k) q)
-    (λ y. let u = on-from f k q y in from_on f (suc k) q u.0 (omega (arith, u)))
-    (λ y. let u = on-from f (suc k) q y in from_on f k q u.0 (omega (arith, u, h)))
+    or_false _
+    ∙ same_tests (from_on f k q) (from_on f (suc k) q)
+    (λ y. let u = on_from f k q y in from_on_lem f (suc k) q u.0 (omega (arith, u)))
+    (λ y. let u = on_from f (suc k) q y in from_on_lem f k q u.0 (omega (arith, u, h)))
 
 -- the one page of a program, once more
-same-page : (f k q : ℕ) (t : Bool) → eqb f q ≡ t → (fromOn f (min k 1) q or t) ≡ fromOn f (min (suc k) 1) q
-same-page f k q true e =
+same_page : (f k q : ℕ) (t : Bool) → eqb f q ≡ t → (from_on f (min k 1) q or t) ≡ from_on f (min (suc k) 1) q
+same_page f k q true e =
     let h : f ≡ q = eqb-true _ _ e in
-    or-true _ ∙ sym (from_on f (min (suc k) 1) q (omega arith) (omega arith))
-same-page f k q false e =
+    or_true _ ∙ sym (from_on_lem f (min (suc k) 1) q (omega arith) (omega arith))
+same_page f k q false e =
     let h : f ≡ q → ⊥ = eqb-false _ _ e in
-    or-false _
-    ∙ fails (fromOn f (min k 1) q) (λ y. h (omega (arith, on-from f (min k 1) q y)))
-    ∙ sym (fails (fromOn f (min (suc k) 1) q) (λ y. h (omega (arith, on-from f (min (suc k) 1) q y))))
+    or_false _
+    ∙ fails (from_on f (min k 1) q) (λ y. h (omega (arith, on_from f (min k 1) q y)))
+    ∙ sym (fails (from_on f (min (suc k) 1) q) (λ y. h (omega (arith, on_from f (min (suc k) 1) q y))))
 
-no-page : (f q : ℕ) → fromOn f 0 q ≡ false
-no-page f q = fails (fromOn f 0 q) (λ y. omega (arith, on-from f 0 q y))
+no_page : (f q : ℕ) → from_on f 0 q ≡ false
+no_page f q = fails (from_on f 0 q) (λ y. omega (arith, on_from f 0 q y))
 
 -- no tick reaches no page
-none-as : (t : Bool) (f q : ℕ) → fromOn f (cond t 0 0) q ≡ false
-none-as true f q = no-page f q
-none-as false f q = no-page f q
+none_as : (t : Bool) (f q : ℕ) → from_on f (cond t 0 0) q ≡ false
+none_as true f q = no_page f q
+none_as false f q = no_page f q
 
-none_first : (o : Operation) (q : ℕ) → fromOn (firstPage o) (pagesBy o 0) q ≡ false
-none_first (Program w c b l d) q = none-as (sameMemory Array w) (b / pageBytes) q
-none_first (Erase u b d) q = none-as (sameMemory Array (memoryOf u)) (b / pageBytes + d) q
-none_first (Write r v) q = no-page 0 q
+none_first : (o : Operation) (q : ℕ) → from_on (first_page o) (pages_by o 0) q ≡ false
+none_first (Program w c b l d) q = none_as (same_memory Array w) (b / page_bytes) q
+none_first (Erase u b d) q = none_as (same_memory Array (memory_of u)) (b / page_bytes + d) q
+none_first (Write r v) q = no_page 0 q
 
-pub none-reached : (w : Work) (q : ℕ) → reachesPage (record { work = w; count = 0 }) q ≡ false
-none-reached NoWork q = no-page 0 q
-none-reached (At o) q = none_first o q
+pub none_reached : (w : Work) (q : ℕ) → reaches_page (record { work = w; count = 0 }) q ≡ false
+none_reached NoWork q = no_page 0 q
+none_reached (At o) q = none_first o q
 
 -- the next tick's touch, after k ticks of an operation that is in order
-program-page : (t : Bool) (c b d k q : ℕ) → b / pageBytes * pageBytes ≡ b
-    → (fromOn (b / pageBytes) (cond t (min k 1) 0) q or (t and eqb ((b + pagePlace c d) / pageBytes) q)) ≡ fromOn (b / pageBytes) (cond t (min (suc k) 1) 0) q
-unfolding ◌and◌ pagePlace
-program-page true c b d k q e =
-    let z : (b + (c + d) % pageBytes) / pageBytes ≡ b / pageBytes = omega arith in
-    same-page (b / pageBytes) k q _ (ap (λ (x : ℕ). eqb x q) (sym z))
-program-page false c b d k q e = or-false _
+program_page : (t : Bool) (c b d k q : ℕ) → b / page_bytes * page_bytes ≡ b
+    → (from_on (b / page_bytes) (cond t (min k 1) 0) q or (t and eqb ((b + page_place c d) / page_bytes) q)) ≡ from_on (b / page_bytes) (cond t (min (suc k) 1) 0) q
+unfolding ◌and◌ page_place
+program_page true c b d k q e =
+    let z : (b + (c + d) % page_bytes) / page_bytes ≡ b / page_bytes = omega arith in
+    same_page (b / page_bytes) k q _ (ap (λ (x : ℕ). eqb x q) (sym z))
+program_page false c b d k q e = or_false _
 
-erase-page : (t : Bool) (b d k q : ℕ)
-    → (fromOn (b / pageBytes + d) (cond t k 0) q or (t and eqb ((b + (d + k) * pageBytes) / pageBytes) q)) ≡ fromOn (b / pageBytes + d) (cond t (suc k) 0) q
+erase_page : (t : Bool) (b d k q : ℕ)
+    → (from_on (b / page_bytes + d) (cond t k 0) q or (t and eqb ((b + (d + k) * page_bytes) / page_bytes) q)) ≡ from_on (b / page_bytes + d) (cond t (suc k) 0) q
 unfolding ◌and◌
-erase-page true b d k q =
-    let z : (b + (d + k) * pageBytes) / pageBytes ≡ b / pageBytes + d + k = omega arith in
-    next-page (b / pageBytes + d) k q _ (ap (λ (x : ℕ). eqb x q) (sym z))
-erase-page false b d k q = or-false _
+erase_page true b d k q =
+    let z : (b + (d + k) * page_bytes) / page_bytes ≡ b / page_bytes + d + k = omega arith in
+    next_page (b / page_bytes + d) k q _ (ap (λ (x : ℕ). eqb x q) (sym z))
+erase_page false b d k q = or_false _
 
 module _ (n : ℕ) (s : Stored) (g : List ℕ) (q : ℕ) where
-  page-next : (o : Operation) → InOrder o n s → (k : ℕ)
-      → (fromOn (firstPage o) (pagesBy o k) q or inPage q (nextTouch (advancedBy k o) g)) ≡ fromOn (firstPage o) (pagesBy o (suc k)) q
-  page-next (Program w c b l d) i k = program-page (sameMemory Array w) c b (d + k) k q (program-based w c b l d n s i)
-  page-next (Erase u b d) i k = erase-page (sameMemory Array (memoryOf u)) b d k q
-  page-next (Write r v) i k = or-false _
+  page_next : (o : Operation) → InOrder o n s → (k : ℕ)
+      → (from_on (first_page o) (pages_by o k) q or in_page q (next_touch (advanced_by k o) g)) ≡ from_on (first_page o) (pages_by o (suc k)) q
+  page_next (Program w c b l d) i k = program_page (same_memory Array w) c b (d + k) k q (program_based w c b l d n s i)
+  page_next (Erase u b d) i k = erase_page (same_memory Array (memory_of u)) b d k q
+  page_next (Write r v) i k = or_false _
 
   -- the pages that its touches lie in are those that it reaches
-  pages-next : (o : Operation) → InOrder o n s → (k : ℕ) → touchPage (nextTouches o k g) q ≡ fromOn (firstPage o) (pagesBy o k) q
+  pages_next : (o : Operation) → InOrder o n s → (k : ℕ) → touch_page (next_touches o k g) q ≡ from_on (first_page o) (pages_by o k) q
   unfolding ◌or◌
-  pages-next o i zero = sym (none_first o q)
-  pages-next o i (suc k) =
-      page-append (nextTouches o k g) (nextTouch (advancedBy k o) g ∷ []) q
-      ∙ ap (λ (t : Bool). touchPage (nextTouches o k g) q or t) (or-false (inPage q (nextTouch (advancedBy k o) g)))
-      ∙ ap (λ (t : Bool). t or inPage q (nextTouch (advancedBy k o) g)) (pages-next o i k)
-      ∙ page-next o i k
+  pages_next o i zero = sym (none_first o q)
+  pages_next o i (suc k) =
+      page_append (next_touches o k g) (next_touch (advanced_by k o) g ∷ []) q
+      ∙ ap (λ (t : Bool). touch_page (next_touches o k g) q or t) (or_false (in_page q (next_touch (advanced_by k o) g)))
+      ∙ ap (λ (t : Bool). t or in_page q (next_touch (advanced_by k o) g)) (pages_next o i k)
+      ∙ page_next o i k
 
 module _ (p : Record) (s : sound p ≡ true) (q : ℕ) where
-  pages-at : (w : Work) → running p.phase ≡ w → (k : ℕ) → touchPage (workTouches w k p.page) q ≡ fromOn (workFirst w) (workPages w k) q
-  pages-at NoWork e k = sym (no-page 0 q)
-  pages-at (At o) e k = pages-next p.part.blocks p.part.stored p.page q o (running-in-order p o e s) k
+  pages_at : (w : Work) → running p.phase ≡ w → (k : ℕ) → touch_page (work_touches w k p.page) q ≡ from_on (work_first w) (work_pages w k) q
+  pages_at NoWork e k = sym (no_page 0 q)
+  pages_at (At o) e k = pages_next p.part.blocks p.part.stored p.page q o (running_in_order p o e s) k
 
   -- page by page: n ticks of a sound part
-  pub touched-pages : (n : ℕ) → touchPage (tickTouches n p) q ≡ reachesPage (record { work = running p.phase; count = workingTicks n p }) q
-  touched-pages n =
-      let k = workingTicks n p in
-      ap (λ (ts : List Touch). touchPage ts q) (reached-touches p s n)
-      ∙ page-append (workTouches (running p.phase) k p.page) (replicate (n - k) none) q
-      ∙ ap (λ (t : Bool). touchPage (workTouches (running p.phase) k p.page) q or t) (page-none (n - k) q)
-      ∙ or-false _
-      ∙ pages-at (running p.phase) refl k
+  pub touched_pages : (n : ℕ) → touch_page (tick_touches n p) q ≡ reaches_page (record { work = running p.phase; count = working_ticks n p }) q
+  touched_pages n =
+      let k = working_ticks n p in
+      ap (λ (ts : List Touch). touch_page ts q) (reached_touches p s n)
+      ∙ page_append (work_touches (running p.phase) k p.page) (replicate (n - k) none) q
+      ∙ ap (λ (t : Bool). touch_page (work_touches (running p.phase) k p.page) q or t) (page_none (n - k) q)
+      ∙ or_false _
+      ∙ pages_at (running p.phase) refl k
 
-  call-as : (n : ℕ) (t : Bool) → leb n (tickLimit p.part.blocks) ≡ t
-      → touchPage (callTouches (ticks n) p) q ≡ reachesPage (reached p (ticked p (arrayBytes p.part.blocks) rowsBytes n)) q
-  call-as n true e =
-      let z = ticks-run p s n (leb-true _ _ e) in
-      ap (λ (t : Ticked). touchPage (reachedBy t.number n p) q) z
-      ∙ touched-pages n
-      ∙ ap (λ (t : Ticked). reachesPage (reached p t) q) (sym z)
-  call-as n false e =
-      let z = ticks-refused p s n e in
-      ap (λ (t : Ticked). touchPage (reachedBy t.number n p) q) z
-      ∙ sym (none-reached (running p.phase) q)
-      ∙ ap (λ (t : Ticked). reachesPage (reached p t) q) (sym z)
+  call_as : (n : ℕ) (t : Bool) → leb n (tick_limit p.part.blocks) ≡ t
+      → touch_page (call_touches (ticks n) p) q ≡ reaches_page (reached p (ticked p (array_bytes p.part.blocks) rows_bytes n)) q
+  call_as n true e =
+      let z = ticks_run p s n (leb-true _ _ e) in
+      ap (λ (t : Ticked). touch_page (reached_by t.number n p) q) z
+      ∙ touched_pages n
+      ∙ ap (λ (t : Ticked). reaches_page (reached p t) q) (sym z)
+  call_as n false e =
+      let z = ticks_refused p s n e in
+      ap (λ (t : Ticked). touch_page (reached_by t.number n p) q) z
+      ∙ sym (none_reached (running p.phase) q)
+      ∙ ap (λ (t : Ticked). reaches_page (reached p t) q) (sym z)
 
   -- and a tick call, on the part's own memory
-  pub call-pages : (n : ℕ) → touchPage (callTouches (ticks n) p) q ≡ reachesPage (reached p (ticked p (arrayBytes p.part.blocks) rowsBytes n)) q
-  call-pages n = call-as n (leb n (tickLimit p.part.blocks)) refl
+  pub call_pages : (n : ℕ) → touch_page (call_touches (ticks n) p) q ≡ reaches_page (reached p (ticked p (array_bytes p.part.blocks) rows_bytes n)) q
+  call_pages n = call_as n (leb n (tick_limit p.part.blocks)) refl

@@ -12,47 +12,47 @@ use Rattle.types.specs.declared.Decoded.TheVariants.{Known}
 use Rattle.types.specs.declared.Effect.{Effect}
 use Rattle.types.specs.declared.Change.TheVariants.{Marked}
 use Rattle.types.specs.declared.Record.{Record}
-use Rattle.paper.specs.Records.{marked, resting, withLive}
+use Rattle.paper.specs.Records.{marked, resting, with_live}
 use Rattle.paper.specs.Soundness.{sound}
-use Rattle.paper.specs.Table.{decoded, columns, addressingOn, isRead}
-use Rattle.paper.specs.Commands.{changed, begun, unarmed, changeBy, changeBarred}
-use Rattle.paper.specs.Numbers.{transactionRefusal, ignoredNumber}
-use Rattle.paper.specs.Calls.{refused, ignored, executed, outcomeTo, outcomeOf, transacted}
-use Rattle.paper.proofs.Soundness.{recordOf}
-use Rattle.paper.proofs.Table.{of-reads}
+use Rattle.paper.specs.Table.{decoded, columns, addressing_on, is_read}
+use Rattle.paper.specs.Commands.{changed, begun, unarmed, change_by, change_barred}
+use Rattle.paper.specs.Numbers.{transaction_refusal, ignored_number}
+use Rattle.paper.specs.Calls.{refused, ignored, executed, outcome_to, outcome_of, transacted}
+use Rattle.paper.proofs.Soundness.{record_of}
+use Rattle.paper.proofs.Table.{of_reads}
 
 -- what holds of the record before, and of it unarmed, holds of the record after a read
 module _ (P : Record → Type 0) (p : Record) (awake : p.part.asleep ≡ false) (wp : Bool) (i : List ℕ) (same : P p) (unmarked : P (changed (Marked false) i p)) where
-  module _ (k : Command) (c : decoded p.part.blocks p.part.bank (get_or i 0 0) ≡ Known k) (h : isRead (columns k) ≡ true) where
+  module _ (k : Command) (c : decoded p.part.blocks p.part.bank (get_or i 0 0) ≡ Known k) (h : is_read (columns k) ≡ true) where
     looked : P (changed (executed (columns k) p.part p.phase i).change i p)
     looked =
-        of-reads (λ (e : Effect). P (changed (changeBy e (addressingOn (columns k) p.part) (begun (columns k) p.part i) p.part p.phase i) i p))
+        of_reads (λ (e : Effect). P (changed (change_by e (addressing_on (columns k) p.part) (begun (columns k) p.part i) p.part p.phase i) i p))
         unmarked
-        (subst (λ (t : Bool). P (recordOf p.identity (unarmed (resting p.part t)) p.phase p.page)) awake unmarked)
+        (subst (λ (t : Bool). P (record_of p.identity (unarmed (resting p.part t)) p.phase p.page)) awake unmarked)
         p.part.blocks p.part.bank (get_or i 0 0) k c h
 
     -- no error bit is set
-    no-error : P (changed (changeBarred (columns k).effect p.part) i p)
-    no-error =
-        let z = subst⁻¹ (λ (v : ℕ). P (recordOf p.identity (withLive (marked p.part false) v) p.phase p.page)) (or_zero_r p.part.live) unmarked in
-        of-reads (λ (e : Effect). P (changed (changeBarred e p.part) i p)) z z p.part.blocks p.part.bank (get_or i 0 0) k c h
+    no_error : P (changed (change_barred (columns k).effect p.part) i p)
+    no_error =
+        let z = subst⁻¹ (λ (v : ℕ). P (record_of p.identity (with_live (marked p.part false) v) p.phase p.page)) (or_zero_r p.part.live) unmarked in
+        of_reads (λ (e : Effect). P (changed (change_barred e p.part) i p)) z z p.part.blocks p.part.bank (get_or i 0 0) k c h
 
-    ignored-so : (t : Bool) → P (changed (cond t (changeBarred (columns k).effect p.part) (Marked false)) i p)
-    ignored-so true = no-error
-    ignored-so false = unmarked
+    ignored_so : (t : Bool) → P (changed (cond t (change_barred (columns k).effect p.part) (Marked false)) i p)
+    ignored_so true = no_error
+    ignored_so false = unmarked
 
-    taken-or-not : (n : ℕ) (t : Bool) → P (changed (cond t (executed (columns k) p.part p.phase i) (ignored (Known k) n p.part (length i))).change i p)
-    taken-or-not n true = looked
-    taken-or-not n false = ignored-so (eqb n 28)
+    taken_or_not : (n : ℕ) (t : Bool) → P (changed (cond t (executed (columns k) p.part p.phase i) (ignored (Known k) n p.part (length i))).change i p)
+    taken_or_not n true = looked
+    taken_or_not n false = ignored_so (eqb n 28)
 
-    refused-or-not : (n : ℕ) (t : Bool) → P (changed (cond t (outcomeTo (Known k) p.part p.phase wp i) (refused n)).change i p)
-    refused-or-not n true =
-        let number = ignoredNumber (Known k) p.part p.phase i wp in
-        taken-or-not number (eqb number 0)
-    refused-or-not n false = same
+    refused_or_not : (n : ℕ) (t : Bool) → P (changed (cond t (outcome_to (Known k) p.part p.phase wp i) (refused n)).change i p)
+    refused_or_not n true =
+        let number = ignored_number (Known k) p.part p.phase i wp in
+        taken_or_not number (eqb number 0)
+    refused_or_not n false = same
 
     pub after_read : (a r o : ℕ) → P (transacted p a r wp i o).next
-    unfolding transacted outcomeOf
+    unfolding transacted outcome_of
     after_read a r o =
-        let n = transactionRefusal p.part.blocks (sound p) a r (length i) o in
-        subst⁻¹ (λ (d : Decoded). P (changed (cond (eqb n 0) (outcomeTo d p.part p.phase wp i) (refused n)).change i p)) c (refused-or-not n (eqb n 0))
+        let n = transaction_refusal p.part.blocks (sound p) a r (length i) o in
+        subst⁻¹ (λ (d : Decoded). P (changed (cond (eqb n 0) (outcome_to d p.part p.phase wp i) (refused n)).change i p)) c (refused_or_not n (eqb n 0))

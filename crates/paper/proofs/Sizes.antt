@@ -8,10 +8,10 @@ use borrow.Author.Tests.{eqb-true}
 use Rattle.types.specs.declared.Memory.{Memory}
 use Rattle.types.specs.declared.Memory.TheVariants.{Array, Rows}
 use Rattle.words.proofs.Tests.{or_cases}
-use Rattle.paper.specs.Sizes.{isLarge, sizeOk, sameMemory, tickLimit}
+use Rattle.paper.specs.Sizes.{is_large, size_ok, same_memory, tick_limit}
 
-pub by_size : (P : ℕ → Type 0) → P 1 → P 4 → P 8 → P 16 → P 512 → (n : ℕ) → sizeOk n ≡ true → P n
-unfolding sizeOk
+pub by_size : (P : ℕ → Type 0) → P 1 → P 4 → P 8 → P 16 → P 512 → (n : ℕ) → size_ok n ≡ true → P n
+unfolding size_ok
 by_size P one four eight sixteen large n h =
     ⊎_elim
     (λ e. subst⁻¹ P (eqb-true n 1 e) one)
@@ -30,29 +30,29 @@ by_size P one four eight sixteen large n h =
     (or_cases _ _ h'))
     (or_cases _ _ h)
 
-pub size-range : (n : ℕ) → sizeOk n ≡ true → (1 ≤ n) × (n ≤ 512)
-size-range =
+pub size_range : (n : ℕ) → size_ok n ≡ true → (1 ≤ n) × (n ≤ 512)
+size_range =
     by_size (λ (n : ℕ). (1 ≤ n) × (n ≤ 512)) (omega arith) (omega arith) (omega arith) (omega arith) (omega arith)
 
-limit-as : (t : Bool) → (4096 ≤ cond t 131072 4096) × (cond t 131072 4096 ≤ 131072)
-limit-as true = omega arith
-limit-as false = omega arith
+limit_as : (t : Bool) → (4096 ≤ cond t 131072 4096) × (cond t 131072 4096 ≤ 131072)
+limit_as true = omega arith
+limit_as false = omega arith
 
-pub limit-range : (n : ℕ) → (4096 ≤ tickLimit n) × (tickLimit n ≤ 131072)
-limit-range n = limit-as (isLarge n)
+pub limit_range : (n : ℕ) → (4096 ≤ tick_limit n) × (tick_limit n ≤ 131072)
+limit_range n = limit_as (is_large n)
 
-pub chip-few : (n : ℕ) → sizeOk n ≡ true → n * 256 ≤ tickLimit n
-chip-few =
-    by_size (λ (n : ℕ). n * 256 ≤ tickLimit n) (omega arith) (omega arith) (omega arith) (omega arith) (omega arith)
+pub chip_few : (n : ℕ) → size_ok n ≡ true → n * 256 ≤ tick_limit n
+chip_few =
+    by_size (λ (n : ℕ). n * 256 ≤ tick_limit n) (omega arith) (omega arith) (omega arith) (omega arith) (omega arith)
 
 -- a memory is the same as itself
-pub same_self : (m : Memory) → sameMemory m m ≡ true
+pub same_self : (m : Memory) → same_memory m m ≡ true
 same_self Array = refl
 same_self Rows = refl
 
 -- two memories that are the same are one
-pub same-is : (m w : Memory) → sameMemory m w ≡ true → m ≡ w
-same-is Array Array e = refl
-same-is Array Rows e = absurd (false≢true e)
-same-is Rows Array e = absurd (false≢true e)
-same-is Rows Rows e = refl
+pub same_is : (m w : Memory) → same_memory m w ≡ true → m ≡ w
+same_is Array Array e = refl
+same_is Array Rows e = absurd (false≢true e)
+same_is Rows Array e = absurd (false≢true e)
+same_is Rows Rows e = refl

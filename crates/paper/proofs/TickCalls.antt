@@ -6,25 +6,25 @@ use lib.Dec.{leb}
 use borrow.Author.Tests.{leb-true}
 use Rattle.types.specs.declared.Record.{Record}
 use Rattle.types.specs.declared.Ticked.{Ticked}
-use Rattle.paper.specs.Sizes.{tickLimit}
+use Rattle.paper.specs.Sizes.{tick_limit}
 use Rattle.paper.specs.Soundness.{sound}
-use Rattle.paper.specs.Ticks.{recordAfter}
-use Rattle.paper.specs.History.{ticks, recordAfterCall, ticksBy, tickTouches, reachedBy, callTouches}
-use Rattle.paper.proofs.Answers.{ticks-run, ticks-refused}
+use Rattle.paper.specs.Ticks.{record_after}
+use Rattle.paper.specs.History.{ticks, record_after_call, ticks_by, tick_touches, reached_by, call_touches}
+use Rattle.paper.proofs.Answers.{ticks_run, ticks_refused}
 
 -- a call of n ticks is k ticks
 pub record Passes (p : Record) (n k : ℕ) : Type 0 where
-  pub next : recordAfterCall (ticks n) p ≡ recordAfter k p
-  pub reached : callTouches (ticks n) p ≡ tickTouches k p
+  pub next : record_after_call (ticks n) p ≡ record_after k p
+  pub reached : call_touches (ticks n) p ≡ tick_touches k p
 
 module _ (p : Record) (s : sound p ≡ true) (n : ℕ) where
-  passes-as : (t : Bool) → leb n (tickLimit p.part.blocks) ≡ t → Passes p n (cond t n 0)
-  passes-as true e =
-      let z = ticks-run p s n (leb-true _ _ e) in
-      record { next = ap (λ (t : Ticked). t.next) z; reached = ap (λ (t : Ticked). reachedBy t.number n p) z }
-  passes-as false e =
-      let z = ticks-refused p s n e in
-      record { next = ap (λ (t : Ticked). t.next) z; reached = ap (λ (t : Ticked). reachedBy t.number n p) z }
+  passes_as : (t : Bool) → leb n (tick_limit p.part.blocks) ≡ t → Passes p n (cond t n 0)
+  passes_as true e =
+      let z = ticks_run p s n (leb-true _ _ e) in
+      record { next = ap (λ (t : Ticked). t.next) z; reached = ap (λ (t : Ticked). reached_by t.number n p) z }
+  passes_as false e =
+      let z = ticks_refused p s n e in
+      record { next = ap (λ (t : Ticked). t.next) z; reached = ap (λ (t : Ticked). reached_by t.number n p) z }
 
-  pub ticks-pass : Passes p n (ticksBy p.part.blocks (ticks n))
-  ticks-pass = passes-as (leb n (tickLimit p.part.blocks)) refl
+  pub ticks_pass : Passes p n (ticks_by p.part.blocks (ticks n))
+  ticks_pass = passes_as (leb n (tick_limit p.part.blocks)) refl

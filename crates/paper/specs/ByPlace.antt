@@ -4,25 +4,25 @@ use Rattle.types.specs.declared.Memory.{Memory}
 use Rattle.types.specs.declared.Operation.{Operation}
 use Rattle.types.specs.declared.Operation.TheVariants.{Program, Erase, Write}
 use Rattle.words.specs.Logic.{◌and◌}
-use Rattle.paper.specs.Sizes.{sameMemory, fromOn, pageBytes}
-use Rattle.paper.specs.Program.{narrowedByte}
-use Rattle.paper.specs.Erase.{memoryOf, erasedByte}
-use Rattle.paper.specs.Operations.{ticksLeft}
+use Rattle.paper.specs.Sizes.{same_memory, from_on, page_bytes}
+use Rattle.paper.specs.Program.{narrowed_byte}
+use Rattle.paper.specs.Erase.{memory_of, erased_byte}
+use Rattle.paper.specs.Operations.{ticks_left}
 
 -- which byte of a program falls at the place j of its page, if byte 0 falls at the place s: each next one falls a place further, and past the last byte at the page's start
-abbrev pub byteFor : ℕ → ℕ → ℕ
-byteFor s j = (j + (pageBytes - s)) % pageBytes
+abbrev pub byte_for : ℕ → ℕ → ℕ
+byte_for s j = (j + (page_bytes - s)) % page_bytes
 
 -- the byte x at a place of a memory after the next k ticks of an operation, which are at most those left, with the page data g. An erase leaves FFh in its next k pages; a program leaves old AND data where one of its next k kept bytes falls; all else is as it was
-abbrev pub byteRan : ℕ → Operation → List ℕ → Memory → ℕ → ℕ → ℕ
-byteRan k (Program w s b c d) g m at x =
-    cond (sameMemory m w and fromOn b pageBytes at and fromOn d k (byteFor s (at - b)))
-    (narrowedByte x (get_or g (byteFor s (at - b)) 0))
+abbrev pub byte_ran : ℕ → Operation → List ℕ → Memory → ℕ → ℕ → ℕ
+byte_ran k (Program w s b c d) g m at x =
+    cond (same_memory m w and from_on b page_bytes at and from_on d k (byte_for s (at - b)))
+    (narrowed_byte x (get_or g (byte_for s (at - b)) 0))
     x
-byteRan k (Erase u b d) g m at x =
-    cond (sameMemory m (memoryOf u) and fromOn (b + d * pageBytes) (k * pageBytes) at) erasedByte x
-byteRan k (Write r v) g m at x = x
+byte_ran k (Erase u b d) g m at x =
+    cond (same_memory m (memory_of u) and from_on (b + d * page_bytes) (k * page_bytes) at) erased_byte x
+byte_ran k (Write r v) g m at x = x
 
 -- and after all that are left, on a part of n blocks: the operation has run to its end
-abbrev pub byteEnded : Operation → ℕ → List ℕ → Memory → ℕ → ℕ → ℕ
-byteEnded o n g m at x = byteRan (ticksLeft o n) o g m at x
+abbrev pub byte_ended : Operation → ℕ → List ℕ → Memory → ℕ → ℕ → ℕ
+byte_ended o n g m at x = byte_ran (ticks_left o n) o g m at x

@@ -16,56 +16,56 @@ use Rattle.types.specs.declared.Data.{Data}
 use Rattle.types.specs.declared.Data.TheVariants.{Kept, Sent, Zero}
 use Rattle.types.specs.declared.Change.{Change}
 use Rattle.types.specs.declared.Change.TheVariants.{Same, Marked, Live, Anew, Runs, Halts, GoesOn, Clears}
-use Rattle.paper.specs.Phases.{runningIn, workingOn, suspendedIn, resumedIn}
-use Rattle.paper.specs.Records.{settled, freshPart, marked, resting, withLive, withBank}
-use Rattle.paper.specs.Program.{dataSent, pageData, noData, program_of}
-use Rattle.paper.specs.Erase.{eraseOf}
-use Rattle.paper.specs.Registers.{writeOf, E_ERR, P_ERR, PROT_E, liveSet, liveCleared, liveFailed, bankSet, bankTurned}
-use Rattle.paper.specs.Table.{columns, addressingOn}
+use Rattle.paper.specs.Phases.{running_in, working_on, suspended_in, resumed_in}
+use Rattle.paper.specs.Records.{settled, fresh_part, marked, resting, with_live, with_bank}
+use Rattle.paper.specs.Program.{data_sent, page_data, no_data, program_of}
+use Rattle.paper.specs.Erase.{erase_of}
+use Rattle.paper.specs.Registers.{write_of, E_ERR, P_ERR, PROT_E, live_set, live_cleared, live_failed, bank_set, bank_turned}
+use Rattle.paper.specs.Table.{columns, addressing_on}
 
 -- what becomes of page data g in a call with the input i
-abbrev pub pageAfter : Data → List ℕ → List ℕ → List ℕ
-pageAfter Kept i g = g
-pageAfter (Sent a) i g = pageData (dataSent a i)
-pageAfter Zero i g = noData
+abbrev pub page_after : Data → List ℕ → List ℕ → List ℕ
+page_after Kept i g = g
+page_after (Sent a) i g = page_data (data_sent a i)
+page_after Zero i g = no_data
 
 -- what a change makes of a part
-abbrev pub partAfter : Change → Part → Part
-partAfter Same p = p
-partAfter (Marked armed) p = marked p armed
-partAfter (Live v) p = withLive (marked p false) v
-partAfter (Anew q) p = q
-partAfter (Runs q d w) p = q
-partAfter (Halts q) p = q
-partAfter (GoesOn q) p = q
-partAfter (Clears q) p = q
+abbrev pub part_after : Change → Part → Part
+part_after Same p = p
+part_after (Marked armed) p = marked p armed
+part_after (Live v) p = with_live (marked p false) v
+part_after (Anew q) p = q
+part_after (Runs q d w) p = q
+part_after (Halts q) p = q
+part_after (GoesOn q) p = q
+part_after (Clears q) p = q
 
 -- what it makes of the phase
-abbrev pub phaseAfter : Change → Phase → Phase
-phaseAfter Same f = f
-phaseAfter (Marked armed) f = f
-phaseAfter (Live v) f = f
-phaseAfter (Anew q) f = f
-phaseAfter (Runs q d w) f = runningIn f w
-phaseAfter (Halts q) f = suspendedIn f
-phaseAfter (GoesOn q) f = resumedIn f
-phaseAfter (Clears q) f = Idle
+abbrev pub phase_after : Change → Phase → Phase
+phase_after Same f = f
+phase_after (Marked armed) f = f
+phase_after (Live v) f = f
+phase_after (Anew q) f = f
+phase_after (Runs q d w) f = running_in f w
+phase_after (Halts q) f = suspended_in f
+phase_after (GoesOn q) f = resumed_in f
+phase_after (Clears q) f = Idle
 
 -- what becomes of page data by it
-abbrev pub dataAfter : Change → Data
-dataAfter Same = Kept
-dataAfter (Marked armed) = Kept
-dataAfter (Live v) = Kept
-dataAfter (Anew q) = Kept
-dataAfter (Runs q d w) = d
-dataAfter (Halts q) = Kept
-dataAfter (GoesOn q) = Kept
-dataAfter (Clears q) = Zero
+abbrev pub data_after : Change → Data
+data_after Same = Kept
+data_after (Marked armed) = Kept
+data_after (Live v) = Kept
+data_after (Anew q) = Kept
+data_after (Runs q d w) = d
+data_after (Halts q) = Kept
+data_after (GoesOn q) = Kept
+data_after (Clears q) = Zero
 
 -- the record after a change by a call with the input i; no change has another identity
 abbrev pub changed : Change → List ℕ → Record → Record
 changed c i p =
-    record { part = partAfter c p.part; phase = phaseAfter c p.phase; identity = p.identity; page = pageAfter (dataAfter c) i p.page }
+    record { part = part_after c p.part; phase = phase_after c p.phase; identity = p.identity; page = page_after (data_after c) i p.page }
 
 -- what a command begins on a part of n blocks, with the input i, in which its address is sent as g says
 abbrev pub begins : Effect → Addressing → ℕ → List ℕ → Work
@@ -73,8 +73,8 @@ begins Looks g n i = NoWork
 begins Enables g n i = NoWork
 begins Disables g n i = NoWork
 begins (Programs m) g n i = At (program_of m g n i)
-begins (Erases u) g n i = At (eraseOf u g n i)
-begins (Writes r) g n i = At (writeOf r i)
+begins (Erases u) g n i = At (erase_of u g n i)
+begins (Writes r) g n i = At (write_of r i)
 begins Suspends g n i = NoWork
 begins Resumes g n i = NoWork
 begins Sleeps g n i = NoWork
@@ -88,7 +88,7 @@ begins (SetsFar far) g n i = NoWork
 
 -- so a command with these columns on a part
 abbrev pub begun : Columns → Part → List ℕ → Work
-begun k p i = begins k.effect (addressingOn k p) p.blocks i
+begun k p i = begins k.effect (addressing_on k p) p.blocks i
 
 -- every transaction but an executed 66h leaves the part unarmed
 abbrev pub unarmed : Part → Part
@@ -97,56 +97,56 @@ unarmed p = marked p false
 -- the part busy with the operation that a command begins, which has no tick done; WEL stays 1
 abbrev pub starts : Work → Part → Phase → Data → Change
 starts NoWork p f d = Marked false
-starts (At o) p f d = Runs (unarmed (settled p (workingOn f o) true)) d (At o)
+starts (At o) p f d = Runs (unarmed (settled p (working_on f o) true)) d (At o)
 
 -- what an executed command changes, of a part in a phase, where it begins w, with the input i, in which its address is sent as g says
-abbrev pub changeBy : Effect → Addressing → Work → Part → Phase → List ℕ → Change
-changeBy Looks g w p f i = Marked false
-changeBy Enables g w p f i = Anew (unarmed (settled p f true))
-changeBy Disables g w p f i = Anew (unarmed (settled p f false))
-changeBy (Programs m) g w p f i = starts w p f (Sent g)
-changeBy (Erases u) g w p f i = starts w p f Kept
-changeBy (Writes r) g w p f i = starts w p f Kept
+abbrev pub change_by : Effect → Addressing → Work → Part → Phase → List ℕ → Change
+change_by Looks g w p f i = Marked false
+change_by Enables g w p f i = Anew (unarmed (settled p f true))
+change_by Disables g w p f i = Anew (unarmed (settled p f false))
+change_by (Programs m) g w p f i = starts w p f (Sent g)
+change_by (Erases u) g w p f i = starts w p f Kept
+change_by (Writes r) g w p f i = starts w p f Kept
 -- WIP and WEL become 0, PSUS or ESUS 1
-changeBy Suspends g w p f i = Halts (unarmed (settled p (suspendedIn f) false))
+change_by Suspends g w p f i = Halts (unarmed (settled p (suspended_in f) false))
 -- resume goes on with the next tick and sets WEL to 1
-changeBy Resumes g w p f i = GoesOn (unarmed (settled p (resumedIn f) true))
-changeBy Sleeps g w p f i = Anew (unarmed (resting p true))
-changeBy Wakes g w p f i = Anew (unarmed (resting p false))
-changeBy Arms g w p f i = Marked true
+change_by Resumes g w p f i = GoesOn (unarmed (settled p (resumed_in f) true))
+change_by Sleeps g w p f i = Anew (unarmed (resting p true))
+change_by Wakes g w p f i = Anew (unarmed (resting p false))
+change_by Arms g w p f i = Marked true
 -- both operations dropped, WEL 0, awake, unarmed, the live byte loaded, the bank register 00h, the identity as it was: what power-up gives for the same size, identity and stored register bits
-changeBy Resets g w p f i = Clears (freshPart p.blocks p.stored)
+change_by Resets g w p f i = Clears (fresh_part p.blocks p.stored)
 -- 83h and 82h act at once, and leave WEL
-changeBy SetsLive g w p f i = Live (liveSet (get_or i 1 0) p.live)
-changeBy ClearsErrors g w p f i = Live (liveCleared p.live)
+change_by SetsLive g w p f i = Live (live_set (get_or i 1 0) p.live)
+change_by ClearsErrors g w p f i = Live (live_cleared p.live)
 -- and so do the writes of the bank register
-changeBy SetsBank g w p f i = Anew (unarmed (withBank p (bankSet (get_or i 1 0))))
-changeBy (SetsFar far) g w p f i = Anew (unarmed (withBank p (bankTurned far p.bank)))
+change_by SetsBank g w p f i = Anew (unarmed (with_bank p (bank_set (get_or i 1 0))))
+change_by (SetsFar far) g w p f i = Anew (unarmed (with_bank p (bank_turned far p.bank)))
 
 -- the error bits that a command sets when it answers 28: an erase E_ERR and PROT_E, a program P_ERR and PROT_E, nothing else any
-abbrev pub errorsOf : Effect → ℕ
-errorsOf Looks = 0
-errorsOf Enables = 0
-errorsOf Disables = 0
-errorsOf (Programs m) = P_ERR + PROT_E
-errorsOf (Erases u) = E_ERR + PROT_E
-errorsOf (Writes r) = 0
-errorsOf Suspends = 0
-errorsOf Resumes = 0
-errorsOf Sleeps = 0
-errorsOf Wakes = 0
-errorsOf Arms = 0
-errorsOf Resets = 0
-errorsOf SetsLive = 0
-errorsOf ClearsErrors = 0
-errorsOf SetsBank = 0
-errorsOf (SetsFar far) = 0
+abbrev pub errors_of : Effect → ℕ
+errors_of Looks = 0
+errors_of Enables = 0
+errors_of Disables = 0
+errors_of (Programs m) = P_ERR + PROT_E
+errors_of (Erases u) = E_ERR + PROT_E
+errors_of (Writes r) = 0
+errors_of Suspends = 0
+errors_of Resumes = 0
+errors_of Sleeps = 0
+errors_of Wakes = 0
+errors_of Arms = 0
+errors_of Resets = 0
+errors_of SetsLive = 0
+errors_of ClearsErrors = 0
+errors_of SetsBank = 0
+errors_of (SetsFar far) = 0
 
 -- what a command changes that answers 28: the armed mark is cleared, and the error bits are set that it sets
-abbrev pub changeBarred : Effect → Part → Change
-changeBarred e p = Live (liveFailed (errorsOf e) p.live)
+abbrev pub change_barred : Effect → Part → Change
+change_barred e p = Live (live_failed (errors_of e) p.live)
 
 -- what a transaction changes that the part ignored: with 28 as said of the command, with any other number the armed mark alone, which is cleared
-abbrev pub changeIgnored : Decoded → ℕ → Part → Change
-changeIgnored (Known k) number p = cond (eqb number 28) (changeBarred (columns k).effect p) (Marked false)
-changeIgnored Unknown number p = Marked false
+abbrev pub change_ignored : Decoded → ℕ → Part → Change
+change_ignored (Known k) number p = cond (eqb number 28) (change_barred (columns k).effect p) (Marked false)
+change_ignored Unknown number p = Marked false

@@ -9,8 +9,8 @@ use Rattle.types.specs.declared.Effect.{Effect}
 use Rattle.types.specs.declared.Effect.TheVariants.{Looks, Enables, Disables, Programs, Erases, Writes, Suspends, Resumes, Sleeps, Wakes, Arms, Resets, SetsLive, ClearsErrors, SetsBank, SetsFar}
 use Rattle.types.specs.declared.Record.{Record}
 use Rattle.words.specs.Logic.{◌and◌}
-use Rattle.paper.specs.Sizes.{arrayBytes, rowsBytes, pageBytes, sameMemory, fromOn}
-use Rattle.paper.specs.Erase.{memoryOf}
+use Rattle.paper.specs.Sizes.{array_bytes, rows_bytes, page_bytes, same_memory, from_on}
+use Rattle.paper.specs.Erase.{memory_of}
 use Rattle.paper.specs.Table.{decoded, columns}
 use Rattle.paper.specs.Calls.{transacted}
 use Rattle.paper.specs.History.{Call, transaction, ticks}
@@ -35,18 +35,18 @@ lets_go SetsBank = false
 lets_go (SetsFar far) = false
 
 -- so the command that a first byte is
-abbrev pub letsGoBy : Decoded → Bool
-letsGoBy (Known k) = lets_go (columns k).effect
-letsGoBy Unknown = false
+abbrev pub lets_go_by : Decoded → Bool
+lets_go_by (Known k) = lets_go (columns k).effect
+lets_go_by Unknown = false
 
 -- a call lets the suspended operation go: it is a resume or a reset that is executed
 abbrev pub releases : Call → Record → Bool
 releases (transaction wp i o) p =
-    eqb (transacted p (arrayBytes p.part.blocks) rowsBytes wp i o).number 0 and letsGoBy (decoded p.part.blocks p.part.bank (get_or i 0 0))
+    eqb (transacted p (array_bytes p.part.blocks) rows_bytes wp i o).number 0 and lets_go_by (decoded p.part.blocks p.part.bank (get_or i 0 0))
 releases (ticks n) p = false
 
 -- a place lies in the pages that an operation has done, if it is an erase
-abbrev pub inDone : Operation → Memory → ℕ → Bool
-inDone (Program m s b k d) w a = false
-inDone (Erase u b d) w a = sameMemory w (memoryOf u) and fromOn b (d * pageBytes) a
-inDone (Write r v) w a = false
+abbrev pub in_done : Operation → Memory → ℕ → Bool
+in_done (Program m s b k d) w a = false
+in_done (Erase u b d) w a = same_memory w (memory_of u) and from_on b (d * page_bytes) a
+in_done (Write r v) w a = false

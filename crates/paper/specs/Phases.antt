@@ -22,67 +22,67 @@ halted (Suspended o) = At o
 halted (Nested o e) = At e
 
 -- there is an operation, and it passes a test
-abbrev pub workIs : (Operation → Bool) → Work → Bool
-workIs test NoWork = false
-workIs test (At o) = test o
+abbrev pub work_is : (Operation → Bool) → Work → Bool
+work_is test NoWork = false
+work_is test (At o) = test o
 
-abbrev pub anyOperation : Operation → Bool
-anyOperation o = true
+abbrev pub any_operation : Operation → Bool
+any_operation o = true
 
-abbrev pub isProgram : Operation → Bool
-isProgram (Program m s b k d) = true
-isProgram (Erase u b d) = false
-isProgram (Write r v) = false
+abbrev pub is_program : Operation → Bool
+is_program (Program m s b k d) = true
+is_program (Erase u b d) = false
+is_program (Write r v) = false
 
-abbrev pub isErase : Operation → Bool
-isErase (Program m s b k d) = false
-isErase (Erase u b d) = true
-isErase (Write r v) = false
+abbrev pub is_erase : Operation → Bool
+is_erase (Program m s b k d) = false
+is_erase (Erase u b d) = true
+is_erase (Write r v) = false
 
 -- an erase is suspended, also while a program runs within it
-abbrev pub eraseHalted : Phase → Bool
-eraseHalted f = workIs isErase (halted f)
+abbrev pub erase_halted : Phase → Bool
+erase_halted f = work_is is_erase (halted f)
 
 -- the part is busy: something runs
-abbrev pub isBusy : Phase → Bool
-isBusy f = workIs anyOperation (running f)
+abbrev pub is_busy : Phase → Bool
+is_busy f = work_is any_operation (running f)
 
 -- or suspended: something is, and nothing runs
-abbrev pub isSuspended : Phase → Bool
-isSuspended Idle = false
-isSuspended (Busy o) = false
-isSuspended (Suspended o) = true
-isSuspended (Nested o e) = false
+abbrev pub is_suspended : Phase → Bool
+is_suspended Idle = false
+is_suspended (Busy o) = false
+is_suspended (Suspended o) = true
+is_suspended (Nested o e) = false
 
 -- or idle
-abbrev pub isIdle : Phase → Bool
-isIdle Idle = true
-isIdle (Busy o) = false
-isIdle (Suspended o) = false
-isIdle (Nested o e) = false
+abbrev pub is_idle : Phase → Bool
+is_idle Idle = true
+is_idle (Busy o) = false
+is_idle (Suspended o) = false
+is_idle (Nested o e) = false
 
 -- the phase of a part where one thing runs, or nothing, and another is suspended, or nothing
-abbrev pub phaseOf : Work → Work → Phase
-phaseOf NoWork NoWork = Idle
-phaseOf (At o) NoWork = Busy o
-phaseOf NoWork (At e) = Suspended e
-phaseOf (At o) (At e) = Nested o e
+abbrev pub phase_of : Work → Work → Phase
+phase_of NoWork NoWork = Idle
+phase_of (At o) NoWork = Busy o
+phase_of NoWork (At e) = Suspended e
+phase_of (At o) (At e) = Nested o e
 
 -- the phase with other work running, or none: what is suspended stays so, and the work runs within
-abbrev pub runningIn : Phase → Work → Phase
-runningIn f w = phaseOf w (halted f)
+abbrev pub running_in : Phase → Work → Phase
+running_in f w = phase_of w (halted f)
 
 -- the phase of a part that begins an operation, or is at another point of it
-abbrev pub workingOn : Phase → Operation → Phase
-workingOn f o = runningIn f (At o)
+abbrev pub working_on : Phase → Operation → Phase
+working_on f o = running_in f (At o)
 
 -- the phase when what runs has ended: within a suspended erase, the part is suspended from it again
 abbrev pub rest_of : Phase → Phase
-rest_of f = runningIn f NoWork
+rest_of f = running_in f NoWork
 
 -- the phase when what runs is suspended, and when what is suspended goes on. What stood there before is gone: 25 lets a suspend through only where nothing is suspended, and a resume only where nothing runs
-abbrev pub suspendedIn : Phase → Phase
-suspendedIn f = phaseOf NoWork (running f)
+abbrev pub suspended_in : Phase → Phase
+suspended_in f = phase_of NoWork (running f)
 
-abbrev pub resumedIn : Phase → Phase
-resumedIn f = phaseOf (halted f) NoWork
+abbrev pub resumed_in : Phase → Phase
+resumed_in f = phase_of (halted f) NoWork

@@ -9,10 +9,10 @@ use Rattle.types.specs.declared.Record.{Record}
 use Rattle.types.specs.declared.Reached.{Reached}
 use Rattle.types.specs.declared.Ticked.{Ticked}
 use Rattle.words.specs.Logic.{◌and◌, ◌or◌}
-use Rattle.paper.specs.Sizes.{sameMemory, fromOn, pageBytes}
-use Rattle.paper.specs.Erase.{memoryOf}
+use Rattle.paper.specs.Sizes.{same_memory, from_on, page_bytes}
+use Rattle.paper.specs.Erase.{memory_of}
 use Rattle.paper.specs.Phases.{running}
-use Rattle.paper.specs.Operations.{advancedBy, Touch, none, blank, narrow, nextTouch}
+use Rattle.paper.specs.Operations.{advanced_by, Touch, none, blank, narrow, next_touch}
 
 abbrev pub nothing : Reached
 nothing = record { work = NoWork; count = 0 }
@@ -22,48 +22,48 @@ abbrev pub reached : Record → Ticked → Reached
 reached p t = record { work = running p.phase; count = t.done }
 
 -- the touches of the next k ticks of an operation, with the page data g, in order
-abbrev pub nextTouches : Operation → ℕ → List ℕ → List Touch
-nextTouches o zero g = []
-nextTouches o (suc k) g = nextTouches o k g ++ (nextTouch (advancedBy k o) g ∷ [])
+abbrev pub next_touches : Operation → ℕ → List ℕ → List Touch
+next_touches o zero g = []
+next_touches o (suc k) g = next_touches o k g ++ (next_touch (advanced_by k o) g ∷ [])
 
-abbrev pub workTouches : Work → ℕ → List ℕ → List Touch
-workTouches NoWork k g = []
-workTouches (At o) k g = nextTouches o k g
+abbrev pub work_touches : Work → ℕ → List ℕ → List Touch
+work_touches NoWork k g = []
+work_touches (At o) k g = next_touches o k g
 
 -- the touches of what was reached
-abbrev pub touchesOf : Reached → List ℕ → List Touch
-touchesOf r g = workTouches r.work r.count g
+abbrev pub touches_of : Reached → List ℕ → List Touch
+touches_of r g = work_touches r.work r.count g
 
 -- a touch lies in page q of the array
-abbrev pub inPage : ℕ → Touch → Bool
-inPage q none = false
-inPage q (blank w b) = sameMemory Array w and eqb (b / pageBytes) q
-inPage q (narrow w a d) = sameMemory Array w and eqb (a / pageBytes) q
+abbrev pub in_page : ℕ → Touch → Bool
+in_page q none = false
+in_page q (blank w b) = same_memory Array w and eqb (b / page_bytes) q
+in_page q (narrow w a d) = same_memory Array w and eqb (a / page_bytes) q
 
 -- one of these does
-abbrev pub touchPage : List Touch → ℕ → Bool
-touchPage [] q = false
-touchPage (t ∷ ts) q = inPage q t or touchPage ts q
+abbrev pub touch_page : List Touch → ℕ → Bool
+touch_page [] q = false
+touch_page (t ∷ ts) q = in_page q t or touch_page ts q
 
 -- the pages of the array that the next k ticks of an operation reach: so many from the first on. A program reaches one with its first tick, an erase the next one with each; rows and registers are none of the array
-abbrev pub firstPage : Operation → ℕ
-firstPage (Program w s b c d) = b / pageBytes
-firstPage (Erase u b d) = b / pageBytes + d
-firstPage (Write r v) = 0
+abbrev pub first_page : Operation → ℕ
+first_page (Program w s b c d) = b / page_bytes
+first_page (Erase u b d) = b / page_bytes + d
+first_page (Write r v) = 0
 
-abbrev pub pagesBy : Operation → ℕ → ℕ
-pagesBy (Program w s b c d) k = cond (sameMemory Array w) (min k 1) 0
-pagesBy (Erase u b d) k = cond (sameMemory Array (memoryOf u)) k 0
-pagesBy (Write r v) k = 0
+abbrev pub pages_by : Operation → ℕ → ℕ
+pages_by (Program w s b c d) k = cond (same_memory Array w) (min k 1) 0
+pages_by (Erase u b d) k = cond (same_memory Array (memory_of u)) k 0
+pages_by (Write r v) k = 0
 
-abbrev pub workFirst : Work → ℕ
-workFirst NoWork = 0
-workFirst (At o) = firstPage o
+abbrev pub work_first : Work → ℕ
+work_first NoWork = 0
+work_first (At o) = first_page o
 
-abbrev pub workPages : Work → ℕ → ℕ
-workPages NoWork k = 0
-workPages (At o) k = pagesBy o k
+abbrev pub work_pages : Work → ℕ → ℕ
+work_pages NoWork k = 0
+work_pages (At o) k = pages_by o k
 
 -- page q is one of those reached
-abbrev pub reachesPage : Reached → ℕ → Bool
-reachesPage r q = fromOn (workFirst r.work) (workPages r.work r.count) q
+abbrev pub reaches_page : Reached → ℕ → Bool
+reaches_page r q = from_on (work_first r.work) (work_pages r.work r.count) q

@@ -50,41 +50,41 @@ abbrev pub BA24 : ℕ → ℕ
 BA24 bank = bit_at 0 bank
 
 -- the byte that a write holds: a status write its byte with bits 1..0 zero, a function write with bits 3..0 zero, a write of the extended read register with bits 4..0 zero
-abbrev pub heldByte : Register → ℕ → ℕ
-heldByte Status b = b / 4 * 4
-heldByte Function b = b / 16 * 16
-heldByte Extended b = b / 32 * 32
+abbrev pub held_byte : Register → ℕ → ℕ
+held_byte Status b = b / 4 * 4
+held_byte Function b = b / 16 * 16
+held_byte Extended b = b / 32 * 32
 
 -- the write that a transaction begins
-unfoldable pub writeOf : Register → List ℕ → Operation
-writeOf r i = Write r (heldByte r (get_or i 1 0))
+unfoldable pub write_of : Register → List ℕ → Operation
+write_of r i = Write r (held_byte r (get_or i 1 0))
 
 -- the registers with this status and this function; what else they have stays
-abbrev pub withBytes : ℕ → ℕ → Stored → Stored
-withBytes status function s = record { status = status; function = function; extended = s.extended }
+abbrev pub with_bytes : ℕ → ℕ → Stored → Stored
+with_bytes status function s = record { status = status; function = function; extended = s.extended }
 
 -- the registers with this stored byte of the extended read register; what else they have stays
-abbrev pub withExtended : ℕ → Stored → Stored
-withExtended v s = record { status = s.status; function = s.function; extended = v }
+abbrev pub with_extended : ℕ → Stored → Stored
+with_extended v s = record { status = s.status; function = s.function; extended = v }
 
 -- the stored bits of registers, without those that other fields define
-abbrev pub storedBits : Stored → Stored
-storedBits s =
-    withBytes (heldByte Status s.status) (heldByte Function s.function + 2 * TBS s.function)
-    (withExtended (heldByte Extended s.extended) s)
+abbrev pub stored_bits : Stored → Stored
+stored_bits s =
+    with_bytes (held_byte Status s.status) (held_byte Function s.function + 2 * TBS s.function)
+    (with_extended (held_byte Extended s.extended) s)
 
 -- the registers after a write's tick: 01h stores bits 7..2 (the byte that it holds has the others 0); 42h may set IRL bits and never clears one, other bits are disregarded, and TBS stays; 85h stores bits 7..5
-abbrev pub registerWritten : Register → ℕ → Stored → Stored
-registerWritten Status v s = withBytes v s.function s
-registerWritten Function v s =
-    withBytes s.status (bit_or (s.function / 16) (v / 16) * 16 + 2 * TBS s.function) s
-registerWritten Extended v s = withExtended v s
+abbrev pub register_written : Register → ℕ → Stored → Stored
+register_written Status v s = with_bytes v s.function s
+register_written Function v s =
+    with_bytes s.status (bit_or (s.function / 16) (v / 16) * 16 + 2 * TBS s.function) s
+register_written Extended v s = with_extended v s
 
 -- the registers after an operation's last tick
-abbrev pub storedAfter : Operation → Stored → Stored
-storedAfter (Program m s b k d) g = g
-storedAfter (Erase u b d) g = g
-storedAfter (Write r v) g = registerWritten r v g
+abbrev pub stored_after : Operation → Stored → Stored
+stored_after (Program m s b k d) g = g
+stored_after (Erase u b d) g = g
+stored_after (Write r v) g = register_written r v g
 
 -- the error bits of the extended read register
 abbrev pub E_ERR : ℕ
@@ -97,41 +97,41 @@ abbrev pub PROT_E : ℕ
 PROT_E = 2
 
 -- its live byte: bits 7..5, and the error bits. Power-up and reset load it from the stored byte, with the error bits 0
-abbrev pub liveLoaded : Stored → ℕ
-liveLoaded s = heldByte Extended s.extended
+abbrev pub live_loaded : Stored → ℕ
+live_loaded s = held_byte Extended s.extended
 
 -- 83h sets bits 7..5 to those of a byte; the error bits stay
-abbrev pub liveSet : ℕ → ℕ → ℕ
-liveSet b live = heldByte Extended b + live % 32
+abbrev pub live_set : ℕ → ℕ → ℕ
+live_set b live = held_byte Extended b + live % 32
 
 -- 82h clears the error bits; bits 7..5 stay
-abbrev pub liveCleared : ℕ → ℕ
-liveCleared live = heldByte Extended live
+abbrev pub live_cleared : ℕ → ℕ
+live_cleared live = held_byte Extended live
 
 -- error bits are set, and those that were set stay
-abbrev pub liveFailed : ℕ → ℕ → ℕ
-liveFailed errors live = bit_or live errors
+abbrev pub live_failed : ℕ → ℕ → ℕ
+live_failed errors live = bit_or live errors
 
 -- what 81h reads, of the live byte and of the status register: bits 7..5 and the error bits of the live byte; bit 4 reads 1; bit 0 is WIP, as in status
-abbrev pub extendedRead : ℕ → ℕ → ℕ
-extendedRead live status = heldByte Extended live + 16 + live / 2 % 8 * 2 + status % 2
+abbrev pub extended_read : ℕ → ℕ → ℕ
+extended_read live status = held_byte Extended live + 16 + live / 2 % 8 * 2 + status % 2
 
 -- the bank address register is 00h after power-up and reset
-abbrev pub bankLoaded : ℕ
-bankLoaded = 0
+abbrev pub bank_loaded : ℕ
+bank_loaded = 0
 
 -- EXTADD is 1: a far address, of four bytes
 abbrev pub extadd : ℕ → Bool
 extadd bank = eqb (EXTADD bank) 1
 
 -- the bank bit is 1: the upper bank
-abbrev pub upperBank : ℕ → Bool
-upperBank bank = eqb (BA24 bank) 1
+abbrev pub upper_bank : ℕ → Bool
+upper_bank bank = eqb (BA24 bank) 1
 
 -- B7h sets EXTADD and 29h clears it; the bank bit stays
-abbrev pub bankTurned : Bool → ℕ → ℕ
-bankTurned far bank = 128 * bit far + BA24 bank
+abbrev pub bank_turned : Bool → ℕ → ℕ
+bank_turned far bank = 128 * bit far + BA24 bank
 
 -- 17h and C5h set both to those of a byte, whose bits 6..1 are disregarded
-abbrev pub bankSet : ℕ → ℕ
-bankSet b = bankTurned (extadd b) b
+abbrev pub bank_set : ℕ → ℕ
+bank_set b = bank_turned (extadd b) b

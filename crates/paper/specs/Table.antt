@@ -23,8 +23,8 @@ use Rattle.types.specs.declared.Columns.{Columns}
 use Rattle.types.specs.declared.Part.{Part}
 use Rattle.types.specs.declared.Addressing.{Addressing}
 use Rattle.types.specs.declared.Addressing.TheVariants.{Three, Four}
-use Rattle.paper.specs.Sizes.{isLarge}
-use Rattle.paper.specs.Registers.{extadd, upperBank}
+use Rattle.paper.specs.Sizes.{is_large}
+use Rattle.paper.specs.Registers.{extadd, upper_bank}
 
 infixl 80 ◌is◌
 -- a code and its command
@@ -48,30 +48,30 @@ codes =
     ∷ 0x81 is ReadExtended ∷ 0x85 is SetStored ∷ 0x83 is SetLive ∷ 0x82 is ClearErrors ∷ []
 
 -- the codes of the large part: those of table 8.2 of source document 004, which always have four address bytes, and those of its bank address register
-abbrev pub largeCodes : List Entry
-largeCodes =
+abbrev pub large_codes : List Entry
+large_codes =
     0x13 is FarRead ∷ 0x0C is FarFastRead ∷ 0x12 is FarPageProgramAtRest ∷ 0x21 is FarSectorErase
     ∷ 0x5C is FarBlockErase32 ∷ 0xDC is FarBlockErase64 ∷ 0x16 is ReadBank ∷ 0xC8 is ReadBank
     ∷ 0x17 is WriteBank ∷ 0xC5 is WriteBank ∷ 0xB7 is EnterFar ∷ 0x29 is LeaveFar ∷ []
 
 -- the codes of table 8.3, which have four address bytes while EXTADD is 1
-abbrev pub farCodes : List Entry
-farCodes =
+abbrev pub far_codes : List Entry
+far_codes =
     0x03 is FarRead ∷ 0x0B is FarFastRead ∷ 0x02 is FarPageProgram ∷ 0xD7 is FarSectorErase
     ∷ 0x20 is FarSectorErase ∷ 0x52 is FarBlockErase32 ∷ 0xD8 is FarBlockErase64 ∷ []
 
 -- what a part of n blocks knows under a bank register. The others than the large part know none of these, and their bank register is 0
-abbrev pub codesOn : ℕ → ℕ → List Entry
-codesOn n bank = cond (extadd bank) farCodes [] ++ (codes ++ cond (isLarge n) largeCodes [])
+abbrev pub codes_on : ℕ → ℕ → List Entry
+codes_on n bank = cond (extadd bank) far_codes [] ++ (codes ++ cond (is_large n) large_codes [])
 
 -- the command of the first entry that has the code
-abbrev pub lookUp : List Entry → ℕ → Decoded
-lookUp [] n = Unknown
-lookUp (e ∷ es) n = cond (eqb n e.code) (Known e.command) (lookUp es n)
+abbrev pub look_up : List Entry → ℕ → Decoded
+look_up [] n = Unknown
+look_up (e ∷ es) n = cond (eqb n e.code) (Known e.command) (look_up es n)
 
 -- the command that a first byte c is there, or that it is in no row of the table
 unfoldable pub decoded : ℕ → ℕ → ℕ → Decoded
-decoded n bank c = lookUp (codesOn n bank) c
+decoded n bank c = look_up (codes_on n bank) c
 
 -- a line of the table
 abbrev pub line : Length → Bool → Taken → Named → Wanted → Source → ℕ → Effect → Columns
@@ -132,43 +132,43 @@ columns LeaveFar = line (Exactly 1) no Rest Bare Any None 0 (SetsFar false)
 -- how the address of a command is sent under a bank register: a place of the array that has three bytes is in the bank of the bank bit, and nothing else is
 abbrev pub addressing : Named → ℕ → Addressing
 addressing Bare bank = Three false
-addressing Place bank = Three (upperBank bank)
+addressing Place bank = Three (upper_bank bank)
 addressing Far bank = Four
 addressing InRow bank = Three false
 
 -- so that of a command with these columns on a part
-abbrev pub addressingOn : Columns → Part → Addressing
-addressingOn k p = addressing k.named p.bank
+abbrev pub addressing_on : Columns → Part → Addressing
+addressing_on k p = addressing k.named p.bank
 
 -- a command is taken while the part is asleep, busy, or suspended; in this from an erase or from a program
-abbrev pub takenAsleep : Taken → Bool
-takenAsleep Rest = false
-takenAsleep Esus = false
-takenAsleep OrHalted = false
-takenAsleep OrBusy = false
-takenAsleep Awake = false
-takenAsleep OrAsleep = true
+abbrev pub taken_asleep : Taken → Bool
+taken_asleep Rest = false
+taken_asleep Esus = false
+taken_asleep OrHalted = false
+taken_asleep OrBusy = false
+taken_asleep Awake = false
+taken_asleep OrAsleep = true
 
-abbrev pub takenBusy : Taken → Bool
-takenBusy Rest = false
-takenBusy Esus = false
-takenBusy OrHalted = false
-takenBusy OrBusy = true
-takenBusy Awake = true
-takenBusy OrAsleep = false
+abbrev pub taken_busy : Taken → Bool
+taken_busy Rest = false
+taken_busy Esus = false
+taken_busy OrHalted = false
+taken_busy OrBusy = true
+taken_busy Awake = true
+taken_busy OrAsleep = false
 
-abbrev pub takenSuspended : Taken → Bool → Bool
-takenSuspended Rest erase = false
-takenSuspended Esus erase = erase
-takenSuspended OrHalted erase = true
-takenSuspended OrBusy erase = false
-takenSuspended Awake erase = true
-takenSuspended OrAsleep erase = true
+abbrev pub taken_suspended : Taken → Bool → Bool
+taken_suspended Rest erase = false
+taken_suspended Esus erase = erase
+taken_suspended OrHalted erase = true
+taken_suspended OrBusy erase = false
+taken_suspended Awake erase = true
+taken_suspended OrAsleep erase = true
 
 -- a length that the table asks for
-abbrev pub lengthOk : Length → ℕ → Bool
-lengthOk (Exactly l) n = eqb n l
-lengthOk (AtLeast l) n = leb l n
+abbrev pub length_ok : Length → ℕ → Bool
+length_ok (Exactly l) n = eqb n l
+length_ok (AtLeast l) n = leb l n
 
 -- a command that drives something
 abbrev pub drives : Source → Bool
@@ -184,5 +184,5 @@ drives ExtendedByte = true
 drives BankByte = true
 
 -- the reads are 03h, 0Bh, 05h, 48h, 9Fh, 90h, ABh, 68h and 81h, and on the large part 13h, 0Ch, 16h and C8h
-abbrev pub isRead : Columns → Bool
-isRead k = drives k.source
+abbrev pub is_read : Columns → Bool
+is_read k = drives k.source

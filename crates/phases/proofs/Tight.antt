@@ -15,44 +15,44 @@ use Rattle.phases.proofs.rest_of.Reads as rest_of
 use Rattle.phases.proofs.suspended_in.Reads as suspended-in
 use Rattle.phases.proofs.resumed_in.Reads as resumed-in
 
-pub running-one : OneResult running.Learnt
-running-one κ a x y s t p q = agree p q
+pub running_one : OneResult running.Learnt
+running_one κ a x y s t p q = agree p q
 
-pub halted-one : OneResult halted.Learnt
-halted-one κ a x y s t p q = agree p q
+pub halted_one : OneResult halted.Learnt
+halted_one κ a x y s t p q = agree p q
 
-pub is-program-one : OneResult is-program.Learnt
-is-program-one κ a x y s t p q = agree p q
+pub is_program_one : OneResult is-program.Learnt
+is_program_one κ a x y s t p q = agree p q
 
-pub is-erase-one : OneResult is-erase.Learnt
-is-erase-one κ a x y s t p q = agree p q
+pub is_erase_one : OneResult is-erase.Learnt
+is_erase_one κ a x y s t p q = agree p q
 
-pub erase-halted-one : OneResult erase-halted.Learnt
-erase-halted-one κ a x y s t p q = agree p q
+pub erase_halted_one : OneResult erase-halted.Learnt
+erase_halted_one κ a x y s t p q = agree p q
 
-pub is-busy-one : OneResult is-busy.Learnt
-is-busy-one κ a x y s t p q = agree p q
+pub is_busy_one : OneResult is-busy.Learnt
+is_busy_one κ a x y s t p q = agree p q
 
-pub is-suspended-one : OneResult is-suspended.Learnt
-is-suspended-one κ a x y s t p q = agree p q
+pub is_suspended_one : OneResult is-suspended.Learnt
+is_suspended_one κ a x y s t p q = agree p q
 
-pub is-idle-one : OneResult is-idle.Learnt
-is-idle-one κ a x y s t p q = agree p q
+pub is_idle_one : OneResult is-idle.Learnt
+is_idle_one κ a x y s t p q = agree p q
 
-pub phase-of-one : OneResult phase-of.Learnt
-phase-of-one κ a x y s t p q = agree p q
+pub phase_of_one : OneResult phase-of.Learnt
+phase_of_one κ a x y s t p q = agree p q
 
-pub running-in-one : OneResult running-in.Learnt
-running-in-one κ a x y s t p q = agree p q
+pub running_in_one : OneResult running-in.Learnt
+running_in_one κ a x y s t p q = agree p q
 
-pub working-on-one : OneResult working-on.Learnt
-working-on-one κ a x y s t p q = agree p q
+pub working_on_one : OneResult working-on.Learnt
+working_on_one κ a x y s t p q = agree p q
 
-pub rest-of-one : OneResult rest_of.Learnt
-rest-of-one κ a x y s t p q = agree p q
+pub rest_of_one : OneResult rest_of.Learnt
+rest_of_one κ a x y s t p q = agree p q
 
-pub suspended-in-one : OneResult suspended-in.Learnt
-suspended-in-one κ a x y s t p q = agree p q
+pub suspended_in_one : OneResult suspended-in.Learnt
+suspended_in_one κ a x y s t p q = agree p q
 
-pub resumed-in-one : OneResult resumed-in.Learnt
-resumed-in-one κ a x y s t p q = agree p q
+pub resumed_in_one : OneResult resumed-in.Learnt
+resumed_in_one κ a x y s t p q = agree p q

@@ -1,6 +1,6 @@
 // What a part does: what runs, what is suspended, and the phases that follow.
 ghost use Rattle.std.specs.Prelude.{◌≡◌};
-ghost use Rattle.paper.specs.Phases.{running, halted, isProgram, isErase, eraseHalted, isBusy, isSuspended, isIdle, phaseOf, runningIn, workingOn, rest_of, suspendedIn, resumedIn};
+ghost use Rattle.paper.specs.Phases.{running, halted, is_program, is_erase, erase_halted, is_busy, is_suspended, is_idle, phase_of, running_in, working_on, rest_of, suspended_in, resumed_in};
 
 use types::{Operation, Phase, Work};
 
@@ -29,7 +29,7 @@ pub fn halted(phase: Phase) -> Work
 }
 
 pub fn is_program(op: Operation) -> bool
-    ensures { result ≡ isProgram op }
+    ensures { result ≡ is_program op }
 {
     match op {
         Operation::Program { .. } => true,
@@ -39,7 +39,7 @@ pub fn is_program(op: Operation) -> bool
 }
 
 pub fn is_erase(op: Operation) -> bool
-    ensures { result ≡ isErase op }
+    ensures { result ≡ is_erase op }
 {
     match op {
         Operation::Program { .. } => false,
@@ -50,7 +50,7 @@ pub fn is_erase(op: Operation) -> bool
 
 // Whether an erase is suspended, also while a program runs within it.
 pub fn erase_halted(phase: Phase) -> bool
-    ensures { result ≡ eraseHalted phase }
+    ensures { result ≡ erase_halted phase }
 {
     match phase {
         Phase::Idle => false,
@@ -61,7 +61,7 @@ pub fn erase_halted(phase: Phase) -> bool
 }
 
 pub fn is_busy(phase: Phase) -> bool
-    ensures { result ≡ isBusy phase }
+    ensures { result ≡ is_busy phase }
 {
     match phase {
         Phase::Idle => false,
@@ -72,7 +72,7 @@ pub fn is_busy(phase: Phase) -> bool
 }
 
 pub fn is_suspended(phase: Phase) -> bool
-    ensures { result ≡ isSuspended phase }
+    ensures { result ≡ is_suspended phase }
 {
     match phase {
         Phase::Idle => false,
@@ -83,7 +83,7 @@ pub fn is_suspended(phase: Phase) -> bool
 }
 
 pub fn is_idle(phase: Phase) -> bool
-    ensures { result ≡ isIdle phase }
+    ensures { result ≡ is_idle phase }
 {
     match phase {
         Phase::Idle => true,
@@ -95,7 +95,7 @@ pub fn is_idle(phase: Phase) -> bool
 
 // The phase of a part where one thing runs, or nothing, and another is suspended, or nothing.
 pub fn phase_of(runs: Work, halted: Work) -> Phase
-    ensures { result ≡ phaseOf runs halted }
+    ensures { result ≡ phase_of runs halted }
 {
     match halted {
         Work::NoWork => match runs {
@@ -111,14 +111,14 @@ pub fn phase_of(runs: Work, halted: Work) -> Phase
 
 // The phase with other work running, or none: what is suspended stays so.
 pub fn running_in(phase: Phase, work: Work) -> Phase
-    ensures { result ≡ runningIn phase work }
+    ensures { result ≡ running_in phase work }
 {
     phase_of(work, halted(phase))
 }
 
 // The phase of a part that begins an operation: what is suspended stays so, and it runs within.
 pub fn working_on(phase: Phase, op: Operation) -> Phase
-    ensures { result ≡ workingOn phase op }
+    ensures { result ≡ working_on phase op }
 {
     match phase {
         Phase::Idle => Phase::Busy(op),
@@ -142,14 +142,14 @@ pub fn rest_of(phase: Phase) -> Phase
 
 // The phase when what runs is suspended. What was suspended is gone.
 pub fn suspended_in(phase: Phase) -> Phase
-    ensures { result ≡ suspendedIn phase }
+    ensures { result ≡ suspended_in phase }
 {
     phase_of(Work::NoWork, running(phase))
 }
 
 // The phase when what is suspended goes on. What ran is gone.
 pub fn resumed_in(phase: Phase) -> Phase
-    ensures { result ≡ resumedIn phase }
+    ensures { result ≡ resumed_in phase }
 {
     phase_of(halted(phase), Work::NoWork)
 }

@@ -1,7 +1,7 @@
 // What the programs print: text put into an output from a place on, as far as the output goes.
 ghost use Rattle.std.specs.Prelude.{◌≡◌, [], ◌∷◌, ◌++◌, ◌<◌};
-ghost use Rattle.paper.specs.Bench.{space, digit, hexDigit, leading, decimal, hexPairs, placeText, answerText, ticksText, otherText};
-ghost use Rattle.paper.specs.WearText.{fiveDigits, wideDecimal, countsText, isFull, wearLine, sumsText};
+ghost use Rattle.paper.specs.Bench.{space, digit, hex_digit, leading, decimal, hex_pairs, place_text, answer_text, ticks_text, other_text};
+ghost use Rattle.paper.specs.WearText.{five_digits, wide_decimal, counts_text, is_full, wear_line, sums_text};
 ghost use Rattle.printing.specs.Printed.{Prints};
 
 // The largest value of a count.
@@ -66,14 +66,14 @@ fn put_decimal(output: &mut [u8], at: usize, n: usize, then: u8) -> usize
 
 fn hex_digit(value: u8) -> u8
     requires { value < 16 }
-    ensures { result ≡ hexDigit value }
+    ensures { result ≡ hex_digit value }
 {
     if value < 10 { 48 + value } else { 55 + value }
 }
 
 // Bytes as hex pairs.
 fn put_pairs(output: &mut [u8], at: usize, bytes: &[u8]) -> usize
-    ensures { Prints output.old at (hexPairs bytes.now) output.new result }
+    ensures { Prints output.old at (hex_pairs bytes.now) output.new result }
 {
     let mut place = words::lesser(output.len(), at);
     let mut i = 0;
@@ -88,7 +88,7 @@ fn put_pairs(output: &mut [u8], at: usize, bytes: &[u8]) -> usize
 
 // The first driven place of an output of n bytes, or a dash, and a space after it.
 fn put_place(output: &mut [u8], at: usize, first: usize, n: usize) -> usize
-    ensures { Prints output.old at (placeText first n ++ (space ∷ [])) output.new result }
+    ensures { Prints output.old at (place_text first n ++ (space ∷ [])) output.new result }
 {
     if first == n {
         return put_two(output, at, b'-', b' ');
@@ -98,7 +98,7 @@ fn put_place(output: &mut [u8], at: usize, first: usize, n: usize) -> usize
 
 // What is printed for a transaction.
 pub fn put_answer(output: &mut [u8], at: usize, number: u8, first: usize, bytes: &[u8]) -> usize
-    ensures { Prints output.old at (answerText number first bytes.now) output.new result }
+    ensures { Prints output.old at (answer_text number first bytes.now) output.new result }
 {
     let a = put_decimal(output, at, number as usize, b' ');
     let b = put_place(output, a, first, bytes.len());
@@ -108,7 +108,7 @@ pub fn put_answer(output: &mut [u8], at: usize, number: u8, first: usize, bytes:
 
 // What is printed for ticks.
 pub fn put_ticks(output: &mut [u8], at: usize, number: u8, done: usize) -> usize
-    ensures { Prints output.old at (ticksText number done) output.new result }
+    ensures { Prints output.old at (ticks_text number done) output.new result }
 {
     let a = put_decimal(output, at, number as usize, b' ');
     put_decimal(output, a, done, b'\n')
@@ -116,14 +116,14 @@ pub fn put_ticks(output: &mut [u8], at: usize, number: u8, done: usize) -> usize
 
 // What is printed for a line that is neither.
 pub fn put_other(output: &mut [u8], at: usize) -> usize
-    ensures { Prints output.old at otherText output.new result }
+    ensures { Prints output.old at other_text output.new result }
 {
     put_two(output, at, b'?', b'\n')
 }
 
 // The last five digits of a number.
 fn put_five(output: &mut [u8], at: usize, n: usize) -> usize
-    ensures { Prints output.old at (fiveDigits n) output.new result }
+    ensures { Prints output.old at (five_digits n) output.new result }
 {
     let a = put_two(output, at, digit(n / 10000), digit(n / 1000));
     let b = put_two(output, a, digit(n / 100), digit(n / 10));
@@ -132,7 +132,7 @@ fn put_five(output: &mut [u8], at: usize, n: usize) -> usize
 
 // A number below 10 ^ 15 in decimal, five digits at a time.
 fn put_wide_digits(output: &mut [u8], at: usize, n: usize) -> usize
-    ensures { Prints output.old at (wideDecimal n) output.new result }
+    ensures { Prints output.old at (wide_decimal n) output.new result }
 {
     if n < 100000 {
         return put_digits(output, at, n);
@@ -148,7 +148,7 @@ fn put_wide_digits(output: &mut [u8], at: usize, n: usize) -> usize
 
 // And a character after it.
 fn put_wide(output: &mut [u8], at: usize, n: usize, then: u8) -> usize
-    ensures { Prints output.old at (wideDecimal n ++ (then ∷ [])) output.new result }
+    ensures { Prints output.old at (wide_decimal n ++ (then ∷ [])) output.new result }
 {
     let a = put_wide_digits(output, at, n);
     put(output, a, then)
@@ -169,7 +169,7 @@ fn put_text(output: &mut [u8], at: usize, text: &[u8]) -> usize
 
 // Two counts, with a space between them, and a character after them.
 fn put_counts(output: &mut [u8], at: usize, erases: usize, programs: usize, then: u8) -> usize
-    ensures { Prints output.old at (countsText erases programs ++ (then ∷ [])) output.new result }
+    ensures { Prints output.old at (counts_text erases programs ++ (then ∷ [])) output.new result }
 {
     let a = put_wide(output, at, erases, b' ');
     put_wide(output, a, programs, then)
@@ -177,14 +177,14 @@ fn put_counts(output: &mut [u8], at: usize, erases: usize, programs: usize, then
 
 // Whether either count is at its largest value.
 fn is_full(erases: u32, programs: u32) -> bool
-    ensures { result ≡ isFull (record { erases = erases; programs = programs }) }
+    ensures { result ≡ is_full (record { erases = erases; programs = programs }) }
 {
     words::either(erases == FULL, programs == FULL)
 }
 
 // The line of a sector: its number, its erases, its programs, and ` full` where one of them is at its largest value.
 pub fn put_wear(output: &mut [u8], at: usize, sector: usize, erases: u32, programs: u32) -> usize
-    ensures { Prints output.old at (wearLine sector (record { erases = erases; programs = programs })) output.new result }
+    ensures { Prints output.old at (wear_line sector (record { erases = erases; programs = programs })) output.new result }
 {
     let a = put_wide(output, at, sector, b' ');
     if is_full(erases, programs) {
@@ -196,7 +196,7 @@ pub fn put_wear(output: &mut [u8], at: usize, sector: usize, erases: u32, progra
 
 // The last two lines: the largest counts of erases and programs, and their totals.
 pub fn put_sums(output: &mut [u8], at: usize, le: u32, lp: u32, te: u64, tp: u64) -> usize
-    ensures { Prints output.old at (sumsText le lp te tp) output.new result }
+    ensures { Prints output.old at (sums_text le lp te tp) output.new result }
 {
     let a = put_text(output, at, b"largest ");
     let b = put_counts(output, a, le as usize, lp as usize, b'\n');

@@ -6,17 +6,17 @@ use Rattle.protection.proofs.is_among.Reads as is_among
 use Rattle.protection.proofs.is_locked.Reads as is-locked
 use Rattle.protection.proofs.is_barred.Reads as is-barred
 
-pub question-number-one : OneResult question-number.Learnt
-question-number-one κ a x y s t p q = agree p q
+pub question_number_one : OneResult question-number.Learnt
+question_number_one κ a x y s t p q = agree p q
 
-pub protected-blocks-one : OneResult protected-blocks.Learnt
-protected-blocks-one κ a x y s t p q = agree p q
+pub protected_blocks_one : OneResult protected-blocks.Learnt
+protected_blocks_one κ a x y s t p q = agree p q
 
-pub is-among-one : OneResult is_among.Learnt
-is-among-one κ a x y s t p q = agree p q
+pub is_among_one : OneResult is_among.Learnt
+is_among_one κ a x y s t p q = agree p q
 
-pub is-locked-one : OneResult is-locked.Learnt
-is-locked-one κ a x y s t p q = agree p q
+pub is_locked_one : OneResult is-locked.Learnt
+is_locked_one κ a x y s t p q = agree p q
 
-pub is-barred-one : OneResult is-barred.Learnt
-is-barred-one κ a x y s t p q = agree p q
+pub is_barred_one : OneResult is-barred.Learnt
+is_barred_one κ a x y s t p q = agree p q

@@ -1,7 +1,7 @@
 // Protection: which blocks a code protects, which rows are locked, and when the pin bars a status write.
 ghost use Rattle.std.specs.Prelude.{◌≡◌, ◌%◌, leb};
-ghost use Rattle.paper.specs.BlockTable.{block_row, largeRow, cell_of, largeCellOf};
-ghost use Rattle.paper.specs.Protection.{blocksOf, codeMost, question, among, locked, barred};
+ghost use Rattle.paper.specs.BlockTable.{block_row, large_row, cell_of, large_cell_of};
+ghost use Rattle.paper.specs.Protection.{blocks_of, code_most, question, among, locked, barred};
 
 use types::{BlockRow, Blocks, Cell, LargeRow};
 
@@ -56,7 +56,7 @@ fn cell_of(blocks: u64, row: BlockRow) -> Cell
 // The sixteen rows of the block table of the large part, that of source document 004, with a column for each value of the top
 // or bottom bit. Rows that are printed as one (101x, 11xx) are two and four here.
 fn large_row(code: u8) -> LargeRow
-    ensures { result ≡ largeRow code }
+    ensures { result ≡ large_row code }
 {
     match code {
         //                 TBS 0, top      TBS 1, bottom
@@ -82,14 +82,14 @@ fn large_row(code: u8) -> LargeRow
 
 // The cell of a code of the large part: bit 4 is the top or bottom bit.
 fn large_cell(code: u8) -> Cell
-    ensures { result ≡ largeCellOf (leb 16 code) (largeRow (code % 16)) }
+    ensures { result ≡ large_cell_of (leb 16 code) (large_row (code % 16)) }
 {
     let row = large_row(code % 16);
     if 16 <= code { row.1 } else { row.0 }
 }
 
 fn blocks_of(cell: Cell) -> Blocks
-    ensures { result ≡ blocksOf cell }
+    ensures { result ≡ blocks_of cell }
 {
     Blocks {
         first: cell.0,
@@ -99,7 +99,7 @@ fn blocks_of(cell: Cell) -> Blocks
 
 // The highest code on a part of so many blocks.
 fn code_most(blocks: u64) -> u64
-    ensures { result ≡ codeMost blocks }
+    ensures { result ≡ code_most blocks }
 {
     if sizes::is_large(blocks) {
         LARGE_CODE_MOST

@@ -10,29 +10,29 @@ use Rattle.record.proofs.large_ok.Reads as large-ok
 use Rattle.record.proofs.bits_ok.Reads as bits-ok
 use Rattle.record.proofs.power_up.Reads as power-up
 
-pub no-data-one : OneResult no-data.Learnt
-no-data-one κ a x y s t p q = agree p q
+pub no_data_one : OneResult no-data.Learnt
+no_data_one κ a x y s t p q = agree p q
 
-pub make-one : OneResult make.Learnt
-make-one κ a x y s t p q = agree p q
+pub make_one : OneResult make.Learnt
+make_one κ a x y s t p q = agree p q
 
-pub settle-one : OneResult settle.Learnt
-settle-one κ a x y s t p q = agree p q
+pub settle_one : OneResult settle.Learnt
+settle_one κ a x y s t p q = agree p q
 
-pub fresh-part-one : OneResult fresh-part.Learnt
-fresh-part-one κ a x y s t p q = agree p q
+pub fresh_part_one : OneResult fresh-part.Learnt
+fresh_part_one κ a x y s t p q = agree p q
 
-pub no-stored-one : OneResult no-stored.Learnt
-no-stored-one κ a x y s t p q = agree p q
+pub no_stored_one : OneResult no-stored.Learnt
+no_stored_one κ a x y s t p q = agree p q
 
-pub zero-record-one : OneResult zero-record.Learnt
-zero-record-one κ a x y s t p q = agree p q
+pub zero_record_one : OneResult zero-record.Learnt
+zero_record_one κ a x y s t p q = agree p q
 
-pub large-ok-one : OneResult large-ok.Learnt
-large-ok-one κ a x y s t p q = agree p q
+pub large_ok_one : OneResult large-ok.Learnt
+large_ok_one κ a x y s t p q = agree p q
 
-pub bits-ok-one : OneResult bits-ok.Learnt
-bits-ok-one κ a x y s t p q = agree p q
+pub bits_ok_one : OneResult bits-ok.Learnt
+bits_ok_one κ a x y s t p q = agree p q
 
-pub power-up-one : OneResult power-up.Learnt
-power-up-one κ a x y s t p q = agree p q
+pub power_up_one : OneResult power-up.Learnt
+power_up_one κ a x y s t p q = agree p q

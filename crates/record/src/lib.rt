@@ -1,31 +1,31 @@
 // The record: how a part is made, and power-up.
 ghost use Rattle.std.specs.Prelude.{◌≡◌, ◌+◌, ◌*◌};
 ghost use Rattle.words.specs.Logic.{bit};
-ghost use Rattle.paper.specs.Program.{noData};
-ghost use Rattle.paper.specs.Phases.{isErase, isProgram};
-ghost use Rattle.paper.specs.Records.{statusLow, functionLow, registersIn, made, settled, freshPart, fresh};
-ghost use Rattle.paper.specs.Soundness.{bitsOk, largeOk};
-ghost use Rattle.paper.specs.Numbers.{powerUpNumber};
-ghost use Rattle.paper.specs.Calls.{noStored, zeroRecord, poweredUp};
+ghost use Rattle.paper.specs.Program.{no_data};
+ghost use Rattle.paper.specs.Phases.{is_erase, is_program};
+ghost use Rattle.paper.specs.Records.{status_low, function_low, registers_in, made, settled, fresh_part, fresh};
+ghost use Rattle.paper.specs.Soundness.{bits_ok, large_ok};
+ghost use Rattle.paper.specs.Numbers.{power_up_number};
+ghost use Rattle.paper.specs.Calls.{no_stored, zero_record, powered_up};
 
 use types::{Identity, Operation, Part, Phase, PoweredUp, Record, Register, Stored, Work};
 
 // Page data of no program: all zero.
 pub fn no_data() -> [u8; 256]
-    ensures { result ≡ noData }
+    ensures { result ≡ no_data }
 {
     [0u8; 256]
 }
 
 // WEL and WIP at bits 1 and 0.
 fn status_low(phase: Phase, wel: bool) -> u8
-    ensures { result ≡ statusLow phase wel }
+    ensures { result ≡ status_low phase wel }
 {
     2 * words::bit_of(wel) + words::bit_of(phases::is_busy(phase))
 }
 
 fn suspended_bits(op: Operation) -> u8
-    ensures { result ≡ 8 * bit (isErase op) + 4 * bit (isProgram op) }
+    ensures { result ≡ 8 * bit (is_erase op) + 4 * bit (is_program op) }
 {
     match op {
         Operation::Program { .. } => 4,
@@ -36,7 +36,7 @@ fn suspended_bits(op: Operation) -> u8
 
 // ESUS and PSUS at bits 3 and 2.
 fn function_low(phase: Phase) -> u8
-    ensures { result ≡ functionLow phase }
+    ensures { result ≡ function_low phase }
 {
     let halted = phases::halted(phase);
     match halted {
@@ -47,7 +47,7 @@ fn function_low(phase: Phase) -> u8
 
 // The registers with their stored bits. The bits that phase and latch define go by these.
 fn registers_in(phase: Phase, wel: bool, stored: Stored) -> Stored
-    ensures { result ≡ registersIn phase wel stored }
+    ensures { result ≡ registers_in phase wel stored }
 {
     let status = operations::held_byte(Register::Status, stored.status);
     let low_status = status_low(phase, wel);
@@ -83,7 +83,7 @@ pub fn settle(part: Part, phase: Phase, wel: bool) -> Part
 
 // An awake, unarmed part with WEL 0, the live byte loaded and the bank register 00h, for an idle phase.
 pub fn fresh_part(blocks: u16, stored: Stored) -> Part
-    ensures { result ≡ freshPart blocks stored }
+    ensures { result ≡ fresh_part blocks stored }
 {
     let registers = registers_in(Phase::Idle, false, stored);
     Part {
@@ -112,7 +112,7 @@ fn make_fresh(blocks: u16, identity: Identity, stored: Stored) -> Record
 
 // The registers of zeros.
 pub fn no_stored() -> Stored
-    ensures { result ≡ noStored }
+    ensures { result ≡ no_stored }
 {
     Stored {
         status: 0,
@@ -123,7 +123,7 @@ pub fn no_stored() -> Stored
 
 // The record of a refused power-up: an idle 1-block record, all else zero.
 pub fn zero_record() -> Record
-    ensures { result ≡ zeroRecord }
+    ensures { result ≡ zero_record }
 {
     let identity = Identity {
         maker: 0,
@@ -138,7 +138,7 @@ pub fn zero_record() -> Record
 // Whether what the large part alone has can stand in a part of so many blocks: bits 6..1 of its bank register are zero;
 // other parts have neither TBS nor a bank register.
 pub fn large_ok(blocks: u16, function: u8, bank: u8) -> bool
-    ensures { result ≡ largeOk blocks function bank }
+    ensures { result ≡ large_ok blocks function bank }
 {
     if sizes::is_large(blocks as u64) {
         return bank / 2 % 64 == 0;
@@ -151,7 +151,7 @@ pub fn large_ok(blocks: u16, function: u8, bank: u8) -> bool
 // Whether WIP, WEL, ESUS and PSUS in the registers are those that phase and latch define, and function bit 0 and bits 4..0 of
 // the extended read register's stored byte zero.
 pub fn bits_ok(phase: Phase, wel: bool, stored: Stored) -> bool
-    ensures { result ≡ bitsOk phase wel stored }
+    ensures { result ≡ bits_ok phase wel stored }
 {
     let latches = stored.status % 4 == status_low(phase, wel);
     let tbs = 2 * (stored.function / 2 % 2);
@@ -161,7 +161,7 @@ pub fn bits_ok(phase: Phase, wel: bool, stored: Stored) -> bool
 }
 
 fn power_up_number(blocks: u16, stored: Stored) -> u8
-    ensures { result ≡ powerUpNumber blocks stored }
+    ensures { result ≡ power_up_number blocks stored }
 {
     let size = sizes::size_ok(blocks as u64);
     let bits = bits_ok(Phase::Idle, false, stored);
@@ -172,7 +172,7 @@ fn power_up_number(blocks: u16, stored: Stored) -> u8
 // Power-up: an idle, awake, unarmed record with WEL 0 and page data zero; refused, with 1 or 5, an idle
 // 1-block record, all else zero.
 pub fn power_up(blocks: u16, identity: Identity, stored: Stored) -> PoweredUp
-    ensures { result ≡ poweredUp blocks identity stored }
+    ensures { result ≡ powered_up blocks identity stored }
 {
     let number = power_up_number(blocks, stored);
     if number != 0 {

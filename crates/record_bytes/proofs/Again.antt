@@ -4,13 +4,13 @@ use mathlib.Core.Path.{◌≡◌}
 use mathlib.Core.Bool.{true}
 use mathlib.Core.List.{List}
 use borrow.Author.Tests.{eq-eqb}
-use Rattle.record_bytes.specs.Read.{fieldsIn, recordIn, partAgain, phaseAgain}
-use Rattle.record_bytes.proofs.Back.{taken, holding, held-length}
+use Rattle.record_bytes.specs.Read.{fields_in, record_in, part_again, phase_again}
+use Rattle.record_bytes.proofs.Back.{taken, holding, held_length}
 
-pub again_part : (bs : List ℕ) → (recordIn bs).ok ≡ true → partAgain bs ≡ (recordIn bs).state.part
-unfolding partAgain fieldsIn
-again_part bs h = rw (eq-eqb _ _ (held-length bs h), taken bs (holding bs h))
+pub again_part : (bs : List ℕ) → (record_in bs).ok ≡ true → part_again bs ≡ (record_in bs).state.part
+unfolding part_again fields_in
+again_part bs h = rw (eq-eqb _ _ (held_length bs h), taken bs (holding bs h))
 
-pub again-phase : (bs : List ℕ) → (recordIn bs).ok ≡ true → phaseAgain bs ≡ (recordIn bs).state.phase
-unfolding phaseAgain fieldsIn
-again-phase bs h = rw (eq-eqb _ _ (held-length bs h), taken bs (holding bs h))
+pub again_phase : (bs : List ℕ) → (record_in bs).ok ≡ true → phase_again bs ≡ (record_in bs).state.phase
+unfolding phase_again fields_in
+again_phase bs h = rw (eq-eqb _ _ (held_length bs h), taken bs (holding bs h))

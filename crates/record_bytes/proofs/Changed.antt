@@ -13,35 +13,35 @@ use Rattle.words.specs.Logic.{bit}
 use Rattle.paper.specs.Records.{marked}
 use Rattle.paper.specs.Phases.{running, halted}
 use Rattle.paper.specs.Commands.{changed}
-use Rattle.paper.proofs.Phases.{phase-runs, phase-halts}
-use Rattle.paper.proofs.Soundness.{recordOf}
-use Rattle.record_bytes.specs.Layout.{armedAt, recordLength, partBytes, operationBytes, worksBytes, recordBytes, bytesChanged, changeWritten}
-use Rattle.record_bytes.specs.Read.{recordIn}
-use Rattle.record_bytes.proofs.Back.{held-length, held_bytes}
+use Rattle.paper.proofs.Phases.{phase_runs, phase_halts}
+use Rattle.paper.proofs.Soundness.{record_of}
+use Rattle.record_bytes.specs.Layout.{armed_at, record_length, part_bytes, operation_bytes, works_bytes, record_bytes, bytes_changed, change_written}
+use Rattle.record_bytes.specs.Read.{record_in}
+use Rattle.record_bytes.proofs.Back.{held_length, held_bytes}
 
 -- the armed mark at its place
-mark_set : (p : Record) (armed : Bool) → set (recordBytes p) armedAt (bit armed) ≡ recordBytes (recordOf p.identity (marked p.part armed) p.phase p.page)
-unfolding recordBytes partBytes worksBytes operationBytes
+mark_set : (p : Record) (armed : Bool) → set (record_bytes p) armed_at (bit armed) ≡ record_bytes (record_of p.identity (marked p.part armed) p.phase p.page)
+unfolding record_bytes part_bytes works_bytes operation_bytes
 mark_set p armed = refl
 
-changed-in : (c : Change) (i bs : List ℕ) → length bs ≡ recordLength → changeWritten c i bs ≡ bytesChanged c i bs
-unfolding changeWritten
-changed-in c i bs l = rw (eq-eqb _ _ l)
+changed_in : (c : Change) (i bs : List ℕ) → length bs ≡ record_length → change_written c i bs ≡ bytes_changed c i bs
+unfolding change_written
+changed_in c i bs l = rw (eq-eqb _ _ l)
 
-bytes-changed : (c : Change) (i : List ℕ) (p : Record) → bytesChanged c i (recordBytes p) ≡ recordBytes (changed c i p)
-unfolding recordBytes partBytes worksBytes operationBytes
-bytes-changed Same i p = refl
-bytes-changed (Marked armed) i p = mark_set p armed
-bytes-changed (Live v) i p = refl
-bytes-changed (Anew q) i p = refl
-bytes-changed (Runs q d w) i p = rw (phase-runs w (halted p.phase), phase-halts w (halted p.phase))
-bytes-changed (Halts q) i p = rw (phase-runs NoWork (running p.phase), phase-halts NoWork (running p.phase))
-bytes-changed (GoesOn q) i p = rw (phase-runs (halted p.phase) NoWork, phase-halts (halted p.phase) NoWork)
-bytes-changed (Clears q) i p = refl
+bytes_changed_lem : (c : Change) (i : List ℕ) (p : Record) → bytes_changed c i (record_bytes p) ≡ record_bytes (changed c i p)
+unfolding record_bytes part_bytes works_bytes operation_bytes
+bytes_changed_lem Same i p = refl
+bytes_changed_lem (Marked armed) i p = mark_set p armed
+bytes_changed_lem (Live v) i p = refl
+bytes_changed_lem (Anew q) i p = refl
+bytes_changed_lem (Runs q d w) i p = rw (phase_runs w (halted p.phase), phase_halts w (halted p.phase))
+bytes_changed_lem (Halts q) i p = rw (phase_runs NoWork (running p.phase), phase_halts NoWork (running p.phase))
+bytes_changed_lem (GoesOn q) i p = rw (phase_runs (halted p.phase) NoWork, phase_halts (halted p.phase) NoWork)
+bytes_changed_lem (Clears q) i p = refl
 
 -- a change of the record that bytes hold
-pub held-changed : (c : Change) (i bs : List ℕ) → (recordIn bs).ok ≡ true → changeWritten c i bs ≡ recordBytes (changed c i (recordIn bs).state)
-held-changed c i bs h =
-    changed-in c i bs (held-length bs h)
-    ∙ ap (bytesChanged c i) (sym (held_bytes bs h))
-    ∙ bytes-changed c i (recordIn bs).state
+pub held_changed : (c : Change) (i bs : List ℕ) → (record_in bs).ok ≡ true → change_written c i bs ≡ record_bytes (changed c i (record_in bs).state)
+held_changed c i bs h =
+    changed_in c i bs (held_length bs h)
+    ∙ ap (bytes_changed c i) (sym (held_bytes bs h))
+    ∙ bytes_changed_lem c i (record_in bs).state

@@ -8,23 +8,23 @@ use Rattle.record_bytes.proofs.reading.read.Reads as read
 use Rattle.record_bytes.proofs.reading.part_again.Reads as part-again
 use Rattle.record_bytes.proofs.reading.phase_again.Reads as phase-again
 
-pub write-idle-one : OneExit write-idle.Learnt (λ κ s. s.1.1.0.now)
-write-idle-one κ a x y s t p q = agree p q
+pub write_idle_one : OneExit write-idle.Learnt (λ κ s. s.1.1.0.now)
+write_idle_one κ a x y s t p q = agree p q
 
-pub write-runs-one : OneExit write-runs.Learnt (λ κ s. s.1.1.1.1.0.now)
-write-runs-one κ a x y s t p q = agree p q
+pub write_runs_one : OneExit write-runs.Learnt (λ κ s. s.1.1.1.1.0.now)
+write_runs_one κ a x y s t p q = agree p q
 
-pub write-change-one : OneExit write-change.Learnt (λ κ s. s.1.1.0.now)
-write-change-one κ a x y s t p q = agree p q
+pub write_change_one : OneExit write-change.Learnt (λ κ s. s.1.1.0.now)
+write_change_one κ a x y s t p q = agree p q
 
-pub identity-in-one : OneResult identity-in.Learnt
-identity-in-one κ a x y s t p q = agree p q
+pub identity_in_one : OneResult identity-in.Learnt
+identity_in_one κ a x y s t p q = agree p q
 
 pub read_one : OneResult read.Learnt
 read_one κ a x y s t p q = agree p q
 
-pub part-again-one : OneResult part-again.Learnt
-part-again-one κ a x y s t p q = agree p q
+pub part_again_one : OneResult part-again.Learnt
+part_again_one κ a x y s t p q = agree p q
 
-pub phase-again-one : OneResult phase-again.Learnt
-phase-again-one κ a x y s t p q = agree p q
+pub phase_again_one : OneResult phase-again.Learnt
+phase_again_one κ a x y s t p q = agree p q

@@ -1,10 +1,10 @@
 // The record that bytes hold.
 ghost use Rattle.std.specs.Prelude.{◌≡◌, length, get_or};
 ghost use Rattle.types.specs.declared.Work.TheVariants.{NoWork};
-ghost use Rattle.paper.specs.Address.{highFirst};
-ghost use Rattle.cells.specs.Operations.{workCells, sameCells};
-ghost use Rattle.record_bytes.specs.Layout.{operationLength, recordLength};
-ghost use Rattle.record_bytes.specs.Read.{marksIn, cells_in, storedOf, partIn, identityIn, doingIn, nothing, recordIn, found, partAgain, phaseAgain};
+ghost use Rattle.paper.specs.Address.{high_first};
+ghost use Rattle.cells.specs.Operations.{work_cells, same_cells};
+ghost use Rattle.record_bytes.specs.Layout.{operation_length, record_length};
+ghost use Rattle.record_bytes.specs.Read.{marks_in, cells_in, stored_of, part_in, identity_in, doing_in, nothing, record_in, found, part_again, phase_again};
 
 use crate::{Doing, Found, places};
 use cells::Cells;
@@ -19,7 +19,7 @@ fn wide(byte: u8) -> usize
 // The number that eight bytes are, high byte first. Written out as a sum, it is one load.
 fn number_in(bytes: &[u8]) -> usize
     requires { length bytes.now ≡ 8 }
-    ensures { result ≡ highFirst bytes.now }
+    ensures { result ≡ high_first bytes.now }
 {
     wide(bytes[7])
         + wide(bytes[6]) * 256
@@ -33,7 +33,7 @@ fn number_in(bytes: &[u8]) -> usize
 
 // The cells of an operation in its bytes, whatever stands there.
 fn cells_in(bytes: &[u8]) -> Cells
-    requires { length bytes.now ≡ operationLength }
+    requires { length bytes.now ≡ operation_length }
     ensures { result ≡ cells_in bytes.now }
 {
     let base = number_in(&bytes[places::BASE..places::COUNT]);
@@ -50,8 +50,8 @@ fn cells_in(bytes: &[u8]) -> Cells
 
 // The registers at their places.
 fn stored_in(bytes: &[u8]) -> Stored
-    requires { length bytes.now ≡ recordLength }
-    ensures { result ≡ storedOf (λ j. get_or bytes.now j 0) }
+    requires { length bytes.now ≡ record_length }
+    ensures { result ≡ stored_of (λ j. get_or bytes.now j 0) }
 {
     Stored {
         status: bytes[places::STATUS],
@@ -62,8 +62,8 @@ fn stored_in(bytes: &[u8]) -> Stored
 
 // The fields of a part at their places, whatever stands there.
 fn part_in(bytes: &[u8]) -> Part
-    requires { length bytes.now ≡ recordLength }
-    ensures { result ≡ partIn bytes.now }
+    requires { length bytes.now ≡ record_length }
+    ensures { result ≡ part_in bytes.now }
 {
     let high = bytes[places::BLOCKS] as u16;
     let low = bytes[places::BLOCKS + 1] as u16;
@@ -81,7 +81,7 @@ fn part_in(bytes: &[u8]) -> Part
 
 // The identity at its place. A byte past the end counts as 0.
 pub fn identity_in(bytes: &[u8]) -> Identity
-    ensures { result ≡ identityIn bytes.now }
+    ensures { result ≡ identity_in bytes.now }
 {
     Identity {
         maker: sent::byte_at(bytes, places::MAKER),
@@ -93,8 +93,8 @@ pub fn identity_in(bytes: &[u8]) -> Identity
 
 // Whether WEL and the marks are 0 or 1.
 fn marks_in(bytes: &[u8]) -> bool
-    requires { length bytes.now ≡ recordLength }
-    ensures { result ≡ marksIn bytes.now }
+    requires { length bytes.now ≡ record_length }
+    ensures { result ≡ marks_in bytes.now }
 {
     let wel = bytes[places::WEL] <= 1;
     let armed = bytes[places::ARMED] <= 1;
@@ -104,7 +104,7 @@ fn marks_in(bytes: &[u8]) -> bool
 
 // Whether cells are those of no operation: all are 0.
 fn is_none(cells: Cells) -> bool
-    ensures { result ≡ sameCells (workCells NoWork) cells }
+    ensures { result ≡ same_cells (work_cells NoWork) cells }
 {
     let kind = cells.kind == 0;
     let value = cells.value == 0;
@@ -118,8 +118,8 @@ fn is_none(cells: Cells) -> bool
 // What the bytes say that a part does: what runs and what is suspended, each an operation or none, as the kinds say; and
 // whether the cells are those of the operations that they are read as.
 fn doing_in(bytes: &[u8]) -> Doing
-    requires { length bytes.now ≡ recordLength }
-    ensures { result ≡ doingIn bytes.now }
+    requires { length bytes.now ≡ record_length }
+    ensures { result ≡ doing_in bytes.now }
 {
     let running = cells_in(&bytes[places::RUNNING..places::HALTED]);
     let halted = cells_in(&bytes[places::HALTED..places::MAKER]);
@@ -173,7 +173,7 @@ fn none_found() -> Found
 // they are. Bytes hold a record where the marks are marks and the cells are those of the operations that they are read as.
 // Most calls find the part idle, and are told so by fewer tests.
 pub fn read(bytes: &[u8]) -> Found
-    ensures { result ≡ found (recordIn bytes.now) }
+    ensures { result ≡ found (record_in bytes.now) }
 {
     if bytes.len() != places::END {
         return none_found();
@@ -217,7 +217,7 @@ pub fn read(bytes: &[u8]) -> Found
 // The part that bytes hold, read again without judging it: of bytes that held a record when they were read, and that only
 // changes were written over since. Bytes of another length give that of a refused power-up.
 pub fn part_again(bytes: &[u8]) -> Part
-    ensures { result ≡ partAgain bytes.now }
+    ensures { result ≡ part_again bytes.now }
 {
     if bytes.len() == places::END {
         return part_in(bytes);
@@ -229,7 +229,7 @@ pub fn part_again(bytes: &[u8]) -> Part
 // The phase that they hold, in the same way. An idle part is told by its two kinds alone. Bytes of another length give that of
 // an idle part.
 pub fn phase_again(bytes: &[u8]) -> Phase
-    ensures { result ≡ phaseAgain bytes.now }
+    ensures { result ≡ phase_again bytes.now }
 {
     if bytes.len() != places::END {
         return Phase::Idle;

@@ -2,20 +2,20 @@
 ghost use Rattle.std.specs.Prelude.{◌≡◌, ◌++◌, length, drop};
 ghost use Rattle.types.specs.declared.Phase.TheVariants.{Idle};
 ghost use Rattle.types.specs.declared.Change.TheVariants.{Runs};
-ghost use Rattle.paper.specs.Sizes.{pageBytes};
-ghost use Rattle.paper.specs.Program.{noData};
-ghost use Rattle.paper.specs.Commands.{pageAfter};
-ghost use Rattle.paper.proofs.Soundness.{recordOf};
-ghost use Rattle.address.specs.Bytes.{highFirstBytes};
-ghost use Rattle.cells.specs.Operations.{cells_of, workCells};
-ghost use Rattle.record_bytes.specs.Layout.{partLength, operationLength, headerLength, recordLength, partBytes, operationBytes, headerRunning, written, worksLaid, bytesHalted, bytesResumed, bytesCleared, changeWritten};
+ghost use Rattle.paper.specs.Sizes.{page_bytes};
+ghost use Rattle.paper.specs.Program.{no_data};
+ghost use Rattle.paper.specs.Commands.{page_after};
+ghost use Rattle.paper.proofs.Soundness.{record_of};
+ghost use Rattle.address.specs.Bytes.{high_first_bytes};
+ghost use Rattle.cells.specs.Operations.{cells_of, work_cells};
+ghost use Rattle.record_bytes.specs.Layout.{part_length, operation_length, header_length, record_length, part_bytes, operation_bytes, header_running, written, works_laid, bytes_halted, bytes_resumed, bytes_cleared, change_written};
 
 use crate::places;
 use types::{Change, Data, Identity, Operation, Part, Work};
 
 // What a part is, in bytes.
 fn part_bytes(part: Part) -> [u8; places::RUNNING]
-    ensures { result ≡ partBytes part }
+    ensures { result ≡ part_bytes part }
 {
     let stored = part.stored;
     let wel = words::bit_of(part.wel);
@@ -37,8 +37,8 @@ fn part_bytes(part: Part) -> [u8; places::RUNNING]
 
 // What a part is, written over the first of a record's bytes.
 fn write_part(part: Part, bytes: &mut [u8])
-    requires { length bytes.old ≡ recordLength }
-    ensures { bytes.new ≡ partBytes part ++ drop partLength bytes.old }
+    requires { length bytes.old ≡ record_length }
+    ensures { bytes.new ≡ part_bytes part ++ drop part_length bytes.old }
 {
     let front = part_bytes(part);
     bytes::copy(&front, bytes);
@@ -47,7 +47,7 @@ fn write_part(part: Part, bytes: &mut [u8])
 // A number written over eight bytes.
 fn write_number(number: usize, bytes: &mut [u8])
     requires { length bytes.old ≡ 8 }
-    ensures { bytes.new ≡ highFirstBytes 8 number }
+    ensures { bytes.new ≡ high_first_bytes 8 number }
 {
     let eight = address::high_first_bytes(number);
     bytes::copy(&eight, bytes);
@@ -55,8 +55,8 @@ fn write_number(number: usize, bytes: &mut [u8])
 
 // The cells of an operation, written over its bytes.
 fn write_operation(op: Operation, bytes: &mut [u8])
-    requires { length bytes.old ≡ operationLength }
-    ensures { bytes.new ≡ operationBytes (cells_of op) }
+    requires { length bytes.old ≡ operation_length }
+    ensures { bytes.new ≡ operation_bytes (cells_of op) }
 {
     let cells = cells::cells_of(op);
     // The proof begins with these zeros. Each byte is written after them, and the compiler leaves them out.
@@ -73,8 +73,8 @@ fn write_operation(op: Operation, bytes: &mut [u8])
 
 // What runs or is suspended, written over its bytes: zeros where that is nothing.
 fn write_work(work: Work, bytes: &mut [u8])
-    requires { length bytes.old ≡ operationLength }
-    ensures { bytes.new ≡ operationBytes (workCells work) }
+    requires { length bytes.old ≡ operation_length }
+    ensures { bytes.new ≡ operation_bytes (work_cells work) }
 {
     match work {
         Work::NoWork => runs::fill(bytes, 0),
@@ -84,8 +84,8 @@ fn write_work(work: Work, bytes: &mut [u8])
 
 // The header of a part with other work running: what is suspended stays.
 fn write_running(part: Part, work: Work, bytes: &mut [u8])
-    requires { length bytes.old ≡ recordLength }
-    ensures { bytes.new ≡ headerRunning part work bytes.old ++ drop headerLength bytes.old }
+    requires { length bytes.old ≡ record_length }
+    ensures { bytes.new ≡ header_running part work bytes.old ++ drop header_length bytes.old }
 {
     write_work(work, &mut bytes[places::RUNNING..places::HALTED]);
     write_part(part, bytes);
@@ -93,7 +93,7 @@ fn write_running(part: Part, work: Work, bytes: &mut [u8])
 
 // An operation's bytes, copied out.
 fn operation_at(bytes: &[u8]) -> [u8; places::OPERATION_BYTES]
-    requires { length bytes.now ≡ operationLength }
+    requires { length bytes.now ≡ operation_length }
     ensures { result ≡ bytes.now }
 {
     let mut copied = [0u8; places::OPERATION_BYTES];
@@ -108,8 +108,8 @@ fn write_works(
     halted: [u8; places::OPERATION_BYTES],
     bytes: &mut [u8],
 )
-    requires { length bytes.old ≡ recordLength }
-    ensures { bytes.new ≡ worksLaid part running halted bytes.old }
+    requires { length bytes.old ≡ record_length }
+    ensures { bytes.new ≡ works_laid part running halted bytes.old }
 {
     bytes::copy(&running, &mut bytes[places::RUNNING..places::HALTED]);
     bytes::copy(&halted, &mut bytes[places::HALTED..places::MAKER]);
@@ -118,8 +118,8 @@ fn write_works(
 
 // A part whose running operation is suspended: its bytes are moved.
 fn write_halted(part: Part, bytes: &mut [u8])
-    requires { length bytes.old ≡ recordLength }
-    ensures { bytes.new ≡ bytesHalted part bytes.old }
+    requires { length bytes.old ≡ record_length }
+    ensures { bytes.new ≡ bytes_halted part bytes.old }
 {
     let ran = operation_at(&bytes[places::RUNNING..places::HALTED]);
     let none = [0u8; places::OPERATION_BYTES];
@@ -128,8 +128,8 @@ fn write_halted(part: Part, bytes: &mut [u8])
 
 // A part whose suspended operation goes on: its bytes are moved back.
 fn write_resumed(part: Part, bytes: &mut [u8])
-    requires { length bytes.old ≡ recordLength }
-    ensures { bytes.new ≡ bytesResumed part bytes.old }
+    requires { length bytes.old ≡ record_length }
+    ensures { bytes.new ≡ bytes_resumed part bytes.old }
 {
     let stood = operation_at(&bytes[places::HALTED..places::MAKER]);
     let none = [0u8; places::OPERATION_BYTES];
@@ -138,8 +138,8 @@ fn write_resumed(part: Part, bytes: &mut [u8])
 
 // A part that does nothing and has no page data. The identity stays.
 fn write_cleared(part: Part, bytes: &mut [u8])
-    requires { length bytes.old ≡ recordLength }
-    ensures { bytes.new ≡ bytesCleared part bytes.old }
+    requires { length bytes.old ≡ record_length }
+    ensures { bytes.new ≡ bytes_cleared part bytes.old }
 {
     runs::fill(&mut bytes[places::RUNNING..places::MAKER], 0);
     write_part(part, bytes);
@@ -149,7 +149,7 @@ fn write_cleared(part: Part, bytes: &mut [u8])
 // The record of an idle part with no page data and with an identity, written as its bytes. A buffer of another length is left
 // as it is.
 pub fn write_idle(part: Part, identity: Identity, bytes: &mut [u8])
-    ensures { bytes.new ≡ written (recordOf identity part Idle noData) bytes.old }
+    ensures { bytes.new ≡ written (record_of identity part Idle no_data) bytes.old }
 {
     if bytes.len() != places::END {
         return;
@@ -163,8 +163,8 @@ pub fn write_idle(part: Part, identity: Identity, bytes: &mut [u8])
 
 // Page data after a call with an input, where it stands.
 fn write_page(becomes: Data, input: &[u8], page: &mut [u8])
-    requires { length page.old ≡ pageBytes }
-    ensures { page.new ≡ pageAfter becomes input.now page.old }
+    requires { length page.old ≡ page_bytes }
+    ensures { page.new ≡ page_after becomes input.now page.old }
 {
     match becomes {
         Data::Kept => {}
@@ -178,7 +178,7 @@ fn write_page(becomes: Data, input: &[u8], page: &mut [u8])
 // A part with other work running, and page data after a call with an input, written over a record's bytes. What is suspended
 // stays. A buffer of another length is left as it is.
 pub fn write_runs(part: Part, becomes: Data, work: Work, input: &[u8], bytes: &mut [u8])
-    ensures { bytes.new ≡ changeWritten (Runs part becomes work) input.now bytes.old }
+    ensures { bytes.new ≡ change_written (Runs part becomes work) input.now bytes.old }
 {
     if bytes.len() != places::END {
         return;
@@ -189,7 +189,7 @@ pub fn write_runs(part: Part, becomes: Data, work: Work, input: &[u8], bytes: &m
 
 // What a call with an input makes of a record, written over the record's bytes. A buffer of another length is left as it is.
 pub fn write_change(change: Change, input: &[u8], bytes: &mut [u8])
-    ensures { bytes.new ≡ changeWritten change input.now bytes.old }
+    ensures { bytes.new ≡ change_written change input.now bytes.old }
 {
     if bytes.len() != places::END {
         return;

@@ -11,17 +11,17 @@ use Rattle.types.specs.declared.Work.{Work}
 use Rattle.types.specs.declared.Work.TheVariants.{NoWork, At}
 use Rattle.types.specs.declared.Record.{Record}
 use Rattle.words.proofs.Tests.{and_l, and_r}
-use Rattle.paper.specs.Sizes.{arrayBytes, rowsBytes}
+use Rattle.paper.specs.Sizes.{array_bytes, rows_bytes}
 use Rattle.paper.specs.Phases.{running}
-use Rattle.paper.specs.Operations.{ticksInAll, ticksDone, advancedBy}
+use Rattle.paper.specs.Operations.{ticks_in_all, ticks_done, advanced_by}
 use Rattle.paper.specs.Soundness.{sound}
-use Rattle.paper.specs.Numbers.{transactionRefusal}
-use Rattle.paper.specs.Ticks.{finished, advanced, worked, tickedAt, recordAfter}
-use Rattle.paper.specs.Calls.{outcomeOf, transacted}
-use Rattle.paper.specs.History.{Call, transaction, ticks, recordAfterCall, recordAfterCalls, standsAside}
-use Rattle.paper.proofs.CallKept.{after-tick-call}
-use Rattle.paper.proofs.TransactionKept.{transaction-identity}
-use Rattle.reset.specs.Closing.{allAside}
+use Rattle.paper.specs.Numbers.{transaction_refusal}
+use Rattle.paper.specs.Ticks.{finished, advanced, worked, ticked_at, record_after}
+use Rattle.paper.specs.Calls.{outcome_of, transacted}
+use Rattle.paper.specs.History.{Call, transaction, ticks, record_after_call, record_after_calls, stands_aside}
+use Rattle.paper.proofs.CallKept.{after_tick_call}
+use Rattle.paper.proofs.TransactionKept.{transaction_identity}
+use Rattle.reset.specs.Closing.{all_aside}
 
 -- a part of the same identity and marks
 pub record Alike (p q : Record) : Type 0 where
@@ -32,52 +32,52 @@ pub record Alike (p q : Record) : Type 0 where
 alike : (p : Record) → Alike p p
 alike p = record { identity = refl; armed = refl; asleep = refl }
 
-alike-on : {p q r : Record} → Alike p q → Alike q r → Alike p r
-alike-on a b =
+alike_on : {p q r : Record} → Alike p q → Alike q r → Alike p r
+alike_on a b =
     record { identity = b.identity ∙ a.identity; armed = b.armed ∙ a.armed; asleep = b.asleep ∙ a.asleep }
 
 -- ticks
 module _ (p : Record) where
-  worked-alike : (o : Operation) (t : Bool) → Alike p (cond t (advanced p (advancedBy 1 o)) (finished p o))
-  worked-alike o true = record { identity = refl; armed = refl; asleep = refl }
-  worked-alike o false = record { identity = refl; armed = refl; asleep = refl }
+  worked_alike : (o : Operation) (t : Bool) → Alike p (cond t (advanced p (advanced_by 1 o)) (finished p o))
+  worked_alike o true = record { identity = refl; armed = refl; asleep = refl }
+  worked_alike o false = record { identity = refl; armed = refl; asleep = refl }
 
-  ticked-alike : (w : Work) → Alike p (tickedAt p w)
+  ticked_alike : (w : Work) → Alike p (ticked_at p w)
   unfolding worked
-  ticked-alike NoWork = alike p
-  ticked-alike (At o) = worked-alike o (ltb (ticksDone o + 1) (ticksInAll o p.part.blocks))
+  ticked_alike NoWork = alike p
+  ticked_alike (At o) = worked_alike o (ltb (ticks_done o + 1) (ticks_in_all o p.part.blocks))
 
-run-alike : (n : ℕ) (p : Record) → Alike p (recordAfter n p)
-run-alike zero p = alike p
-run-alike (suc n) p = alike-on (run-alike n p) (ticked-alike (recordAfter n p) (running (recordAfter n p).phase))
+run_alike : (n : ℕ) (p : Record) → Alike p (record_after n p)
+run_alike zero p = alike p
+run_alike (suc n) p = alike_on (run_alike n p) (ticked_alike (record_after n p) (running (record_after n p).phase))
 
 -- a tick call, refused or not
 module _ (p : Record) where
-  ticks-alike : (n : ℕ) → Alike p (recordAfterCall (ticks n) p)
-  ticks-alike n = after-tick-call (Alike p) p n (alike p) (run-alike n p) (arrayBytes p.part.blocks) rowsBytes
+  ticks_alike : (n : ℕ) → Alike p (record_after_call (ticks n) p)
+  ticks_alike n = after_tick_call (Alike p) p n (alike p) (run_alike n p) (array_bytes p.part.blocks) rows_bytes
 
   -- a call that stands aside: a refused transaction changes nothing
-  refused-next : (wp : Bool) (i : List ℕ) (o : ℕ) → eqb (transactionRefusal p.part.blocks (sound p) (arrayBytes p.part.blocks) rowsBytes (length i) o) 0 ≡ false
-      → (transacted p (arrayBytes p.part.blocks) rowsBytes wp i o).next ≡ p
-  unfolding transacted outcomeOf
-  refused-next wp i o r = rw r
+  refused_next : (wp : Bool) (i : List ℕ) (o : ℕ) → eqb (transaction_refusal p.part.blocks (sound p) (array_bytes p.part.blocks) rows_bytes (length i) o) 0 ≡ false
+      → (transacted p (array_bytes p.part.blocks) rows_bytes wp i o).next ≡ p
+  unfolding transacted outcome_of
+  refused_next wp i o r = rw r
 
-  aside-alike : (c : Call) → standsAside c p ≡ true → Alike p (recordAfterCall c p)
-  aside-alike (transaction wp i o) h = subst⁻¹ (Alike p) (refused-next wp i o (not-true _ h)) (alike p)
-  aside-alike (ticks n) h = ticks-alike n
+  aside_alike : (c : Call) → stands_aside c p ≡ true → Alike p (record_after_call c p)
+  aside_alike (transaction wp i o) h = subst⁻¹ (Alike p) (refused_next wp i o (not-true _ h)) (alike p)
+  aside_alike (ticks n) h = ticks_alike n
 
 -- every call keeps the identity
-call-identity : (c : Call) (p : Record) → (recordAfterCall c p).identity ≡ p.identity
-call-identity (transaction wp i o) p = transaction-identity p i (arrayBytes p.part.blocks) rowsBytes wp o
-call-identity (ticks n) p = (ticks-alike p n).identity
+call_identity : (c : Call) (p : Record) → (record_after_call c p).identity ≡ p.identity
+call_identity (transaction wp i o) p = transaction_identity p i (array_bytes p.part.blocks) rows_bytes wp o
+call_identity (ticks n) p = (ticks_alike p n).identity
 
 -- so do all calls
-pub calls-identity : (cs : List Call) (p : Record) → (recordAfterCalls cs p).identity ≡ p.identity
-calls-identity [] p = refl
-calls-identity (c ∷ cs) p = calls-identity cs (recordAfterCall c p) ∙ call-identity c p
+pub calls_identity : (cs : List Call) (p : Record) → (record_after_calls cs p).identity ≡ p.identity
+calls_identity [] p = refl
+calls_identity (c ∷ cs) p = calls_identity cs (record_after_call c p) ∙ call_identity c p
 
 -- and calls that all stand aside keep the marks too
-pub all-aside-alike : (cs : List Call) (p : Record) → allAside cs p ≡ true → Alike p (recordAfterCalls cs p)
-all-aside-alike [] p h = alike p
-all-aside-alike (c ∷ cs) p h =
-    alike-on (aside-alike p c (and_l _ _ h)) (all-aside-alike cs (recordAfterCall c p) (and_r _ _ h))
+pub all_aside_alike : (cs : List Call) (p : Record) → all_aside cs p ≡ true → Alike p (record_after_calls cs p)
+all_aside_alike [] p h = alike p
+all_aside_alike (c ∷ cs) p h =
+    alike_on (aside_alike p c (and_l _ _ h)) (all_aside_alike cs (record_after_call c p) (and_r _ _ h))

@@ -11,196 +11,196 @@ use Rattle.types.specs.declared.Phase.TheVariants.{Busy}
 use Rattle.types.specs.declared.Stored.{Stored}
 use Rattle.types.specs.declared.Record.{Record}
 use Rattle.words.specs.Logic.{◌or◌}
-use Rattle.paper.specs.Erase.{unitPages, unitBase, eraseOf}
-use Rattle.paper.specs.Registers.{bankLoaded}
+use Rattle.paper.specs.Erase.{unit_pages, unit_base, erase_of}
+use Rattle.paper.specs.Registers.{bank_loaded}
 use Rattle.paper.specs.Records.{fresh}
-use Rattle.paper.specs.Phases.{running, isIdle}
-use Rattle.paper.specs.Operations.{unitFree, targetFree}
-use Rattle.paper.specs.History.{Call, ticks, recordAfterCalls, callTouches, history}
-use Rattle.paper.specs.Board.{Board, boardOf, answerTo, after_call}
-use Rattle.paper.proofs.Kept.{powered-fresh}
-use Rattle.paper.proofs.RunToEnd.{call-rests}
+use Rattle.paper.specs.Phases.{running, is_idle}
+use Rattle.paper.specs.Operations.{unit_free, target_free}
+use Rattle.paper.specs.History.{Call, ticks, record_after_calls, call_touches, history}
+use Rattle.paper.specs.Board.{Board, board_of, answer_to, after_call}
+use Rattle.paper.proofs.Kept.{powered_fresh}
+use Rattle.paper.proofs.RunToEnd.{call_rests}
 use Rattle.history.proofs.Told.{Told}
-use Rattle.history.proofs.Joined.{Parted, run-folded, run-parted}
+use Rattle.history.proofs.Joined.{Parted, run_folded, run_parted}
 use Rattle.reset.specs.Closing.{arm, reset}
-use Rattle.suspended.specs.UnderWay.{doneIn, neverIdle, runsToEnd}
-use Rattle.suspended.proofs.UnderWay.{under-in-order}
-use Rattle.laws.specs.Writes.{erase, Write, steps, at_start, writeOf, begunBy, Begun, Makes}
+use Rattle.suspended.specs.UnderWay.{done_in, never_idle, runs_to_end}
+use Rattle.suspended.proofs.UnderWay.{under_in_order}
+use Rattle.laws.specs.Writes.{erase, Write, steps, at_start, write_of, begun_by, Begun, Makes}
 use Rattle.laws.specs.DriverLaws.{plainly}
-use Rattle.laws.proofs.Boards.{rested-own, made_told}
-use Rattle.laws.proofs.Written.{plainly-whole}
-use Rattle.restart.specs.Cuts.{upAgain, poweredAgain, by-reset, by-power, Event, calls, Lives, over, sent, up, historyThrough, nothingElse, aim}
-use Rattle.restart.specs.Restart.{CutAt, Again, Try, resetAfter, powerAfter, allTried, AllCuttable, none, more, EveryCut}
-use Rattle.restart.proofs.Alone.{alone-none, alone-both, nothing-else}
-use Rattle.restart.proofs.AtTheCut.{reset-next, at-the-cut, reset-cuts}
-use Rattle.restart.proofs.DoneOver.{done-over}
-use Rattle.restart.proofs.SomeTicks.{begun, erasing, at-start, sound-start, size-start, few, ticks-alone, never, never-armed}
-use Rattle.restart.proofs.StillFits.{StillFits, begun-same, place_same, next_fits}
+use Rattle.laws.proofs.Boards.{rested_own, made_told}
+use Rattle.laws.proofs.Written.{plainly_whole}
+use Rattle.restart.specs.Cuts.{up_again, powered_again, by_reset, by_power, Event, calls, Lives, over, sent, up, history_through, nothing_else, aim}
+use Rattle.restart.specs.Restart.{CutAt, Again, Try, reset_after, power_after, all_tried, AllCuttable, none, more, EveryCut}
+use Rattle.restart.proofs.Alone.{alone_none, alone_both, nothing_else_lem}
+use Rattle.restart.proofs.AtTheCut.{reset_next, at_the_cut, reset_cuts}
+use Rattle.restart.proofs.DoneOver.{done_over}
+use Rattle.restart.proofs.SomeTicks.{begun, erasing, at_start_lem, sound_start, size_start, few, ticks_alone, never, never_armed}
+use Rattle.restart.proofs.StillFits.{StillFits, begun_same, place_same, next_fits}
 
 -- the first part p, to which every try is sent
 module _ (p : Record) (u : EraseUnit) (wp : Bool) (i : List ℕ) where
   abbrev first : Write
-  first = writeOf wp wp i []
+  first = write_of wp wp i []
 
   -- ticks of the erase on the board b
   module _ (b : Board) (s : StillFits p u i b) (k : ℕ) where
-    ticks-still-alone : nothingElse u p.part.blocks (aim p u first) (callTouches (ticks k) (at_start b.state first) ++ []) ≡ true
-    ticks-still-alone =
-        let ts = callTouches (ticks k) (at_start b.state first) ++ [] in
-        sym (ap (λ (n : ℕ). nothingElse u n (aim b.state u first) ts) s.size ∙ ap (λ (a : ℕ). nothingElse u p.part.blocks a ts) (place_same p u i b s [] wp))
-        ∙ ticks-alone b s.rested u wp i s.fits k
+    ticks_still_alone : nothing_else u p.part.blocks (aim p u first) (call_touches (ticks k) (at_start b.state first) ++ []) ≡ true
+    ticks_still_alone =
+        let ts = call_touches (ticks k) (at_start b.state first) ++ [] in
+        sym (ap (λ (n : ℕ). nothing_else u n (aim b.state u first) ts) s.size ∙ ap (λ (a : ℕ). nothing_else u p.part.blocks a ts) (place_same p u i b s [] wp))
+        ∙ ticks_alone b s.rested u wp i s.fits k
 
-    still-fewer : k < unitPages u p.part.blocks → k < unitPages u b.state.part.blocks
-    still-fewer l = subst⁻¹ (λ (n : ℕ). k < unitPages u n) s.size l
+    still_fewer : k < unit_pages u p.part.blocks → k < unit_pages u b.state.part.blocks
+    still_fewer l = subst⁻¹ (λ (n : ℕ). k < unit_pages u n) s.size l
 
 -- its bank register is 00h
-module _ (p : Record) (u : EraseUnit) (wp : Bool) (i : List ℕ) (zero-bank : p.part.bank ≡ bankLoaded) where
+module _ (p : Record) (u : EraseUnit) (wp : Bool) (i : List ℕ) (zero-bank : p.part.bank ≡ bank_loaded) where
   abbrev aimed : ℕ
-  aimed = aim p u (writeOf wp wp i [])
+  aimed = aim p u (write_of wp wp i [])
 
   -- it was cut by a reset
-  module _ (b : Board) (s : StillFits p u i b) (k : ℕ) (l : k < unitPages u p.part.blocks) (d : Board) (run : Makes b (steps (writeOf wp wp i (ticks k ∷ arm wp ∷ [])) ++ (reset wp ∷ [])) d) where
-    abbrev reset-write : Write
-    reset-write = writeOf wp wp i (ticks k ∷ arm wp ∷ [])
+  module _ (b : Board) (s : StillFits p u i b) (k : ℕ) (l : k < unit_pages u p.part.blocks) (d : Board) (run : Makes b (steps (write_of wp wp i (ticks k ∷ arm wp ∷ [])) ++ (reset wp ∷ [])) d) where
+    abbrev reset_write : Write
+    reset_write = write_of wp wp i (ticks k ∷ arm wp ∷ [])
 
-    parts : Parted b.state b.array b.rows (steps reset-write) (reset wp ∷ []) d.state d.array d.rows
-    parts = run-parted (steps reset-write) (reset wp ∷ []) run
+    parts : Parted b.state b.array b.rows (steps reset_write) (reset wp ∷ []) d.state d.array d.rows
+    parts = run_parted (steps reset_write) (reset wp ∷ []) run
 
     abbrev c : Board
-    c = boardOf parts.between parts.array parts.rows
+    c = board_of parts.between parts.array parts.rows
 
-    abbrev reset-begun : Begun b.state (erase u) reset-write
-    reset-begun = begun b s.rested u wp i s.fits (ticks k ∷ arm wp ∷ [])
+    abbrev reset_begun : Begun b.state (erase u) reset_write
+    reset_begun = begun b s.rested u wp i s.fits (ticks k ∷ arm wp ∷ [])
 
-    reset-never : neverIdle reset-write.wait (at_start b.state reset-write) ≡ true
-    reset-never = never-armed b s.rested u wp i s.fits k (still-fewer p u wp i b s k l)
+    reset_never : never_idle reset_write.wait (at_start b.state reset_write) ≡ true
+    reset_never = never_armed b s.rested u wp i s.fits k (still_fewer p u wp i b s k l)
 
-    reset-answers : (answerTo c wp (0x99 ∷ []) 1).number ≡ 0
-    reset-answers = reset-cuts b c u reset-write (ticks k ∷ []) [] wp wp s.rested reset-begun refl reset-never refl parts.before
+    reset_answers : (answer_to c wp (0x99 ∷ []) 1).number ≡ 0
+    reset_answers = reset_cuts b c u reset_write (ticks k ∷ []) [] wp wp s.rested reset_begun refl reset_never refl parts.before
 
-    d-is : d ≡ after_call (reset wp) c
-    d-is = run-folded parts.after
+    d_is : d ≡ after_call (reset wp) c
+    d_is = run_folded parts.after
 
-    reset-cut : CutAt b u reset-write c (after_call (reset wp) c) (by-reset wp reset-answers)
-    reset-cut = at-the-cut b c (after_call (reset wp) c) u reset-write s.rested reset-begun parts.before reset-never (by-reset wp reset-answers)
+    reset_cut : CutAt b u reset_write c (after_call (reset wp) c) (by_reset wp reset_answers)
+    reset_cut = at_the_cut b c (after_call (reset wp) c) u reset_write s.rested reset_begun parts.before reset_never (by_reset wp reset_answers)
 
-    reset-told : Told (steps reset-write) b.state b.array b.rows c.state c.array c.rows
-    reset-told = made_told (rested-own b s.rested) parts.before
+    reset_told : Told (steps reset_write) b.state b.array b.rows c.state c.array c.rows
+    reset_told = made_told (rested_own b s.rested) parts.before
 
     -- the unit is free under the registers that the part had
-    reset-free : targetFree (begunBy b.state (erase u) i) b.state.part.blocks c.state.part.stored ≡ true
-    unfolding eraseOf
-    reset-free =
-        let base = unitBase u b.state.part.blocks (aim b.state u reset-write) in
-        ap (λ (n : ℕ). unitFree u base n c.state.part.stored) (sym reset-told.size)
-        ∙ (under-in-order c.state (Erase u base (doneIn c.state.phase)) reset-cut.erasing reset-told.next-sound).open-target
+    reset_free : target_free (begun_by b.state (erase u) i) b.state.part.blocks c.state.part.stored ≡ true
+    unfolding erase_of
+    reset_free =
+        let base = unit_base u b.state.part.blocks (aim b.state u reset_write) in
+        ap (λ (n : ℕ). unit_free u base n c.state.part.stored) (sym reset_told.size)
+        ∙ (under_in_order c.state (Erase u base (done_in c.state.phase)) reset_cut.erasing reset_told.next_sound).open_target
 
-    reset-fresh : (after_call (reset wp) c).state ≡ fresh b.state.part.blocks c.state.identity c.state.part.stored
-    reset-fresh =
-        reset-next c wp reset-answers ∙ ap (λ (n : ℕ). fresh n c.state.identity c.state.part.stored) reset-told.size
+    reset_fresh : (after_call (reset wp) c).state ≡ fresh b.state.part.blocks c.state.identity c.state.part.stored
+    reset_fresh =
+        reset_next c wp reset_answers ∙ ap (λ (n : ℕ). fresh n c.state.identity c.state.part.stored) reset_told.size
 
-    reset-fits : StillFits p u i d
-    reset-fits =
-        subst⁻¹ (StillFits p u i) d-is (next_fits p u i b (after_call (reset wp) c) c.state.identity c.state.part.stored zero-bank s reset-fresh reset-cut.rested reset-free)
+    reset_fits : StillFits p u i d
+    reset_fits =
+        subst⁻¹ (StillFits p u i) d_is (next_fits p u i b (after_call (reset wp) c) c.state.identity c.state.part.stored zero-bank s reset_fresh reset_cut.rested reset_free)
 
-    reset-alone : nothingElse u p.part.blocks aimed (history (steps reset-write ++ (reset wp ∷ [])) b.state) ≡ true
-    reset-alone = ticks-still-alone p u wp i b s k
+    reset_alone : nothing_else u p.part.blocks aimed (history (steps reset_write ++ (reset wp ∷ [])) b.state) ≡ true
+    reset_alone = ticks_still_alone p u wp i b s k
 
   -- or by a loss of power
-  module _ (b : Board) (s : StillFits p u i b) (k : ℕ) (g : Stored) (l : k < unitPages u p.part.blocks) (free : targetFree (begunBy p (erase u) i) p.part.blocks g ≡ true)
-      (c : Board) (run : Makes b (steps (writeOf wp wp i (ticks k ∷ []))) c) (z : (upAgain g c.state).number ≡ 0) where
-    abbrev power-write : Write
-    power-write = writeOf wp wp i (ticks k ∷ [])
+  module _ (b : Board) (s : StillFits p u i b) (k : ℕ) (g : Stored) (l : k < unit_pages u p.part.blocks) (free : target_free (begun_by p (erase u) i) p.part.blocks g ≡ true)
+      (c : Board) (run : Makes b (steps (write_of wp wp i (ticks k ∷ []))) c) (z : (up_again g c.state).number ≡ 0) where
+    abbrev power_write : Write
+    power_write = write_of wp wp i (ticks k ∷ [])
 
-    power-cut : CutAt b u power-write c (poweredAgain g c) (by-power g z)
-    power-cut =
-        at-the-cut b c (poweredAgain g c) u power-write s.rested (begun b s.rested u wp i s.fits (ticks k ∷ [])) run (never b s.rested u wp i s.fits k (still-fewer p u wp i b s k l)) (by-power g z)
+    power_cut : CutAt b u power_write c (powered_again g c) (by_power g z)
+    power_cut =
+        at_the_cut b c (powered_again g c) u power_write s.rested (begun b s.rested u wp i s.fits (ticks k ∷ [])) run (never b s.rested u wp i s.fits k (still_fewer p u wp i b s k l)) (by_power g z)
 
-    power-fresh : (poweredAgain g c).state ≡ fresh b.state.part.blocks b.state.identity g
-    power-fresh = power-cut.fresh ∙ powered-fresh b.state.part.blocks b.state.identity g power-cut.unrefused
+    power_fresh : (powered_again g c).state ≡ fresh b.state.part.blocks b.state.identity g
+    power_fresh = power_cut.fresh ∙ powered_fresh b.state.part.blocks b.state.identity g power_cut.unrefused
 
-    power-fits : StillFits p u i (poweredAgain g c)
-    power-fits =
-        next_fits p u i b (poweredAgain g c) b.state.identity g zero-bank s power-fresh power-cut.rested
-        (ap (λ (o : Operation). targetFree o b.state.part.blocks g) (begun-same p u i b s) ∙ ap (λ (n : ℕ). targetFree (begunBy p (erase u) i) n g) s.size ∙ free)
+    power_fits : StillFits p u i (powered_again g c)
+    power_fits =
+        next_fits p u i b (powered_again g c) b.state.identity g zero-bank s power_fresh power_cut.rested
+        (ap (λ (o : Operation). target_free o b.state.part.blocks g) (begun_same p u i b s) ∙ ap (λ (n : ℕ). target_free (begun_by p (erase u) i) n g) s.size ∙ free)
 
-    power-alone : nothingElse u p.part.blocks aimed (history (steps power-write) b.state) ≡ true
-    power-alone = ticks-still-alone p u wp i b s k
+    power_alone : nothing_else u p.part.blocks aimed (history (steps power_write) b.state) ≡ true
+    power_alone = ticks_still_alone p u wp i b s k
 
   -- all tries, and what comes after them
   record TriedAll (b : Board) (ts : List Try) (es : List Event) (e : Board) : Type 0 where
     at : Board
-    lives : Lives b (allTried wp i ts) at
-    lives-on : Lives at es e
+    lives : Lives b (all_tried wp i ts) at
+    lives_on : Lives at es e
     still : StillFits p u i at
-    alone : nothingElse u p.part.blocks aimed (historyThrough (allTried wp i ts) b.state) ≡ true
+    alone : nothing_else u p.part.blocks aimed (history_through (all_tried wp i ts) b.state) ≡ true
 
-  tried-all : (b : Board) (ts : List Try) (es : List Event) (e : Board) → StillFits p u i b → AllCuttable p u i ts → Lives b (allTried wp i ts ++ es) e → TriedAll b ts es e
-  tried-all b [] es e s none lives = record { at = b; lives = over; lives-on = lives; still = s; alone = alone-none u p.part.blocks aimed }
-  tried-all b (resetAfter k ∷ ts) es e s (more l rest) (sent {c = d} run lives) =
-      let v = writeOf wp wp i (ticks k ∷ arm wp ∷ []) in
+  tried_all : (b : Board) (ts : List Try) (es : List Event) (e : Board) → StillFits p u i b → AllCuttable p u i ts → Lives b (all_tried wp i ts ++ es) e → TriedAll b ts es e
+  tried_all b [] es e s none lives = record { at = b; lives = over; lives_on = lives; still = s; alone = alone_none u p.part.blocks aimed }
+  tried_all b (reset_after k ∷ ts) es e s (more l rest) (sent {c = d} run lives) =
+      let v = write_of wp wp i (ticks k ∷ arm wp ∷ []) in
       let cs = steps v ++ (reset wp ∷ []) in
-      let on = tried-all d ts es e (reset-fits b s k l d run) rest lives in
-      let next = (made_told (rested-own b s.rested) run).next in
+      let on = tried_all d ts es e (reset_fits b s k l d run) rest lives in
+      let next = (made_told (rested_own b s.rested) run).next in
       record {
         at = on.at;
         lives = sent run on.lives;
-        lives-on = on.lives-on;
+        lives_on = on.lives_on;
         still = on.still;
-        alone = alone-both u p.part.blocks aimed (history cs b.state) (historyThrough (allTried wp i ts) (recordAfterCalls cs b.state)) (reset-alone b s k l d run)
-            (sym (ap (λ (q : Record). nothingElse u p.part.blocks aimed (historyThrough (allTried wp i ts) q)) next) ∙ on.alone);
+        alone = alone_both u p.part.blocks aimed (history cs b.state) (history_through (all_tried wp i ts) (record_after_calls cs b.state)) (reset_alone b s k l d run)
+            (sym (ap (λ (q : Record). nothing_else u p.part.blocks aimed (history_through (all_tried wp i ts) q)) next) ∙ on.alone);
       }
-  tried-all b (powerAfter k g ∷ ts) es e s (more (l, free) rest) (sent {c = c} run (up z lives)) =
-      let x = writeOf wp wp i (ticks k ∷ []) in
-      let on = tried-all (poweredAgain g c) ts es e (power-fits b s k g l free c run z) rest lives in
-      let next = (made_told (rested-own b s.rested) run).next in
+  tried_all b (power_after k g ∷ ts) es e s (more (l, free) rest) (sent {c = c} run (up z lives)) =
+      let x = write_of wp wp i (ticks k ∷ []) in
+      let on = tried_all (powered_again g c) ts es e (power_fits b s k g l free c run z) rest lives in
+      let next = (made_told (rested_own b s.rested) run).next in
       record {
         at = on.at;
         lives = sent run (up z on.lives);
-        lives-on = on.lives-on;
+        lives_on = on.lives_on;
         still = on.still;
-        alone = alone-both u p.part.blocks aimed (history (steps x) b.state) (historyThrough (allTried wp i ts) (upAgain g (recordAfterCalls (steps x) b.state)).next) (power-alone b s k g l free c run z)
-            (sym (ap (λ (q : Record). nothingElse u p.part.blocks aimed (historyThrough (allTried wp i ts) (upAgain g q).next)) next) ∙ on.alone);
+        alone = alone_both u p.part.blocks aimed (history (steps x) b.state) (history_through (all_tried wp i ts) (up_again g (record_after_calls (steps x) b.state)).next) (power_alone b s k g l free c run z)
+            (sym (ap (λ (q : Record). nothing_else u p.part.blocks aimed (history_through (all_tried wp i ts) (up_again g q).next)) next) ∙ on.alone);
       }
 
 -- the last erase, which gets all of its ticks
 module _ (p : Record) (u : EraseUnit) (wp : Bool) (i : List ℕ) (c : Board) (s : StillFits p u i c) where
   abbrev all : ℕ
-  all = unitPages u p.part.blocks
+  all = unit_pages u p.part.blocks
 
   abbrev last : Write
-  last = writeOf wp wp i (ticks all ∷ [])
+  last = write_of wp wp i (ticks all ∷ [])
 
-  last-ends : runsToEnd (ticks all ∷ []) (at_start c.state last) ≡ true
+  last_ends : runs_to_end (ticks all ∷ []) (at_start c.state last) ≡ true
   unfolding ◌or◌
-  last-ends =
+  last_ends =
       let start = at_start c.state last in
-      let phase = at-start c s.rested u wp i s.fits in
-      let pages : unitPages u start.part.blocks ≡ all = size-start c s.rested u wp i s.fits ∙ ap (unitPages u) s.size in
+      let phase = at_start_lem c s.rested u wp i s.fits in
+      let pages : unit_pages u start.part.blocks ≡ all = size_start c s.rested u wp i s.fits ∙ ap (unit_pages u) s.size in
       let most = few c s.rested u wp i s.fits in
-      let rests = call-rests start (erasing c s.rested u wp i s.fits 0) (ap running phase) (sound-start c s.rested u wp i s.fits) all (omega (arith, pages)) (omega (arith, most, ap (unitPages u) s.size)) (Busy (erasing c s.rested u wp i s.fits 0)) phase in
-      rw (ap isIdle rests.phase-is) refl
+      let rests = call_rests start (erasing c s.rested u wp i s.fits 0) (ap running phase) (sound_start c s.rested u wp i s.fits) all (omega (arith, pages)) (omega (arith, most, ap (unit_pages u) s.size)) (Busy (erasing c s.rested u wp i s.fits 0)) phase in
+      rw (ap is_idle rests.phase_is) refl
 
-  again : Again c.state u (aim p u (writeOf wp wp i [])) last
+  again : Again c.state u (aim p u (write_of wp wp i [])) last
   again =
       record {
         begun = begun c s.rested u wp i s.fits (ticks all ∷ []);
-        same-unit = ap (unitBase u c.state.part.blocks) (place_same p u i c s (ticks all ∷ []) wp);
-        ends = last-ends;
-        nothing-else = ap (λ (n : ℕ). nothingElse u n (aim p u last) (history (steps last) c.state)) s.size ∙ ticks-still-alone p u wp i c s all;
+        same_unit = ap (unit_base u c.state.part.blocks) (place_same p u i c s (ticks all ∷ []) wp);
+        ends = last_ends;
+        nothing_else_lem = ap (λ (n : ℕ). nothing_else u n (aim p u last) (history (steps last) c.state)) s.size ∙ ticks_still_alone p u wp i c s all;
       }
 
 -- one event of calls is a run of them
-one-run : {c e : Board} {cs : List Call} → Lives c (calls cs ∷ []) e → Makes c cs e
-one-run (sent run over) = run
+one_run : {c e : Board} {cs : List Call} → Lives c (calls cs ∷ []) e → Makes c cs e
+one_run (sent run over) = run
 
-pub every-cut : EveryCut
-unfolding eraseOf
-every-cut b e f u wp i ts r zero-bank fits cuttable lives undisturbed =
+pub every_cut : EveryCut
+unfolding erase_of
+every_cut b e f u wp i ts r zero-bank fits cuttable lives undisturbed =
     let p = b.state in
     let first : StillFits p u i b = record { rested = r; size = refl; bank = refl; fits = fits } in
     let w = plainly p (erase u) wp wp i in
-    let all = tried-all p u wp i zero-bank b ts (calls (steps w) ∷ []) e first cuttable lives in
-    done-over b all.at e f (allTried wp i ts) u (aim p u w) w w r all.lives all.alone all.still.rested (again p u wp i all.at all.still) (one-run all.lives-on)
-    (record { whole = plainly-whole p (erase u) wp wp i r.is-sound r.idle r.awake fits; same-unit = refl })
+    let all = tried_all p u wp i zero-bank b ts (calls (steps w) ∷ []) e first cuttable lives in
+    done_over b all.at e f (all_tried wp i ts) u (aim p u w) w w r all.lives all.alone all.still.rested (again p u wp i all.at all.still) (one_run all.lives_on)
+    (record { whole = plainly_whole p (erase u) wp wp i r.is_sound r.idle r.awake fits; same_unit = refl })
     undisturbed

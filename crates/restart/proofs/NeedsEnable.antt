@@ -8,24 +8,24 @@ use Rattle.types.specs.declared.Phase.TheVariants.{Idle}
 use Rattle.types.specs.declared.Effect.{Effect}
 use Rattle.types.specs.declared.Decoded.TheVariants.{Known}
 use Rattle.types.specs.declared.Answer.{Answer}
-use Rattle.paper.specs.Table.{columns, addressingOn}
-use Rattle.paper.specs.Commands.{begun, errorsOf}
-use Rattle.paper.specs.Numbers.{commandNumber, ignoredNumber}
-use Rattle.paper.proofs.Table.{write-state, write-latch}
-use Rattle.paper.proofs.AtRest.{not-enabled-number}
+use Rattle.paper.specs.Table.{columns, addressing_on}
+use Rattle.paper.specs.Commands.{begun, errors_of}
+use Rattle.paper.specs.Numbers.{command_number, ignored_number}
+use Rattle.paper.proofs.Table.{write_state, write_latch}
+use Rattle.paper.proofs.AtRest.{not_enabled_number}
 use Rattle.paper.proofs.Answers.{ignores}
-use Rattle.laws.proofs.Commanded.{kind-errors}
+use Rattle.laws.proofs.Commanded.{kind_errors}
 use Rattle.restart.specs.Restart.{NeedsEnable}
 
-pub needs-enable : NeedsEnable
-needs-enable b kind wp i r off fits =
+pub needs_enable : NeedsEnable
+needs_enable b kind wp i r off fits =
     let p = b.state in
     let n = p.part.blocks in
     let command = fits.code.command in
     let k = columns command in
     let known = fits.code.known in
-    let errors : eqb (errorsOf k.effect) 0 ≡ false = ap (λ (e : Effect). eqb (errorsOf e) 0) fits.code.does ∙ kind-errors kind in
-    let latch = write-latch n p.part.bank (get_or i 0 0) command known errors in
-    let state = write-state n p.part.bank (get_or i 0 0) command p.part Idle known errors in
-    let number : ignoredNumber (Known command) p.part p.phase i wp ≡ 26 = ap (λ (f : Phase). commandNumber k (addressingOn k p.part) (begun k p.part i) p.part f i wp) r.idle ∙ not-enabled-number k (addressingOn k p.part) (begun k p.part i) p.part i wp r.awake off latch fits.right-length state in
-    rw (r.own-array, r.own-rows) (ap (λ (a : Answer). a.number) (ignores p r.is-sound wp command i fits.some fits.most known 25 number))
+    let errors : eqb (errors_of k.effect) 0 ≡ false = ap (λ (e : Effect). eqb (errors_of e) 0) fits.code.does ∙ kind_errors kind in
+    let latch = write_latch n p.part.bank (get_or i 0 0) command known errors in
+    let state = write_state n p.part.bank (get_or i 0 0) command p.part Idle known errors in
+    let number : ignored_number (Known command) p.part p.phase i wp ≡ 26 = ap (λ (f : Phase). command_number k (addressing_on k p.part) (begun k p.part i) p.part f i wp) r.idle ∙ not_enabled_number k (addressing_on k p.part) (begun k p.part i) p.part i wp r.awake off latch fits.right_length state in
+    rw (r.own_array, r.own_rows) (ap (λ (a : Answer). a.number) (ignores p r.is_sound wp command i fits.some fits.most known 25 number))

@@ -1,12 +1,12 @@
 -- The laws of an erase that is cut and begun again, all of them.
 use Rattle.restart.specs.Restart.{Restart}
-use Rattle.restart.proofs.AtTheCut.{at-the-cut, reset-cuts}
-use Rattle.restart.proofs.Alone.{nothing-else, nothing-else-through}
-use Rattle.restart.proofs.DoneOver.{done-over, update-restarts}
-use Rattle.restart.proofs.NeedsEnable.{needs-enable}
-use Rattle.restart.proofs.SomeTicks.{every-tick}
-use Rattle.restart.proofs.EveryCut.{every-cut}
+use Rattle.restart.proofs.AtTheCut.{at_the_cut, reset_cuts}
+use Rattle.restart.proofs.Alone.{nothing_else_lem, nothing_else_through}
+use Rattle.restart.proofs.DoneOver.{done_over, update_restarts}
+use Rattle.restart.proofs.NeedsEnable.{needs_enable}
+use Rattle.restart.proofs.SomeTicks.{every_tick}
+use Rattle.restart.proofs.EveryCut.{every_cut}
 
 pub restart : Restart
 restart =
-    record { at-the-cut = at-the-cut; reset-cuts = reset-cuts; needs-enable = needs-enable; every-tick = every-tick; nothing-else = nothing-else; nothing-else-through = nothing-else-through; done-over = done-over; update-restarts = update-restarts; every-cut = every-cut }
+    record { at_the_cut = at_the_cut; reset_cuts = reset_cuts; needs_enable = needs_enable; every_tick = every_tick; nothing_else_lem = nothing_else_lem; nothing_else_through = nothing_else_through; done_over = done_over; update_restarts = update_restarts; every_cut = every_cut }

@@ -12,25 +12,25 @@ use Rattle.types.specs.declared.Phase.TheVariants.{Busy}
 use Rattle.types.specs.declared.Record.{Record}
 use Rattle.types.specs.declared.Answer.{Answer}
 use Rattle.words.proofs.Tests.{and_in}
-use Rattle.paper.specs.Sizes.{tickLimit}
-use Rattle.paper.specs.Erase.{unitPages, unitBase}
-use Rattle.paper.specs.Phases.{running, isIdle}
+use Rattle.paper.specs.Sizes.{tick_limit}
+use Rattle.paper.specs.Erase.{unit_pages, unit_base}
+use Rattle.paper.specs.Phases.{running, is_idle}
 use Rattle.paper.specs.Soundness.{sound}
-use Rattle.paper.specs.History.{Call, ticks, recordAfterCall, callTouches}
+use Rattle.paper.specs.History.{Call, ticks, record_after_call, call_touches}
 use Rattle.paper.specs.Board.{Board}
-use Rattle.paper.proofs.Soundness.{sound-parts}
-use Rattle.paper.proofs.CallKept.{call-sound}
-use Rattle.paper.proofs.RunToEnd.{pages-few}
+use Rattle.paper.proofs.Soundness.{sound_parts}
+use Rattle.paper.proofs.CallKept.{call_sound}
+use Rattle.paper.proofs.RunToEnd.{pages_few}
 use Rattle.reset.specs.Closing.{arm}
-use Rattle.reset.proofs.Steps.{not-idle-awake, armed-now}
-use Rattle.suspended.specs.UnderWay.{doneIn, neverIdle}
-use Rattle.suspended.proofs.Proceeds.{ticks-go-on}
-use Rattle.laws.specs.Writes.{erase, Write, at_start, writeOf, Fitting, Begun, Rested}
-use Rattle.laws.proofs.Begun.{start-sound, start-size}
-use Rattle.restart.specs.Cuts.{NoOther, nothingElse, aim}
+use Rattle.reset.proofs.Steps.{not_idle_awake, armed_now}
+use Rattle.suspended.specs.UnderWay.{done_in, never_idle}
+use Rattle.suspended.proofs.Proceeds.{ticks_go_on}
+use Rattle.laws.specs.Writes.{erase, Write, at_start, write_of, Fitting, Begun, Rested}
+use Rattle.laws.proofs.Begun.{start_sound, start_size}
+use Rattle.restart.specs.Cuts.{NoOther, nothing_else, aim}
 use Rattle.restart.specs.Restart.{EveryTick}
-use Rattle.restart.proofs.Alone.{nothing-else}
-use Rattle.restart.proofs.Started.{start-phase}
+use Rattle.restart.proofs.Alone.{nothing_else_lem}
+use Rattle.restart.proofs.Started.{start_phase}
 
 -- an erase that is begun with nothing between 06h and it
 module _ (b : Board) (r : Rested b) (u : EraseUnit) (wp : Bool) (i : List ℕ) (fits : Fitting b.state (erase u) i) where
@@ -38,10 +38,10 @@ module _ (b : Board) (r : Rested b) (u : EraseUnit) (wp : Bool) (i : List ℕ) (
   n = b.state.part.blocks
 
   abbrev pub write : List Call → Write
-  write cs = writeOf wp wp i cs
+  write cs = write_of wp wp i cs
 
   pub begun : (cs : List Call) → Begun b.state (erase u) (write cs)
-  begun cs = record { fitting = fits; checks-wait = refl }
+  begun cs = record { fitting = fits; checks_wait = refl }
 
   abbrev pub place : ℕ
   place = aim b.state u (write [])
@@ -50,53 +50,53 @@ module _ (b : Board) (r : Rested b) (u : EraseUnit) (wp : Bool) (i : List ℕ) (
   start = at_start b.state (write [])
 
   abbrev pub erasing : ℕ → Operation
-  erasing k = Erase u (unitBase u n place) k
+  erasing k = Erase u (unit_base u n place) k
 
-  pub at-start : start.phase ≡ Busy (erasing 0)
-  at-start = start-phase b r u (write []) (begun [])
+  pub at_start_lem : start.phase ≡ Busy (erasing 0)
+  at_start_lem = start_phase b r u (write []) (begun [])
 
-  pub sound-start : sound start ≡ true
-  sound-start = start-sound b r (erase u) (write []) (begun [])
+  pub sound_start : sound start ≡ true
+  sound_start = start_sound b r (erase u) (write []) (begun [])
 
-  pub size-start : unitPages u start.part.blocks ≡ unitPages u n
-  size-start = ap (unitPages u) (start-size b r (erase u) (write []) (begun []))
+  pub size_start : unit_pages u start.part.blocks ≡ unit_pages u n
+  size_start = ap (unit_pages u) (start_size b r (erase u) (write []) (begun []))
 
   -- so many ticks may be asked
-  pub few : unitPages u n ≤ tickLimit start.part.blocks
+  pub few : unit_pages u n ≤ tick_limit start.part.blocks
   few =
-      subst (λ (k : ℕ). k ≤ tickLimit start.part.blocks) size-start (pages-few u start.part.blocks (sound-parts start sound-start).size)
+      subst (λ (k : ℕ). k ≤ tick_limit start.part.blocks) size_start (pages_few u start.part.blocks (sound_parts start sound_start).size)
 
   -- ticks write nothing else
-  pub ticks-alone : (k : ℕ) → nothingElse u n place (callTouches (ticks k) start ++ []) ≡ true
-  ticks-alone k =
-      subst (λ (m : ℕ). nothingElse u m place (callTouches (ticks k) start ++ []) ≡ true) (start-size b r (erase u) (write []) (begun []))
-      (nothing-else start u place (ticks k ∷ []) sound-start
-      (subst⁻¹ (λ (m : ℕ). NoOther u (unitBase u m place) (running start.phase)) (start-size b r (erase u) (write []) (begun [])) (subst⁻¹ (λ (f : Phase). NoOther u (unitBase u n place) (running f)) at-start refl), tt))
+  pub ticks_alone : (k : ℕ) → nothing_else u n place (call_touches (ticks k) start ++ []) ≡ true
+  ticks_alone k =
+      subst (λ (m : ℕ). nothing_else u m place (call_touches (ticks k) start ++ []) ≡ true) (start_size b r (erase u) (write []) (begun []))
+      (nothing_else_lem start u place (ticks k ∷ []) sound_start
+      (subst⁻¹ (λ (m : ℕ). NoOther u (unit_base u m place) (running start.phase)) (start_size b r (erase u) (write []) (begun [])) (subst⁻¹ (λ (f : Phase). NoOther u (unit_base u n place) (running f)) at_start_lem refl), tt))
 
   -- before the last tick
-  module _ (k : ℕ) (l : k < unitPages u n) where
+  module _ (k : ℕ) (l : k < unit_pages u n) where
     abbrev ran : Record
-    ran = recordAfterCall (ticks k) start
+    ran = record_after_call (ticks k) start
 
-    ran-sound : sound ran ≡ true
-    ran-sound = call-sound (ticks k) start sound-start
+    ran_sound : sound ran ≡ true
+    ran_sound = call_sound (ticks k) start sound_start
 
-    ran-phase : ran.phase ≡ Busy (erasing k)
-    ran-phase =
+    ran_phase : ran.phase ≡ Busy (erasing k)
+    ran_phase =
         let z : 0 + k ≡ k = omega arith in
-        ticks-go-on u (unitBase u n place) start.part.blocks start sound-start refl k 0 at-start (omega (arith, size-start)) ∙ ap (λ (j : ℕ). Busy (erasing j)) z
+        ticks_go_on u (unit_base u n place) start.part.blocks start sound_start refl k 0 at_start_lem (omega (arith, size_start)) ∙ ap (λ (j : ℕ). Busy (erasing j)) z
 
-    ran-awake : ran.part.asleep ≡ false
-    ran-awake = not-idle-awake ran.phase ran.part.asleep (ap isIdle ran-phase) (sound-parts ran ran-sound).sleep
+    ran_awake : ran.part.asleep ≡ false
+    ran_awake = not_idle_awake ran.phase ran.part.asleep (ap is_idle ran_phase) (sound_parts ran ran_sound).sleep
 
     -- it is never idle
-    pub never : neverIdle (ticks k ∷ []) start ≡ true
-    never = and_in (ap (λ (f : Phase). not (isIdle f)) ran-phase) refl
+    pub never : never_idle (ticks k ∷ []) start ≡ true
+    never = and_in (ap (λ (f : Phase). not (is_idle f)) ran_phase) refl
 
-    pub never-armed : neverIdle (ticks k ∷ arm wp ∷ []) start ≡ true
-    never-armed =
-        and_in (ap (λ (f : Phase). not (isIdle f)) ran-phase) (and_in (ap (λ (t : Answer). not (isIdle t.next.phase)) (armed-now ran ran-sound wp ran-awake) ∙ ap (λ (f : Phase). not (isIdle f)) ran-phase) refl)
+    pub never_armed : never_idle (ticks k ∷ arm wp ∷ []) start ≡ true
+    never_armed =
+        and_in (ap (λ (f : Phase). not (is_idle f)) ran_phase) (and_in (ap (λ (t : Answer). not (is_idle t.next.phase)) (armed_now ran ran_sound wp ran_awake) ∙ ap (λ (f : Phase). not (is_idle f)) ran_phase) refl)
 
-pub every-tick : EveryTick
-every-tick b u wp i k r fits l =
-    (never b r u wp i fits k l, ap doneIn (ran-phase b r u wp i fits k l))
+pub every_tick : EveryTick
+every_tick b u wp i k r fits l =
+    (never b r u wp i fits k l, ap done_in (ran_phase b r u wp i fits k l))

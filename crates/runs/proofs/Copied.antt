@@ -18,8 +18,8 @@ run n e from here done r h p q =
     record { some = omega arith; inside = omega arith; room = omega arith; whole = λ w. omega arith }
 
 -- bytes that were copied over no more others are those bytes
-pub copied-whole : (s d : List ℕ) → length d ≤ length s → take (length s) s ++ drop (length s) d ≡ s
-copied-whole s d h = rw (take-length, drop_of_length-le d h) (append-nil s)
+pub copied_whole : (s d : List ℕ) → length d ≤ length s → take (length s) s ++ drop (length s) d ≡ s
+copied_whole s d h = rw (take-length, drop_of_length-le d h) (append-nil s)
 
 -- bytes that were copied over others, taken from there again
 pub taken_back : (s d : List ℕ) (k : ℕ) → k ≡ length s → take k (take (length s) s ++ drop (length s) d) ≡ s
@@ -31,18 +31,18 @@ module _ (s o : List ℕ) (l : length o ≡ length s) where
   over i = take i s ++ drop i o
 
   -- k more of them behind
-  pub more-over : (x y : List ℕ) (i k m n : ℕ) → m ≡ k → n ≡ k → i + k ≤ length s → x ≡ over i → y ≡ take m (drop i s) → take i x ++ (y ++ drop n (drop i x)) ≡ over (i + k)
-  more-over x y i k m n em en h ex ey =
+  pub more_over : (x y : List ℕ) (i k m n : ℕ) → m ≡ k → n ≡ k → i + k ≤ length s → x ≡ over i → y ≡ take m (drop i s) → take i x ++ (y ++ drop n (drop i x)) ≡ over (i + k)
+  more_over x y i k m n em en h ex ey =
       let li : length (take i s) ≡ i = simp length-take (omega arith) in
       let ta : take i x ≡ take i s = ap (take i) ex ∙ take_at (take i s) (drop i o) i li in
       let da : drop i x ≡ drop i o = ap (drop i) ex ∙ drop_at (take i s) (drop i o) i li in
       rw (ey, em, en, ta, da, drop-drop, take-add) (sym (append_assoc (take i s) (take k (drop i s)) (drop (i + k) o)))
 
   -- all of them
-  pub all-over : (i : ℕ) → i ≡ length s → over i ≡ s
-  all-over i e =
+  pub all_over : (i : ℕ) → i ≡ length s → over i ≡ s
+  all_over i e =
       let n : length o ≤ length s = omega arith in
       rw (e, take-length, drop_of_length-le o n) (append-nil s)
 
-  pub over-length : (i : ℕ) → i ≤ length s → length (over i) ≡ length s
-  over-length i h = length-append (take i s) (drop i o) ∙ simp (length-take, length-drop) (omega arith)
+  pub over_length : (i : ℕ) → i ≤ length s → length (over i) ≡ length s
+  over_length i h = length-append (take i s) (drop i o) ∙ simp (length-take, length-drop) (omega arith)

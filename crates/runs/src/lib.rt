@@ -1,7 +1,7 @@
 // Bytes in runs: set to one value all over, written from a source that is read round and round, scanned, or compared.
 ghost use Rattle.std.specs.Prelude.{◌≡◌, ◌≤◌, min, ltb, length, drop, replicate};
 ghost use Rattle.runs.specs.Chunks.{chunk};
-ghost use Rattle.words.specs.Lists.{driven, allZero, first_of, differAt};
+ghost use Rattle.words.specs.Lists.{driven, all_zero, first_of, differ_at};
 
 // All of the bytes set to one value.
 pub fn fill(bytes: &mut [u8], value: u8)
@@ -77,7 +77,7 @@ pub fn drive(source: &[u8], at: usize, output: &mut [u8], from: usize)
 
 // Whether all bytes from a place on are 0. It looks at each of them, with no early exit.
 pub fn zero_from(bytes: &[u8], from: usize) -> bool
-    ensures { result ≡ allZero (drop from bytes.now) }
+    ensures { result ≡ all_zero (drop from bytes.now) }
 {
     let mut any: u8 = 0;
     let mut i = from;
@@ -91,7 +91,7 @@ pub fn zero_from(bytes: &[u8], from: usize) -> bool
 // Whether as many bytes differ at some place. It looks at each of them, with no early exit.
 fn differ(a: &[u8], b: &[u8]) -> bool
     requires { length b.now ≡ length a.now }
-    ensures { result ≡ ltb (first_of (length a.now) (differAt a.now b.now)) (length a.now) }
+    ensures { result ≡ ltb (first_of (length a.now) (differ_at a.now b.now)) (length a.now) }
 {
     let mut any: u8 = 0;
     let mut i = 0;
@@ -105,7 +105,7 @@ fn differ(a: &[u8], b: &[u8]) -> bool
 // The first place where as many bytes differ; their number where none does. It looks at one after the other.
 fn first_of_chunk(a: &[u8], b: &[u8]) -> usize
     requires { length b.now ≡ length a.now }
-    ensures { result ≡ first_of (length a.now) (differAt a.now b.now) }
+    ensures { result ≡ first_of (length a.now) (differ_at a.now b.now) }
 {
     let mut i = 0;
     while i < a.len() {
@@ -120,7 +120,7 @@ fn first_of_chunk(a: &[u8], b: &[u8]) -> usize
 // The first place where two runs of bytes differ; the length of the shorter where none does. It looks at a chunk at a time,
 // with no early exit within it, so that the compiler can take many bytes at once.
 pub fn first_difference(a: &[u8], b: &[u8]) -> usize
-    ensures { result ≡ first_of (min (length a.now) (length b.now)) (differAt a.now b.now) }
+    ensures { result ≡ first_of (min (length a.now) (length b.now)) (differ_at a.now b.now) }
 {
     let n = words::lesser(a.len(), b.len());
     let mut i = 0;

@@ -9,59 +9,59 @@ use borrow.Author.Tests.{eq-eqb, ne_eqb, leb-true, leb-false}
 use lib.Dec.{leb}
 use lib.ListN.{length, get_or, set}
 use Rattle.types.specs.declared.Identity.{Identity}
-use Rattle.words.specs.Logic.{whenZero}
-use Rattle.words.specs.Lists.{sum_to, between, putBetween}
-use Rattle.words.proofs.Sums.{sum-within}
+use Rattle.words.specs.Logic.{when_zero}
+use Rattle.words.specs.Lists.{sum_to, between, put_between}
+use Rattle.words.proofs.Sums.{sum_within}
 use Rattle.paper.specs.History.{Call}
-use Rattle.paper.specs.Board.{boardOf}
-use Rattle.paper.specs.Script.{Script, Scripted, stepCalls, Made, made, calls_at, stepped, afterSteps}
-use Rattle.paper.specs.Map.{MapScripted, mapAfterCalls, mapSteps}
-use Rattle.record_bytes.specs.Read.{recordIn}
+use Rattle.paper.specs.Board.{board_of}
+use Rattle.paper.specs.Script.{Script, Scripted, step_calls, Made, made, calls_at, stepped, after_steps}
+use Rattle.paper.specs.Map.{MapScripted, map_after_calls, map_steps}
+use Rattle.record_bytes.specs.Read.{record_in}
 use Rattle.script.specs.declared.State.{State}
 use Rattle.script.specs.Steps.{world, turned, Ready, Fit}
 
 -- a step ends within the buffers
-pub end-within : (s : Script) (o n d k at : ℕ) → Fit s o n d → k < length s.lengths → at ≡ sum_to s.lengths k → at + get_or s.lengths k 0 ≤ length s.input
-end-within s o n d k at f h e = omega (arith, sum-within s.lengths (length s.lengths) k h, f.sum, e)
+pub end_within : (s : Script) (o n d k at : ℕ) → Fit s o n d → k < length s.lengths → at ≡ sum_to s.lengths k → at + get_or s.lengths k 0 ≤ length s.input
+end_within s o n d k at f h e = omega (arith, sum_within s.lengths (length s.lengths) k h, f.sum, e)
 
 module _ (s : Script) (k : ℕ) (w : Scripted) where
   -- n bytes from the place at on, and with what a step made of them
-  abbrev madeFrom : ℕ → ℕ → Made
-  madeFrom at n = made s.wp (between at n s.input) (get_or s.ticks k 0) w.board (between at n w.output)
+  abbrev made_from : ℕ → ℕ → Made
+  made_from at n = made s.wp (between at n s.input) (get_or s.ticks k 0) w.board (between at n w.output)
 
   abbrev put : ℕ → ℕ → Made → ℕ → Scripted
   put at n m j =
-      record { board = m.board; output = putBetween at n w.output m.output; answers = set w.answers k m.answer; done = set w.done k m.done; number = m.number; step = j }
+      record { board = m.board; output = put_between at n w.output m.output; answers = set w.answers k m.answer; done = set w.done k m.done; number = m.number; step = j }
 
-  pub turn_is : (at n : ℕ) (m : Made) (j : ℕ) → at ≡ sum_to s.lengths k → n ≡ get_or s.lengths k 0 → m ≡ madeFrom at n → j ≡ whenZero m.number (k + 1) k → put at n m j ≡ turned s k w
+  pub turn_is : (at n : ℕ) (m : Made) (j : ℕ) → at ≡ sum_to s.lengths k → n ≡ get_or s.lengths k 0 → m ≡ made_from at n → j ≡ when_zero m.number (k + 1) k → put at n m j ≡ turned s k w
   unfolding stepped
   turn_is at n m j ea en em ej =
       ap (put at n m) ej
-      ∙ ap (λ (x : Made). put at n x (whenZero x.number (k + 1) k)) em
-      ∙ ap (λ (b : ℕ). put b n (madeFrom b n) (whenZero (madeFrom b n).number (k + 1) k)) ea
-      ∙ ap (λ (l : ℕ). put (sum_to s.lengths k) l (madeFrom (sum_to s.lengths k) l) (whenZero (madeFrom (sum_to s.lengths k) l).number (k + 1) k)) en
+      ∙ ap (λ (x : Made). put at n x (when_zero x.number (k + 1) k)) em
+      ∙ ap (λ (b : ℕ). put b n (made_from b n) (when_zero (made_from b n).number (k + 1) k)) ea
+      ∙ ap (λ (l : ℕ). put (sum_to s.lengths k) l (made_from (sum_to s.lengths k) l) (when_zero (made_from (sum_to s.lengths k) l).number (k + 1) k)) en
 
   -- the calls are those of the step
-  abbrev callsFrom : ℕ → ℕ → List Call
-  callsFrom at n =
-      stepCalls s.wp (between at n s.input) w.board (length (between at n w.output)) (get_or s.ticks k 0)
+  abbrev calls_from : ℕ → ℕ → List Call
+  calls_from at n =
+      step_calls s.wp (between at n s.input) w.board (length (between at n w.output)) (get_or s.ticks k 0)
 
-  pub calls_are : (at n : ℕ) → at ≡ sum_to s.lengths k → n ≡ get_or s.lengths k 0 → callsFrom at n ≡ calls_at s k w
-  calls_are at n ea en = ap (λ (b : ℕ). callsFrom b n) ea ∙ ap (callsFrom (sum_to s.lengths k)) en
+  pub calls_are : (at n : ℕ) → at ≡ sum_to s.lengths k → n ≡ get_or s.lengths k 0 → calls_from at n ≡ calls_at s k w
+  calls_are at n ea en = ap (λ (b : ℕ). calls_from b n) ea ∙ ap (calls_from (sum_to s.lengths k)) en
 
 module _ (s : Script) (w₀ : MapScripted) where
   -- the first k steps, and one step more
   abbrev after : ℕ → MapScripted
-  after k = record { run = afterSteps s k w₀.run; map = mapSteps s k w₀.run w₀.map }
+  after k = record { run = after_steps s k w₀.run; map = map_steps s k w₀.run w₀.map }
 
   abbrev once : ℕ → MapScripted → MapScripted
-  once k v = record { run = turned s k v.run; map = mapAfterCalls (calls_at s k v.run) v.run.board v.map }
+  once k v = record { run = turned s k v.run; map = map_after_calls (calls_at s k v.run) v.run.board v.map }
 
   abbrev onward : ℕ → MapScripted → MapScripted
-  onward k v = record { run = whenZero v.run.number (once k v).run v.run; map = whenZero v.run.number (once k v).map v.map }
+  onward k v = record { run = when_zero v.run.number (once k v).run v.run; map = when_zero v.run.number (once k v).map v.map }
 
-  pub step-on : (k : ℕ) (w v : MapScripted) → w ≡ after k → w.run.number ≡ 0 → v ≡ once k w → v ≡ after (k + 1)
-  step-on k w v e go ev =
+  pub step_on : (k : ℕ) (w v : MapScripted) → w ≡ after k → w.run.number ≡ 0 → v ≡ once k w → v ≡ after (k + 1)
+  step_on k w v e go ev =
       let on : once k w ≡ onward k w = rw (eq-eqb w.run.number 0 go) refl in
       rw add-one (ev ∙ on ∙ ap (onward k) e)
 
@@ -86,7 +86,7 @@ pub record Along (id : Identity) (s : Script) (k : ℕ) (w₀ : MapScripted) (q 
   pub going : q.number ≡ 0
   pub at : q.at ≡ sum_to s.lengths k
   pub ready : Ready bs (length xs) (length rs)
-  pub identity : id ≡ (recordIn bs).state.identity
+  pub identity : id ≡ (record_in bs).state.identity
   pub array : length xs ≡ length w₀.run.board.array
   pub rows : length rs ≡ length w₀.run.board.rows
   pub output : length o ≡ length w₀.run.output
@@ -95,8 +95,8 @@ pub record Along (id : Identity) (s : Script) (k : ℕ) (w₀ : MapScripted) (q 
   pub map : length m ≡ length w₀.map
 
 module _ (id : Identity) (s : Script) (k : ℕ) (w₀ : MapScripted) (q : State) (bs xs rs o n d m : List ℕ) (l : Along id s k w₀ q bs xs rs o n d m) where
-  pub fit-along : Fit s (length w₀.run.output) (length w₀.run.answers) (length w₀.run.done) → Fit s (length o) (length n) (length d)
-  fit-along f =
+  pub fit_along : Fit s (length w₀.run.output) (length w₀.run.answers) (length w₀.run.done) → Fit s (length o) (length n) (length d)
+  fit_along f =
       record { ticks = f.ticks; answers = l.answers ∙ f.answers; done = l.done ∙ f.done; output = l.output ∙ f.output; sum = f.sum }
 
   -- after the last step
@@ -107,24 +107,24 @@ module _ (id : Identity) (s : Script) (k : ℕ) (w₀ : MapScripted) (q : State)
 
   -- after one more
   module _ (h : k < length s.lengths) (q' : State) (bs' xs' rs' o' n' d' m' : List ℕ) (e : world q' bs' xs' rs' o' n' d' ≡ turned s k (world q bs xs rs o n d))
-      (em : m' ≡ mapAfterCalls (calls_at s k (world q bs xs rs o n d)) (boardOf (recordIn bs).state xs rs) m) where
+      (em : m' ≡ map_after_calls (calls_at s k (world q bs xs rs o n d)) (board_of (record_in bs).state xs rs) m) where
     abbrev next : MapScripted
     next = record { run = world q' bs' xs' rs' o' n' d'; map = m' }
 
-    told-on : next ≡ after s w₀ (k + 1)
-    told-on =
+    told_on : next ≡ after s w₀ (k + 1)
+    told_on =
         let w : MapScripted = record { run = world q bs xs rs o n d; map = m } in
-        step-on s w₀ k w next l.told l.going (ap (λ (v : Scripted). record { run = v; map = m' }) e ∙ ap (λ (y : List ℕ). record { run = turned s k w.run; map = y }) em)
+        step_on s w₀ k w next l.told l.going (ap (λ (v : Scripted). record { run = v; map = m' }) e ∙ ap (λ (y : List ℕ). record { run = turned s k w.run; map = y }) em)
 
     -- which stops the script
-    pub stopped-at : (q'.number ≡ 0 → ⊥) → next ≡ after s w₀ (length s.lengths)
-    stopped-at stop =
-        let off : (after s w₀ (k + 1)).run.number ≡ 0 → ⊥ = λ z. stop (ap (λ (v : MapScripted). v.run.number) told-on ∙ z) in
-        told-on ∙ sym (stays s w₀ (k + 1) (length s.lengths) (omega arith) off)
+    pub stopped_at : (q'.number ≡ 0 → ⊥) → next ≡ after s w₀ (length s.lengths)
+    stopped_at stop =
+        let off : (after s w₀ (k + 1)).run.number ≡ 0 → ⊥ = λ z. stop (ap (λ (v : MapScripted). v.run.number) told_on ∙ z) in
+        told_on ∙ sym (stays s w₀ (k + 1) (length s.lengths) (omega arith) off)
 
     -- or does not
-    pub one_more : q'.number ≡ 0 → q'.at ≡ sum_to s.lengths (k + 1) → Ready bs' (length xs) (length rs) → id ≡ (recordIn bs').state.identity
+    pub one_more : q'.number ≡ 0 → q'.at ≡ sum_to s.lengths (k + 1) → Ready bs' (length xs) (length rs) → id ≡ (record_in bs').state.identity
         → length xs' ≡ length xs → length rs' ≡ length rs → length o' ≡ length o → length n' ≡ length n → length d' ≡ length d → length m' ≡ length m
         → Along id s (k + 1) w₀ q' bs' xs' rs' o' n' d' m'
     one_more go at ready same ex er eo en ed em' =
-        record { told = told-on; within = omega arith; going = go; at = at; ready = rw (ex, er) ready; identity = same; array = ex ∙ l.array; rows = er ∙ l.rows; output = eo ∙ l.output; answers = en ∙ l.answers; done = ed ∙ l.done; map = em' ∙ l.map }
+        record { told = told_on; within = omega arith; going = go; at = at; ready = rw (ex, er) ready; identity = same; array = ex ∙ l.array; rows = er ∙ l.rows; output = eo ∙ l.output; answers = en ∙ l.answers; done = ed ∙ l.done; map = em' ∙ l.map }

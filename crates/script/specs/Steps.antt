@@ -8,30 +8,30 @@ use Rattle.types.specs.declared.Worked.{Worked}
 use Rattle.types.specs.declared.Wear.{Wear}
 use Rattle.types.specs.declared.Tally.{Tally}
 use Rattle.types.specs.declared.Identity.{Identity}
-use Rattle.words.specs.Logic.{whenZero}
+use Rattle.words.specs.Logic.{when_zero}
 use Rattle.words.specs.Lists.{sum_to}
-use Rattle.paper.specs.Sizes.{arrayBytes, rowsBytes}
+use Rattle.paper.specs.Sizes.{array_bytes, rows_bytes}
 use Rattle.paper.specs.Soundness.{sound}
 use Rattle.paper.specs.Reached.{reached}
 use Rattle.paper.specs.Calls.{ticked}
 use Rattle.paper.specs.History.{Call}
-use Rattle.paper.specs.Board.{Board, boardOf}
-use Rattle.paper.specs.Script.{Script, Scripted, Made, madeAt, calls_at, stepped}
-use Rattle.paper.specs.Map.{mapAfterCalls}
-use Rattle.paper.specs.Wear.{noTally, tally_of, worn, wearAfterCalls}
+use Rattle.paper.specs.Board.{Board, board_of}
+use Rattle.paper.specs.Script.{Script, Scripted, Made, made_at, calls_at, stepped}
+use Rattle.paper.specs.Map.{map_after_calls}
+use Rattle.paper.specs.Wear.{no_tally, tally_of, worn, wear_after_calls}
 use Rattle.blank_map.specs.Marked.{marked}
-use Rattle.record_bytes.specs.Layout.{recordBytes}
-use Rattle.record_bytes.specs.Read.{recordIn}
+use Rattle.record_bytes.specs.Layout.{record_bytes}
+use Rattle.record_bytes.specs.Read.{record_in}
 use Rattle.script.specs.declared.Stepped.{Stepped}
 use Rattle.script.specs.declared.State.{State}
 use Rattle.script.specs.declared.Counting.{Counting}
 
 -- bytes that hold a sound record, with an array of a and rows of r bytes, which are its own
 pub record Ready (bs : List ℕ) (a r : ℕ) : Type 0 where
-  pub ok : (recordIn bs).ok ≡ true
-  pub is-sound : sound (recordIn bs).state ≡ true
-  pub array : a ≡ arrayBytes (recordIn bs).state.part.blocks
-  pub rows : r ≡ rowsBytes
+  pub ok : (record_in bs).ok ≡ true
+  pub is_sound : sound (record_in bs).state ≡ true
+  pub array : a ≡ array_bytes (record_in bs).state.part.blocks
+  pub rows : r ≡ rows_bytes
 
 -- what ticks change: nothing, or what runs
 abbrev pub OnlyRuns : Change → Type 0
@@ -45,30 +45,30 @@ OnlyRuns (GoesOn q) = ⊥
 OnlyRuns (Clears q) = ⊥
 
 -- what t ticks of a record answer and reach, for an array of a and rows of r bytes
-abbrev pub workedOf : Record → ℕ → ℕ → ℕ → Worked
-workedOf p a r t = record { number = (ticked p a r t).number; reached = reached p (ticked p a r t) }
+abbrev pub worked_of : Record → ℕ → ℕ → ℕ → Worked
+worked_of p a r t = record { number = (ticked p a r t).number; reached = reached p (ticked p a r t) }
 
 -- what a step gives, with the record in its bytes, the memory and its output
 abbrev pub made_of : Stepped → List ℕ → List ℕ → List ℕ → List ℕ → Made
 made_of q bs xs rs o =
-    record { board = boardOf (recordIn bs).state xs rs; output = o; answer = q.answer; done = q.reached.count; number = q.number }
+    record { board = board_of (record_in bs).state xs rs; output = o; answer = q.answer; done = q.reached.count; number = q.number }
 
 -- what a step reached, which left the array xs: a map that is marked by it is as after the step's calls
 abbrev pub Marks : Reached → List ℕ → List Call → Board → Type 0
-Marks r xs cs b = (m : List ℕ) → marked r xs m ≡ mapAfterCalls cs b m
+Marks r xs cs b = (m : List ℕ) → marked r xs m ≡ map_after_calls cs b m
 
 -- and wear records that are worn by it are as after them
 abbrev pub Wears : Reached → List Call → Board → Type 0
-Wears r cs b = (ws : List Wear) → worn (tally_of r) ws ≡ wearAfterCalls cs b ws
+Wears r cs b = (ws : List Wear) → worn (tally_of r) ws ≡ wear_after_calls cs b ws
 
 -- where a script is, with these, the output and the two lists
 abbrev pub world : State → List ℕ → List ℕ → List ℕ → List ℕ → List ℕ → List ℕ → Scripted
 world q bs xs rs o n d =
-    record { board = boardOf (recordIn bs).state xs rs; output = o; answers = n; done = d; number = q.number; step = q.step }
+    record { board = board_of (record_in bs).state xs rs; output = o; answers = n; done = d; number = q.number; step = q.step }
 
 -- the same after step k
 abbrev pub turned : Script → ℕ → Scripted → Scripted
-turned s k w = stepped s k w (madeAt s k w)
+turned s k w = stepped s k w (made_at s k w)
 
 -- a script whose lists are as long as each other, and whose lengths add up to input and output: of o, n and d bytes or entries
 pub record Fit (s : Script) (o n d : ℕ) : Type 0 where
@@ -84,22 +84,22 @@ counted q bs xs rs o n d = world (record { number = q.number; step = q.step; at 
 
 -- what they carry, with nothing counted
 abbrev pub uncounted : ℕ → ℕ → ℕ → Counting
-uncounted number step at = record { number = number; step = step; at = at; tally = noTally }
+uncounted number step at = record { number = number; step = step; at = at; tally = no_tally }
 
 -- where a script is after turn k: after the stop, where it was
-abbrev pub turnedOn : Script → ℕ → Scripted → Scripted
-turnedOn s k w = whenZero w.number (turned s k w) w
+abbrev pub turned_on : Script → ℕ → Scripted → Scripted
+turned_on s k w = when_zero w.number (turned s k w) w
 
 -- what turn k counts: wear records that are worn by it are as after the step's calls; after the stop, as they were
 abbrev pub Counts : Tally → Script → ℕ → Scripted → Type 0
 Counts t s k w =
-    (ws : List Wear) → worn t ws ≡ whenZero w.number (wearAfterCalls (calls_at s k w) w.board ws) ws
+    (ws : List Wear) → worn t ws ≡ when_zero w.number (wear_after_calls (calls_at s k w) w.board ws) ws
 
 -- what turn k finds: where its step begins, unless the script has stopped, and a sound record of this identity in its bytes, with its own memory
 pub record Going (id : Identity) (s : Script) (k : ℕ) (q : Counting) (bs : List ℕ) (a r : ℕ) : Type 0 where
   pub at : q.number ≡ 0 → q.at ≡ sum_to s.lengths k
   pub ready : Ready bs a r
-  pub identity : id ≡ (recordIn bs).state.identity
+  pub identity : id ≡ (record_in bs).state.identity
 
 -- what so many turns find, of a script with an output and two lists of o, n and d bytes or entries
 pub record Begins (id : Identity) (s : Script) (count : ℕ) (q : Counting) (bs : List ℕ) (a r o n d : ℕ) : Type 0 where
@@ -108,5 +108,5 @@ pub record Begins (id : Identity) (s : Script) (count : ℕ) (q : Counting) (bs 
   pub going : Going id s 0 q bs a r
 
 -- the record's bytes after k turns that came to w: before the first, as they were
-abbrev pub bytesAfter : ℕ → List ℕ → Scripted → List ℕ
-bytesAfter k bs w = whenZero k bs (recordBytes w.board.state)
+abbrev pub bytes_after : ℕ → List ℕ → Scripted → List ℕ
+bytes_after k bs w = when_zero k bs (record_bytes w.board.state)

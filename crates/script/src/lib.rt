@@ -2,18 +2,18 @@
 // the first step. The steps leave it in its bytes: each reads what it needs there, and writes what it changes.
 ghost use Rattle.std.specs.Prelude.{◌≡◌, true, cond, [], ◌+◌, ◌≤◌, ◌<◌, eqb, length};
 ghost use Rattle.types.specs.declared.Memory.TheVariants.{Array, Rows};
-ghost use Rattle.words.specs.Logic.{◌orElse◌, whenZero};
+ghost use Rattle.words.specs.Logic.{◌or_else◌, when_zero};
 ghost use Rattle.words.specs.Lists.{sum_to};
-ghost use Rattle.paper.specs.Numbers.{wearNumber, laterScriptRefusal};
-ghost use Rattle.paper.specs.Calls.{ticked, tickedMemory};
-ghost use Rattle.paper.specs.Board.{boardOf};
-ghost use Rattle.paper.specs.Script.{stopping, stepCalls, made, calls_at, afterSteps};
-ghost use Rattle.paper.specs.Map.{mapSteps};
-ghost use Rattle.paper.specs.Wear.{wearSteps};
-ghost use Rattle.record_bytes.specs.Layout.{changeWritten};
-ghost use Rattle.record_bytes.specs.Read.{held, recordIn, identityIn};
-ghost use Rattle.script.specs.Steps.{OnlyRuns, Ready, workedOf, made_of, Marks, Wears, world, turned, Fit, counted, uncounted, turnedOn, Counts, Going, Begins, bytesAfter};
-ghost use Rattle.script.specs.InBytes.{scriptOf, judged, heldScript, ranOf, scriptBytes, heldMap, heldWearScripted, heldWearNumber, begunOf};
+ghost use Rattle.paper.specs.Numbers.{wear_number, later_script_refusal};
+ghost use Rattle.paper.specs.Calls.{ticked, ticked_memory};
+ghost use Rattle.paper.specs.Board.{board_of};
+ghost use Rattle.paper.specs.Script.{stopping, step_calls, made, calls_at, after_steps};
+ghost use Rattle.paper.specs.Map.{map_steps};
+ghost use Rattle.paper.specs.Wear.{wear_steps};
+ghost use Rattle.record_bytes.specs.Layout.{change_written};
+ghost use Rattle.record_bytes.specs.Read.{held, record_in, identity_in};
+ghost use Rattle.script.specs.Steps.{OnlyRuns, Ready, worked_of, made_of, Marks, Wears, world, turned, Fit, counted, uncounted, turned_on, Counts, Going, Begins, bytes_after};
+ghost use Rattle.script.specs.InBytes.{script_of, judged, held_script, ran_of, script_bytes, held_map, held_wear_scripted, held_wear_number, begun_of};
 
 use record_bytes::places;
 use types::{Change, Identity, Reached, Tally, Wear, Work, Worked};
@@ -88,7 +88,7 @@ fn stopping(number: u8) -> u8
 // What ticks make of a record, written over its bytes: it stays the same, or something else runs.
 fn write_ran(change: Change, bytes: &mut [u8])
     requires { OnlyRuns change }
-    ensures { bytes.new ≡ changeWritten change [] bytes.old }
+    ensures { bytes.new ≡ change_written change [] bytes.old }
 {
     match change {
         Change::Same => {}
@@ -108,10 +108,10 @@ fn write_ran(change: Change, bytes: &mut [u8])
 // So many ticks of a sound record in its bytes, on its own memory.
 fn wait(bytes: &mut [u8], array: &mut [u8], rows: &mut [u8], ticks: usize) -> Worked
     requires { Ready bytes.old (length array.old) (length rows.old) }
-    ensures waits { result ≡ workedOf (recordIn bytes.old).state (length array.old) (length rows.old) ticks }
-    ensures held { recordIn bytes.new ≡ held (ticked (recordIn bytes.old).state (length array.old) (length rows.old) ticks).next }
-    ensures array { array.new ≡ tickedMemory Array (recordIn bytes.old).state (length array.old) (length rows.old) ticks array.old }
-    ensures rows { rows.new ≡ tickedMemory Rows (recordIn bytes.old).state (length array.old) (length rows.old) ticks rows.old }
+    ensures waits { result ≡ worked_of (record_in bytes.old).state (length array.old) (length rows.old) ticks }
+    ensures held { record_in bytes.new ≡ held (ticked (record_in bytes.old).state (length array.old) (length rows.old) ticks).next }
+    ensures array { array.new ≡ ticked_memory Array (record_in bytes.old).state (length array.old) (length rows.old) ticks array.old }
+    ensures rows { rows.new ≡ ticked_memory Rows (record_in bytes.old).state (length array.old) (length rows.old) ticks rows.old }
 {
     let part = record_bytes::reading::part_again(bytes);
     let phase = record_bytes::reading::phase_again(bytes);
@@ -141,11 +141,11 @@ fn step(
     ticks: usize,
     output: &mut [u8],
 ) -> Stepped
-    requires { Ready bytes.old (length array.old) (length rows.old) × (identity ≡ (recordIn bytes.old).state.identity) }
-    ensures made { made_of result bytes.new array.new rows.new output.new ≡ made wp input.now ticks (boardOf (recordIn bytes.old).state array.old rows.old) output.old }
-    ensures ready { Ready bytes.new (length array.old) (length rows.old) × (identity ≡ (recordIn bytes.new).state.identity) × (result.reached.count ≤ ticks) }
-    ensures marks { Marks result.reached array.new (stepCalls wp input.now (boardOf (recordIn bytes.old).state array.old rows.old) (length output.old) ticks) (boardOf (recordIn bytes.old).state array.old rows.old) }
-    ensures wears { Wears result.reached (stepCalls wp input.now (boardOf (recordIn bytes.old).state array.old rows.old) (length output.old) ticks) (boardOf (recordIn bytes.old).state array.old rows.old) }
+    requires { Ready bytes.old (length array.old) (length rows.old) × (identity ≡ (record_in bytes.old).state.identity) }
+    ensures made { made_of result bytes.new array.new rows.new output.new ≡ made wp input.now ticks (board_of (record_in bytes.old).state array.old rows.old) output.old }
+    ensures ready { Ready bytes.new (length array.old) (length rows.old) × (identity ≡ (record_in bytes.new).state.identity) × (result.reached.count ≤ ticks) }
+    ensures marks { Marks result.reached array.new (step_calls wp input.now (board_of (record_in bytes.old).state array.old rows.old) (length output.old) ticks) (board_of (record_in bytes.old).state array.old rows.old) }
+    ensures wears { Wears result.reached (step_calls wp input.now (board_of (record_in bytes.old).state array.old rows.old) (length output.old) ticks) (board_of (record_in bytes.old).state array.old rows.old) }
 {
     let part = record_bytes::reading::part_again(bytes);
     let phase = record_bytes::reading::phase_again(bytes);
@@ -183,7 +183,7 @@ fn step(
 // The step after step k, or step k itself where it stopped the script.
 fn step_after(number: u8, k: usize) -> usize
     requires { k + 1 < 18446744073709551616 }
-    ensures { result ≡ whenZero number (k + 1) k }
+    ensures { result ≡ when_zero number (k + 1) k }
 {
     if number == 0 { k + 1 } else { k }
 }
@@ -206,10 +206,10 @@ fn turn(
 ) -> Turned
     requires fit { Fit (record { wp = wp; input = input.now; lengths = lengths.now; ticks = ticks.now }) (length output.old) (length answers.old) (length done.old) }
     requires k_in_bounds { (k < length lengths.now) × (state.at ≡ sum_to lengths.now k) }
-    requires ready_2 { Ready bytes.old (length array.old) (length rows.old) × (identity ≡ (recordIn bytes.old).state.identity) }
+    requires ready_2 { Ready bytes.old (length array.old) (length rows.old) × (identity ≡ (record_in bytes.old).state.identity) }
     ensures stepped { world result.state bytes.new array.new rows.new output.new answers.new done.new ≡ turned (record { wp = wp; input = input.now; lengths = lengths.now; ticks = ticks.now }) k (world state bytes.old array.old rows.old output.old answers.old done.old) }
     ensures at { result.state.at ≡ sum_to lengths.now (k + 1) }
-    ensures ready { Ready bytes.new (length array.old) (length rows.old) × (identity ≡ (recordIn bytes.new).state.identity) }
+    ensures ready { Ready bytes.new (length array.old) (length rows.old) × (identity ≡ (record_in bytes.new).state.identity) }
     ensures marks { Marks result.reached array.new (calls_at (record { wp = wp; input = input.now; lengths = lengths.now; ticks = ticks.now }) k (world state bytes.old array.old rows.old output.old answers.old done.old)) (world state bytes.old array.old rows.old output.old answers.old done.old).board }
     ensures wears { Wears result.reached (calls_at (record { wp = wp; input = input.now; lengths = lengths.now; ticks = ticks.now }) k (world state bytes.old array.old rows.old output.old answers.old done.old)) (world state bytes.old array.old rows.old output.old answers.old done.old).board }
 {
@@ -258,10 +258,10 @@ fn steps(
 ) -> State
     requires fit { Fit (record { wp = wp; input = input.now; lengths = lengths.now; ticks = ticks.now }) (length output.old) (length answers.old) (length done.old) }
     requires at_value { (start.at ≡ 0) × (start.number ≡ 0) }
-    requires ready { Ready bytes.old (length array.old) (length rows.old) × (identity ≡ (recordIn bytes.old).state.identity) }
-    ensures made { world result bytes.new array.new rows.new output.new answers.new done.new ≡ afterSteps (record { wp = wp; input = input.now; lengths = lengths.now; ticks = ticks.now }) (length lengths.now) (world start bytes.old array.old rows.old output.old answers.old done.old) }
-    ensures held { (recordIn bytes.new).ok ≡ true }
-    ensures map { map.new ≡ mapSteps (record { wp = wp; input = input.now; lengths = lengths.now; ticks = ticks.now }) (length lengths.now) (world start bytes.old array.old rows.old output.old answers.old done.old) map.old }
+    requires ready { Ready bytes.old (length array.old) (length rows.old) × (identity ≡ (record_in bytes.old).state.identity) }
+    ensures made { world result bytes.new array.new rows.new output.new answers.new done.new ≡ after_steps (record { wp = wp; input = input.now; lengths = lengths.now; ticks = ticks.now }) (length lengths.now) (world start bytes.old array.old rows.old output.old answers.old done.old) }
+    ensures held { (record_in bytes.new).ok ≡ true }
+    ensures map { map.new ≡ map_steps (record { wp = wp; input = input.now; lengths = lengths.now; ticks = ticks.now }) (length lengths.now) (world start bytes.old array.old rows.old output.old answers.old done.old) map.old }
 {
     let mut state = start;
     let mut k = 0;
@@ -309,7 +309,7 @@ fn later_refusal(
     input: usize,
     output: usize,
 ) -> u8
-    ensures { result ≡ laterScriptRefusal sound rows lengths.now ticks answers done input output }
+    ensures { result ≡ later_script_refusal sound rows lengths.now ticks answers done input output }
 {
     let count = lengths.len();
     let t = ticks == count;
@@ -335,7 +335,7 @@ fn judge(
     input: usize,
     output: usize,
 ) -> Judged
-    ensures { result ≡ judged (recordIn bytes.now) wp rows lengths.now ticks answers done input output }
+    ensures { result ≡ judged (record_in bytes.now) wp rows lengths.now ticks answers done input output }
 {
     let found = record_bytes::reading::read(bytes);
     let level = wp <= 1;
@@ -366,14 +366,14 @@ pub fn run(
     done: &mut [u16],
     map: &mut [u8],
 ) -> Ran
-    ensures answer { result ≡ ranOf (heldScript (recordIn bytes.old) wp (scriptOf wp input.now lengths.now ticks.now) array.old rows.old output.old answers.old done.old) }
-    ensures bytes { bytes.new ≡ scriptBytes (recordIn bytes.old) (heldScript (recordIn bytes.old) wp (scriptOf wp input.now lengths.now ticks.now) array.old rows.old output.old answers.old done.old) bytes.old }
-    ensures array { array.new ≡ (heldScript (recordIn bytes.old) wp (scriptOf wp input.now lengths.now ticks.now) array.old rows.old output.old answers.old done.old).board.array }
-    ensures rows { rows.new ≡ (heldScript (recordIn bytes.old) wp (scriptOf wp input.now lengths.now ticks.now) array.old rows.old output.old answers.old done.old).board.rows }
-    ensures output { output.new ≡ (heldScript (recordIn bytes.old) wp (scriptOf wp input.now lengths.now ticks.now) array.old rows.old output.old answers.old done.old).output }
-    ensures answers { answers.new ≡ (heldScript (recordIn bytes.old) wp (scriptOf wp input.now lengths.now ticks.now) array.old rows.old output.old answers.old done.old).answers }
-    ensures done { done.new ≡ (heldScript (recordIn bytes.old) wp (scriptOf wp input.now lengths.now ticks.now) array.old rows.old output.old answers.old done.old).done }
-    ensures map { map.new ≡ heldMap (recordIn bytes.old) wp (scriptOf wp input.now lengths.now ticks.now) array.old rows.old output.old answers.old done.old map.old }
+    ensures answer { result ≡ ran_of (held_script (record_in bytes.old) wp (script_of wp input.now lengths.now ticks.now) array.old rows.old output.old answers.old done.old) }
+    ensures bytes { bytes.new ≡ script_bytes (record_in bytes.old) (held_script (record_in bytes.old) wp (script_of wp input.now lengths.now ticks.now) array.old rows.old output.old answers.old done.old) bytes.old }
+    ensures array { array.new ≡ (held_script (record_in bytes.old) wp (script_of wp input.now lengths.now ticks.now) array.old rows.old output.old answers.old done.old).board.array }
+    ensures rows { rows.new ≡ (held_script (record_in bytes.old) wp (script_of wp input.now lengths.now ticks.now) array.old rows.old output.old answers.old done.old).board.rows }
+    ensures output { output.new ≡ (held_script (record_in bytes.old) wp (script_of wp input.now lengths.now ticks.now) array.old rows.old output.old answers.old done.old).output }
+    ensures answers { answers.new ≡ (held_script (record_in bytes.old) wp (script_of wp input.now lengths.now ticks.now) array.old rows.old output.old answers.old done.old).answers }
+    ensures done { done.new ≡ (held_script (record_in bytes.old) wp (script_of wp input.now lengths.now ticks.now) array.old rows.old output.old answers.old done.old).done }
+    ensures map { map.new ≡ held_map (record_in bytes.old) wp (script_of wp input.now lengths.now ticks.now) array.old rows.old output.old answers.old done.old map.old }
 {
     let judged = judge(
         bytes,
@@ -455,7 +455,7 @@ fn turn_wear<'a, 'b>(
     requires fit { Fit (record { wp = wp; input = input.now; lengths = lengths.now; ticks = ticks.now }) (length output.old) (length answers.old) (length done.old) }
     requires k_in_bounds { k < length lengths.now }
     requires going_2 { Going identity (record { wp = wp; input = input.now; lengths = lengths.now; ticks = ticks.now }) k state bytes.old (length array.old) (length rows.old) }
-    ensures stepped { counted result bytes.new array.new rows.new output.new answers.new done.new ≡ turnedOn (record { wp = wp; input = input.now; lengths = lengths.now; ticks = ticks.now }) k (counted state bytes.old array.old rows.old output.old answers.old done.old) }
+    ensures stepped { counted result bytes.new array.new rows.new output.new answers.new done.new ≡ turned_on (record { wp = wp; input = input.now; lengths = lengths.now; ticks = ticks.now }) k (counted state bytes.old array.old rows.old output.old answers.old done.old) }
     ensures going { Going identity (record { wp = wp; input = input.now; lengths = lengths.now; ticks = ticks.now }) (k + 1) result bytes.new (length array.old) (length rows.old) }
     ensures counts { Counts result.tally (record { wp = wp; input = input.now; lengths = lengths.now; ticks = ticks.now }) k (counted state bytes.old array.old rows.old output.old answers.old done.old) }
 {
@@ -484,7 +484,7 @@ fn turn_wear<'a, 'b>(
 
 // 35 where there is not one wear record for each sector; else 0.
 fn wear_number(blocks: u16, records: usize) -> u8
-    ensures { result ≡ wearNumber blocks records }
+    ensures { result ≡ wear_number blocks records }
 {
     let same = records == (blocks as usize) * SECTORS;
     words::number_or(same, 35, 0)
@@ -506,7 +506,7 @@ fn number_where(ok: bool, holding: u8, none: u8) -> u8
 
 // So many steps are made, or none of a script that is refused.
 fn steps_where(number: u8, count: usize) -> usize
-    ensures { result ≡ whenZero number count 0 }
+    ensures { result ≡ when_zero number count 0 }
 {
     if number == 0 { count } else { 0 }
 }
@@ -526,7 +526,7 @@ fn begin(
     output: usize,
     wear: usize,
 ) -> Begun
-    ensures { result ≡ begunOf (heldWearNumber (recordIn bytes.now) wp array rows wear lengths.now ticks answers done input output) (identityIn bytes.now) wp (length lengths.now) }
+    ensures { result ≡ begun_of (held_wear_number (record_in bytes.now) wp array rows wear lengths.now ticks answers done input output) (identity_in bytes.now) wp (length lengths.now) }
 {
     let judged = judge(
         bytes, rows, wp, lengths, ticks, answers, done, input, output,
@@ -563,9 +563,9 @@ fn steps_wear<'b>(
     wear: &mut [Wear],
 ) -> Counting
     requires { 0 < count → Begins identity (record { wp = wp; input = input.now; lengths = lengths.now; ticks = ticks.now }) count start bytes.old (length array.old) (length rows.old) (length output.old) (length answers.old) (length done.old) }
-    ensures made { counted result bytes.new array.new rows.new output.new answers.new done.new ≡ afterSteps (record { wp = wp; input = input.now; lengths = lengths.now; ticks = ticks.now }) count (counted start bytes.old array.old rows.old output.old answers.old done.old) }
-    ensures bytes { bytes.new ≡ bytesAfter count bytes.old (afterSteps (record { wp = wp; input = input.now; lengths = lengths.now; ticks = ticks.now }) count (counted start bytes.old array.old rows.old output.old answers.old done.old)) }
-    ensures wear { wear.new ≡ wearSteps (record { wp = wp; input = input.now; lengths = lengths.now; ticks = ticks.now }) count (counted start bytes.old array.old rows.old output.old answers.old done.old) wear.old }
+    ensures made { counted result bytes.new array.new rows.new output.new answers.new done.new ≡ after_steps (record { wp = wp; input = input.now; lengths = lengths.now; ticks = ticks.now }) count (counted start bytes.old array.old rows.old output.old answers.old done.old) }
+    ensures bytes { bytes.new ≡ bytes_after count bytes.old (after_steps (record { wp = wp; input = input.now; lengths = lengths.now; ticks = ticks.now }) count (counted start bytes.old array.old rows.old output.old answers.old done.old)) }
+    ensures wear { wear.new ≡ wear_steps (record { wp = wp; input = input.now; lengths = lengths.now; ticks = ticks.now }) count (counted start bytes.old array.old rows.old output.old answers.old done.old) wear.old }
 {
     let mut state = start;
     let mut k = 0;
@@ -596,14 +596,14 @@ pub fn run_wear<'b>(
     done: &mut [u16],
     wear: &mut [Wear],
 ) -> Ran
-    ensures answer { result ≡ ranOf (heldWearScripted (recordIn bytes.old) wp (scriptOf wp input.now lengths.now ticks.now) array.old rows.old output.old answers.old done.old wear.old).run }
-    ensures bytes { bytes.new ≡ scriptBytes (recordIn bytes.old) (heldWearScripted (recordIn bytes.old) wp (scriptOf wp input.now lengths.now ticks.now) array.old rows.old output.old answers.old done.old wear.old).run bytes.old }
-    ensures array { array.new ≡ (heldWearScripted (recordIn bytes.old) wp (scriptOf wp input.now lengths.now ticks.now) array.old rows.old output.old answers.old done.old wear.old).run.board.array }
-    ensures rows { rows.new ≡ (heldWearScripted (recordIn bytes.old) wp (scriptOf wp input.now lengths.now ticks.now) array.old rows.old output.old answers.old done.old wear.old).run.board.rows }
-    ensures output { output.new ≡ (heldWearScripted (recordIn bytes.old) wp (scriptOf wp input.now lengths.now ticks.now) array.old rows.old output.old answers.old done.old wear.old).run.output }
-    ensures answers { answers.new ≡ (heldWearScripted (recordIn bytes.old) wp (scriptOf wp input.now lengths.now ticks.now) array.old rows.old output.old answers.old done.old wear.old).run.answers }
-    ensures done { done.new ≡ (heldWearScripted (recordIn bytes.old) wp (scriptOf wp input.now lengths.now ticks.now) array.old rows.old output.old answers.old done.old wear.old).run.done }
-    ensures wear { wear.new ≡ (heldWearScripted (recordIn bytes.old) wp (scriptOf wp input.now lengths.now ticks.now) array.old rows.old output.old answers.old done.old wear.old).wear }
+    ensures answer { result ≡ ran_of (held_wear_scripted (record_in bytes.old) wp (script_of wp input.now lengths.now ticks.now) array.old rows.old output.old answers.old done.old wear.old).run }
+    ensures bytes { bytes.new ≡ script_bytes (record_in bytes.old) (held_wear_scripted (record_in bytes.old) wp (script_of wp input.now lengths.now ticks.now) array.old rows.old output.old answers.old done.old wear.old).run bytes.old }
+    ensures array { array.new ≡ (held_wear_scripted (record_in bytes.old) wp (script_of wp input.now lengths.now ticks.now) array.old rows.old output.old answers.old done.old wear.old).run.board.array }
+    ensures rows { rows.new ≡ (held_wear_scripted (record_in bytes.old) wp (script_of wp input.now lengths.now ticks.now) array.old rows.old output.old answers.old done.old wear.old).run.board.rows }
+    ensures output { output.new ≡ (held_wear_scripted (record_in bytes.old) wp (script_of wp input.now lengths.now ticks.now) array.old rows.old output.old answers.old done.old wear.old).run.output }
+    ensures answers { answers.new ≡ (held_wear_scripted (record_in bytes.old) wp (script_of wp input.now lengths.now ticks.now) array.old rows.old output.old answers.old done.old wear.old).run.answers }
+    ensures done { done.new ≡ (held_wear_scripted (record_in bytes.old) wp (script_of wp input.now lengths.now ticks.now) array.old rows.old output.old answers.old done.old wear.old).run.done }
+    ensures wear { wear.new ≡ (held_wear_scripted (record_in bytes.old) wp (script_of wp input.now lengths.now ticks.now) array.old rows.old output.old answers.old done.old wear.old).wear }
 {
     let begun = begin(
         bytes,

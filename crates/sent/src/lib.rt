@@ -1,10 +1,10 @@
 // What a transaction names, and the operation that it begins.
 ghost use Rattle.std.specs.Prelude.{◌≡◌, cond, ◌+◌, ◌-◌, ◌%◌, eqb, length, get_or};
-ghost use Rattle.paper.specs.Sizes.{pageBytes};
-ghost use Rattle.paper.specs.Address.{addressCount, addressSent, addressIn, rowAt, fourthOk, namesRow, row_ok, rowBase, rowByte, place_in};
-ghost use Rattle.paper.specs.Program.{dataSent, keptCount, passedCount, pageData, program_of};
-ghost use Rattle.paper.specs.Erase.{eraseOf};
-ghost use Rattle.paper.specs.Registers.{writeOf};
+ghost use Rattle.paper.specs.Sizes.{page_bytes};
+ghost use Rattle.paper.specs.Address.{address_count, address_sent, address_in, row_at, fourth_ok, names_row, row_ok, row_base, row_byte, place_in};
+ghost use Rattle.paper.specs.Program.{data_sent, kept_count, passed_count, page_data, program_of};
+ghost use Rattle.paper.specs.Erase.{erase_of};
+ghost use Rattle.paper.specs.Registers.{write_of};
 ghost use Rattle.paper.specs.Commands.{begins};
 
 use types::{Addressing, Effect, EraseUnit, Memory, Operation, Register, Work};
@@ -18,7 +18,7 @@ pub fn byte_at(input: &[u8], place: usize) -> u8
 
 // The address as it was sent.
 fn address_as_sent(form: Addressing, input: &[u8]) -> usize
-    ensures { result ≡ addressSent form input.now }
+    ensures { result ≡ address_sent form input.now }
 {
     match form {
         Addressing::Three(upper) => {
@@ -31,7 +31,7 @@ fn address_as_sent(form: Addressing, input: &[u8]) -> usize
 
 // A: the address taken modulo the array size. (A part of no blocks does not exist; there it is the address as sent.)
 pub fn address_in(form: Addressing, blocks: u16, input: &[u8]) -> usize
-    ensures { result ≡ addressIn form blocks input.now }
+    ensures { result ≡ address_in form blocks input.now }
 {
     let a = address_as_sent(form, input);
     let size = (blocks as usize) * types::BLOCK_BYTES;
@@ -43,7 +43,7 @@ pub fn address_in(form: Addressing, blocks: u16, input: &[u8]) -> usize
 
 // The place of a row address: behind the code, or behind a fourth byte.
 fn row_at(form: Addressing) -> usize
-    ensures { result ≡ rowAt form }
+    ensures { result ≡ row_at form }
 {
     match form {
         Addressing::Three(_) => 1,
@@ -53,7 +53,7 @@ fn row_at(form: Addressing) -> usize
 
 // Whether a fourth byte, where there is one, is 00h.
 fn fourth_ok(form: Addressing, input: &[u8]) -> bool
-    ensures { result ≡ fourthOk form input.now }
+    ensures { result ≡ fourth_ok form input.now }
 {
     match form {
         Addressing::Three(_) => true,
@@ -63,7 +63,7 @@ fn fourth_ok(form: Addressing, input: &[u8]) -> bool
 
 // Whether a byte names a row.
 fn names_row(byte: u8) -> bool
-    ensures { result ≡ namesRow byte }
+    ensures { result ≡ names_row byte }
 {
     let row_0 = byte == 0x00;
     let row_1 = byte == 0x10;
@@ -85,7 +85,7 @@ pub fn row_ok(form: Addressing, input: &[u8]) -> bool
 
 // Where the row that was named begins.
 pub fn row_base(form: Addressing, input: &[u8]) -> usize
-    ensures { result ≡ rowBase form input.now }
+    ensures { result ≡ row_base form input.now }
 {
     let named = byte_at(input, row_at(form) + 1);
     (named as usize) / 16 * types::PAGE_BYTES
@@ -93,7 +93,7 @@ pub fn row_base(form: Addressing, input: &[u8]) -> usize
 
 // The byte address in the row that was named.
 pub fn row_byte(form: Addressing, input: &[u8]) -> usize
-    ensures { result ≡ rowByte form input.now }
+    ensures { result ≡ row_byte form input.now }
 {
     byte_at(input, row_at(form) + 2) as usize
 }
@@ -110,7 +110,7 @@ fn place_in(memory: Memory, form: Addressing, blocks: u16, input: &[u8]) -> usiz
 
 // The place of the first data byte, behind the code and the address bytes.
 fn data_place(form: Addressing) -> usize
-    ensures { result ≡ 1 + addressCount form }
+    ensures { result ≡ 1 + address_count form }
 {
     match form {
         Addressing::Three(_) => 4,
@@ -120,7 +120,7 @@ fn data_place(form: Addressing) -> usize
 
 // How many data bytes of a program are kept.
 fn kept_count(form: Addressing, input: &[u8]) -> usize
-    ensures { result ≡ keptCount (dataSent form input.now) }
+    ensures { result ≡ kept_count (data_sent form input.now) }
 {
     let n = input.len();
     let first = data_place(form);
@@ -132,7 +132,7 @@ fn kept_count(form: Addressing, input: &[u8]) -> usize
 
 // How many came before those that are kept.
 fn passed_count(form: Addressing, input: &[u8]) -> usize
-    ensures { result ≡ passedCount (dataSent form input.now) }
+    ensures { result ≡ passed_count (data_sent form input.now) }
 {
     let n = input.len();
     let first = data_place(form);
@@ -145,7 +145,7 @@ fn passed_count(form: Addressing, input: &[u8]) -> usize
 // The page data of a program, written over a page: the kept bytes in order of arrival, zeros after them. Bytes of another
 // length than a page's are left as they are.
 pub fn write_page_data(form: Addressing, input: &[u8], page: &mut [u8])
-    ensures { page.new ≡ cond (eqb (length page.old) pageBytes) (pageData (dataSent form input.now)) page.old }
+    ensures { page.new ≡ cond (eqb (length page.old) page_bytes) (page_data (data_sent form input.now)) page.old }
 {
     if page.len() != types::PAGE_BYTES {
         return;
@@ -160,7 +160,7 @@ pub fn write_page_data(form: Addressing, input: &[u8], page: &mut [u8])
 
 // The same, as a page of its own.
 pub fn page_data(form: Addressing, input: &[u8]) -> [u8; 256]
-    ensures { result ≡ pageData (dataSent form input.now) }
+    ensures { result ≡ page_data (data_sent form input.now) }
 {
     let mut page = [0u8; 256];
     write_page_data(form, input, &mut page);
@@ -185,7 +185,7 @@ fn program_of(memory: Memory, form: Addressing, blocks: u16, input: &[u8]) -> Op
 
 // The erase that a transaction begins.
 fn erase_of(unit: EraseUnit, form: Addressing, blocks: u16, input: &[u8]) -> Operation
-    ensures { result ≡ eraseOf unit form blocks input.now }
+    ensures { result ≡ erase_of unit form blocks input.now }
 {
     let place = place_in(pages::unit_memory(unit), form, blocks, input);
     let base = pages::unit_base(unit, blocks, place);
@@ -198,7 +198,7 @@ fn erase_of(unit: EraseUnit, form: Addressing, blocks: u16, input: &[u8]) -> Ope
 
 // The register write that a transaction begins.
 fn write_of(register: Register, input: &[u8]) -> Operation
-    ensures { result ≡ writeOf register input.now }
+    ensures { result ≡ write_of register input.now }
 {
     let value = operations::held_byte(register, byte_at(input, 1));
     Operation::Write {

@@ -5,10 +5,10 @@ use Rattle.types.specs.declared.Phase.TheVariants.{Idle}
 use Rattle.types.specs.declared.Part.{Part}
 use Rattle.words.specs.Logic.{◌and◌, ◌or◌}
 use Rattle.words.proofs.Tests.{and_assoc}
-use Rattle.paper.specs.Sizes.{sizeOk}
-use Rattle.paper.specs.Soundness.{bitsOk, largeOk, partSound}
+use Rattle.paper.specs.Sizes.{size_ok}
+use Rattle.paper.specs.Soundness.{bits_ok, large_ok, part_sound}
 
-pub idle-sound-as : (p : Part) (t : Bool)
-    → (partSound p Idle and t) ≡ (sizeOk p.blocks and ((bitsOk Idle p.wel p.stored and largeOk p.blocks p.stored.function p.bank) and t))
-unfolding partSound ◌or◌ ◌and◌
-idle-sound-as p t = sym (and_assoc (sizeOk p.blocks) (bitsOk Idle p.wel p.stored and largeOk p.blocks p.stored.function p.bank) t)
+pub idle_sound_as : (p : Part) (t : Bool)
+    → (part_sound p Idle and t) ≡ (size_ok p.blocks and ((bits_ok Idle p.wel p.stored and large_ok p.blocks p.stored.function p.bank) and t))
+unfolding part_sound ◌or◌ ◌and◌
+idle_sound_as p t = sym (and_assoc (size_ok p.blocks) (bits_ok Idle p.wel p.stored and large_ok p.blocks p.stored.function p.bank) t)

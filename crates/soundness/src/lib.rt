@@ -2,12 +2,12 @@
 ghost use Rattle.std.specs.Prelude.{◌≡◌};
 ghost use Rattle.types.specs.declared.Phase.TheVariants.{Idle};
 ghost use Rattle.words.specs.Logic.{◌and◌};
-ghost use Rattle.paper.specs.Soundness.{latchOk, nestOk, phaseOk, bitsOk, largeOk, keptIn, partSound, sound, soundOf};
+ghost use Rattle.paper.specs.Soundness.{latch_ok, nest_ok, phase_ok, bits_ok, large_ok, kept_in, part_sound, sound, sound_of};
 
 use types::{Operation, Part, Phase, Record, Stored, Work};
 
 fn latch_ok(phase: Phase, wel: bool) -> bool
-    ensures { result ≡ latchOk phase wel }
+    ensures { result ≡ latch_ok phase wel }
 {
     match phase {
         Phase::Idle => true,
@@ -19,7 +19,7 @@ fn latch_ok(phase: Phase, wel: bool) -> bool
 
 // Whether a program may run within a suspended erase.
 fn nest_ok(outer: Operation, inner: Operation, blocks: u16) -> bool
-    ensures { result ≡ nestOk outer inner blocks }
+    ensures { result ≡ nest_ok outer inner blocks }
 {
     let erases = phases::is_erase(outer);
     let halts = operations::can_suspend(outer);
@@ -34,7 +34,7 @@ fn nest_ok(outer: Operation, inner: Operation, blocks: u16) -> bool
 
 // Whether a part can be in a phase: what it is busy with or suspended from is in order.
 fn phase_ok(phase: Phase, blocks: u16, stored: Stored) -> bool
-    ensures { result ≡ phaseOk phase blocks stored }
+    ensures { result ≡ phase_ok phase blocks stored }
 {
     match phase {
         Phase::Idle => true,
@@ -53,7 +53,7 @@ fn phase_ok(phase: Phase, blocks: u16, stored: Stored) -> bool
 }
 
 fn kept_in(phase: Phase) -> usize
-    ensures { result ≡ keptIn phase }
+    ensures { result ≡ kept_in phase }
 {
     match phase {
         Phase::Idle => 0,
@@ -65,7 +65,7 @@ fn kept_in(phase: Phase) -> usize
 
 // Whether a part's registers can stand in a phase, and on a part of its size.
 fn registers_ok(part: Part, phase: Phase) -> bool
-    ensures { result ≡ (bitsOk phase part.wel part.stored and largeOk part.blocks part.stored.function part.bank) }
+    ensures { result ≡ (bits_ok phase part.wel part.stored and large_ok part.blocks part.stored.function part.bank) }
 {
     let stored = part.stored;
     let bits = record::bits_ok(phase, part.wel, stored);
@@ -75,7 +75,7 @@ fn registers_ok(part: Part, phase: Phase) -> bool
 
 // Whether an idle part is sound, which is told whether it has no page data: the tests that are not met by being idle.
 pub fn is_sound_idle(part: Part, empty: bool) -> bool
-    ensures { result ≡ (partSound part Idle and empty) }
+    ensures { result ≡ (part_sound part Idle and empty) }
 {
     let size = sizes::size_ok(part.blocks as u64);
     let registers = registers_ok(part, Phase::Idle);
@@ -84,7 +84,7 @@ pub fn is_sound_idle(part: Part, empty: bool) -> bool
 
 // Whether a part in a phase with page data is sound.
 pub fn is_sound_of(part: Part, phase: Phase, page: &[u8]) -> bool
-    ensures { result ≡ soundOf part phase page.now }
+    ensures { result ≡ sound_of part phase page.now }
 {
     let stored = part.stored;
     let size = sizes::size_ok(part.blocks as u64);

@@ -28,177 +28,177 @@ use Rattle.types.specs.declared.Data.TheVariants.{Kept, Sent}
 use Rattle.types.specs.declared.Change.TheVariants.{Marked}
 use Rattle.words.specs.Logic.{◌and◌}
 use Rattle.words.proofs.Tests.{and_l, and_r}
-use Rattle.paper.specs.Sizes.{arrayBytes, rowsBytes}
-use Rattle.paper.specs.Phases.{running, halted, workIs, anyOperation, resumedIn}
-use Rattle.paper.specs.Operations.{ticksInAll, ticksDone, advancedBy}
+use Rattle.paper.specs.Sizes.{array_bytes, rows_bytes}
+use Rattle.paper.specs.Phases.{running, halted, work_is, any_operation, resumed_in}
+use Rattle.paper.specs.Operations.{ticks_in_all, ticks_done, advanced_by}
 use Rattle.paper.specs.Suspend.{suspendable}
 use Rattle.paper.specs.Soundness.{sound}
-use Rattle.paper.specs.Registers.{upperBank}
-use Rattle.paper.specs.Table.{codes, largeCodes, farCodes, decoded, columns, addressingOn}
-use Rattle.paper.specs.Commands.{changed, begun, starts, changeBy, changeBarred}
-use Rattle.paper.specs.Numbers.{stateOk, transactionRefusal, ignoredNumber}
-use Rattle.paper.specs.Calls.{refused, ignored, executed, outcomeTo, outcomeOf, transacted}
-use Rattle.paper.specs.Ticks.{finished, advanced, worked, tickedAt, recordAfter}
-use Rattle.paper.specs.History.{Call, transaction, ticks, recordAfterCall, recordAfterCalls}
-use Rattle.paper.specs.Halted.{lets_go, letsGoBy, releases}
-use Rattle.paper.proofs.Phases.{phase-halts, other-halts}
+use Rattle.paper.specs.Registers.{upper_bank}
+use Rattle.paper.specs.Table.{codes, large_codes, far_codes, decoded, columns, addressing_on}
+use Rattle.paper.specs.Commands.{changed, begun, starts, change_by, change_barred}
+use Rattle.paper.specs.Numbers.{state_ok, transaction_refusal, ignored_number}
+use Rattle.paper.specs.Calls.{refused, ignored, executed, outcome_to, outcome_of, transacted}
+use Rattle.paper.specs.Ticks.{finished, advanced, worked, ticked_at, record_after}
+use Rattle.paper.specs.History.{Call, transaction, ticks, record_after_call, record_after_calls}
+use Rattle.paper.specs.Halted.{lets_go, lets_go_by, releases}
+use Rattle.paper.proofs.Phases.{phase_halts, other_halts}
 use Rattle.paper.proofs.Table.{codes_of}
-use Rattle.paper.proofs.CallKept.{after-tick-call}
-use Rattle.paper.proofs.Numbers.{command-taken}
-use Rattle.paper.proofs.Answers.{executed-so}
-use Rattle.suspended.specs.Interrupted.{noneReleases}
+use Rattle.paper.proofs.CallKept.{after_tick_call}
+use Rattle.paper.proofs.Numbers.{command_taken}
+use Rattle.paper.proofs.Answers.{executed_so}
+use Rattle.suspended.specs.Interrupted.{none_releases}
 
 -- what is suspended stays so where something goes on, and when it ends
-worked-halted : (p : Record) (o : Operation) (t : Bool) → halted (cond t (advanced p (advancedBy 1 o)) (finished p o)).phase ≡ halted p.phase
-worked-halted p o true = other-halts p.phase (At (advancedBy 1 o))
-worked-halted p o false = other-halts p.phase NoWork
+worked_halted : (p : Record) (o : Operation) (t : Bool) → halted (cond t (advanced p (advanced_by 1 o)) (finished p o)).phase ≡ halted p.phase
+worked_halted p o true = other_halts p.phase (At (advanced_by 1 o))
+worked_halted p o false = other_halts p.phase NoWork
 
-ticked-halted : (p : Record) (w : Work) → halted (tickedAt p w).phase ≡ halted p.phase
+ticked_halted : (p : Record) (w : Work) → halted (ticked_at p w).phase ≡ halted p.phase
 unfolding worked
-ticked-halted p NoWork = refl
-ticked-halted p (At o) = worked-halted p o (ltb (ticksDone o + 1) (ticksInAll o p.part.blocks))
+ticked_halted p NoWork = refl
+ticked_halted p (At o) = worked_halted p o (ltb (ticks_done o + 1) (ticks_in_all o p.part.blocks))
 
 -- ticks leave it
-pub run-halted : (n : ℕ) (p : Record) → halted (recordAfter n p).phase ≡ halted p.phase
-run-halted zero p = refl
-run-halted (suc n) p = ticked-halted (recordAfter n p) (running (recordAfter n p).phase) ∙ run-halted n p
+pub run_halted : (n : ℕ) (p : Record) → halted (record_after n p).phase ≡ halted p.phase
+run_halted zero p = refl
+run_halted (suc n) p = ticked_halted (record_after n p) (running (record_after n p).phase) ∙ run_halted n p
 
 -- the codes that let what is suspended go are 7Ah, 30h and 99h, on the large part too
-pub letting-go : codes_of (λ (k : Columns). lets_go k.effect) (farCodes ++ (codes ++ largeCodes)) ≡ 0x7A ∷ 0x30 ∷ 0x99 ∷ []
-letting-go = refl
+pub letting_go : codes_of (λ (k : Columns). lets_go k.effect) (far_codes ++ (codes ++ large_codes)) ≡ 0x7A ∷ 0x30 ∷ 0x99 ∷ []
+letting_go = refl
 
 -- where something is suspended, no suspend is executed
-no-suspend : (f : Phase) (e : Operation) → halted f ≡ At e → suspendable f ≡ true → ⊥
-no-suspend f e h t = false≢true (sym (ap (λ (w : Work). not (workIs anyOperation w)) h) ∙ and_r _ _ t)
+no_suspend : (f : Phase) (e : Operation) → halted f ≡ At e → suspendable f ≡ true → ⊥
+no_suspend f e h t = false≢true (sym (ap (λ (w : Work). not (work_is any_operation w)) h) ∙ and_r _ _ t)
 
 -- what each transaction makes of a part that is suspended from e
 module _ (p : Record) (e : Operation) (h : halted p.phase ≡ At e) where
-  starts-halted : (w : Work) (d : Data) (i : List ℕ) → halted (changed (starts w p.part p.phase d) i p).phase ≡ At e
-  starts-halted NoWork d i = h
-  starts-halted (At o) d i = other-halts p.phase (At o) ∙ h
+  starts_halted : (w : Work) (d : Data) (i : List ℕ) → halted (changed (starts w p.part p.phase d) i p).phase ≡ At e
+  starts_halted NoWork d i = h
+  starts_halted (At o) d i = other_halts p.phase (At o) ∙ h
 
-  begun-halted : (k : Command) (d : Data) (i : List ℕ) → halted (changed (starts (begun (columns k) p.part i) p.part p.phase d) i p).phase ≡ At e
-  begun-halted k d i = starts-halted (begun (columns k) p.part i) d i
+  begun_halted : (k : Command) (d : Data) (i : List ℕ) → halted (changed (starts (begun (columns k) p.part i) p.part p.phase d) i p).phase ≡ At e
+  begun_halted k d i = starts_halted (begun (columns k) p.part i) d i
 
-  executed-halted : (k : Command) (i : List ℕ) → lets_go (columns k).effect ≡ false → stateOk (columns k).wanted p.part p.phase ≡ true
+  executed_halted : (k : Command) (i : List ℕ) → lets_go (columns k).effect ≡ false → state_ok (columns k).wanted p.part p.phase ≡ true
       → halted (changed (executed (columns k) p.part p.phase i).change i p).phase ≡ At e
-  executed-halted Read i n t = h
-  executed-halted FastRead i n t = h
-  executed-halted ReadStatus i n t = h
-  executed-halted ReadFunction i n t = h
-  executed-halted ReadIdentity i n t = h
-  executed-halted ReadMakerDevice i n t = h
-  executed-halted Wake i n t = h
-  executed-halted ReadRow i n t = h
-  executed-halted WriteEnable i n t = h
-  executed-halted WriteDisable i n t = h
-  executed-halted WriteStatus i n t = begun-halted WriteStatus Kept i
-  executed-halted WriteFunction i n t = begun-halted WriteFunction Kept i
-  executed-halted PageProgram i n t = begun-halted PageProgram (Sent (Three (upperBank p.part.bank))) i
-  executed-halted SectorErase i n t = begun-halted SectorErase Kept i
-  executed-halted BlockErase32 i n t = begun-halted BlockErase32 Kept i
-  executed-halted BlockErase64 i n t = begun-halted BlockErase64 Kept i
-  executed-halted ChipErase i n t = begun-halted ChipErase Kept i
-  executed-halted Suspend i n t = absurd (no-suspend p.phase e h t)
-  executed-halted Resume i n t = absurd (false≢true (sym n))
-  executed-halted Sleep i n t = h
-  executed-halted ArmReset i n t = h
-  executed-halted Reset i n t = absurd (false≢true (sym n))
-  executed-halted RowErase i n t = begun-halted RowErase Kept i
-  executed-halted RowProgram i n t = begun-halted RowProgram (Sent (Three false)) i
-  executed-halted ReadExtended i n t = h
-  executed-halted SetStored i n t = begun-halted SetStored Kept i
-  executed-halted SetLive i n t = h
-  executed-halted ClearErrors i n t = h
-  executed-halted FarRead i n t = h
-  executed-halted FarFastRead i n t = h
-  executed-halted FarPageProgram i n t = begun-halted FarPageProgram (Sent Four) i
-  executed-halted FarPageProgramAtRest i n t = begun-halted FarPageProgramAtRest (Sent Four) i
-  executed-halted FarSectorErase i n t = begun-halted FarSectorErase Kept i
-  executed-halted FarBlockErase32 i n t = begun-halted FarBlockErase32 Kept i
-  executed-halted FarBlockErase64 i n t = begun-halted FarBlockErase64 Kept i
-  executed-halted ReadBank i n t = h
-  executed-halted WriteBank i n t = h
-  executed-halted EnterFar i n t = h
-  executed-halted LeaveFar i n t = h
+  executed_halted Read i n t = h
+  executed_halted FastRead i n t = h
+  executed_halted ReadStatus i n t = h
+  executed_halted ReadFunction i n t = h
+  executed_halted ReadIdentity i n t = h
+  executed_halted ReadMakerDevice i n t = h
+  executed_halted Wake i n t = h
+  executed_halted ReadRow i n t = h
+  executed_halted WriteEnable i n t = h
+  executed_halted WriteDisable i n t = h
+  executed_halted WriteStatus i n t = begun_halted WriteStatus Kept i
+  executed_halted WriteFunction i n t = begun_halted WriteFunction Kept i
+  executed_halted PageProgram i n t = begun_halted PageProgram (Sent (Three (upper_bank p.part.bank))) i
+  executed_halted SectorErase i n t = begun_halted SectorErase Kept i
+  executed_halted BlockErase32 i n t = begun_halted BlockErase32 Kept i
+  executed_halted BlockErase64 i n t = begun_halted BlockErase64 Kept i
+  executed_halted ChipErase i n t = begun_halted ChipErase Kept i
+  executed_halted Suspend i n t = absurd (no_suspend p.phase e h t)
+  executed_halted Resume i n t = absurd (false≢true (sym n))
+  executed_halted Sleep i n t = h
+  executed_halted ArmReset i n t = h
+  executed_halted Reset i n t = absurd (false≢true (sym n))
+  executed_halted RowErase i n t = begun_halted RowErase Kept i
+  executed_halted RowProgram i n t = begun_halted RowProgram (Sent (Three false)) i
+  executed_halted ReadExtended i n t = h
+  executed_halted SetStored i n t = begun_halted SetStored Kept i
+  executed_halted SetLive i n t = h
+  executed_halted ClearErrors i n t = h
+  executed_halted FarRead i n t = h
+  executed_halted FarFastRead i n t = h
+  executed_halted FarPageProgram i n t = begun_halted FarPageProgram (Sent Four) i
+  executed_halted FarPageProgramAtRest i n t = begun_halted FarPageProgramAtRest (Sent Four) i
+  executed_halted FarSectorErase i n t = begun_halted FarSectorErase Kept i
+  executed_halted FarBlockErase32 i n t = begun_halted FarBlockErase32 Kept i
+  executed_halted FarBlockErase64 i n t = begun_halted FarBlockErase64 Kept i
+  executed_halted ReadBank i n t = h
+  executed_halted WriteBank i n t = h
+  executed_halted EnterFar i n t = h
+  executed_halted LeaveFar i n t = h
 
   module _ (wp : Bool) (i : List ℕ) where
-    barred-halted : (c : Effect) (t : Bool) → halted (changed (cond t (changeBarred c p.part) (Marked false)) i p).phase ≡ At e
-    barred-halted c true = h
-    barred-halted c false = h
+    barred_halted : (c : Effect) (t : Bool) → halted (changed (cond t (change_barred c p.part) (Marked false)) i p).phase ≡ At e
+    barred_halted c true = h
+    barred_halted c false = h
 
-    taken-halted : (k : Command) (t : Bool) (n : ℕ) → (t ≡ true → stateOk (columns k).wanted p.part p.phase ≡ true)
+    taken_halted : (k : Command) (t : Bool) (n : ℕ) → (t ≡ true → state_ok (columns k).wanted p.part p.phase ≡ true)
         → let u = cond t (executed (columns k) p.part p.phase i) (ignored (Known k) n p.part (length i)) in
         (eqb u.number 0 and lets_go (columns k).effect) ≡ false → halted (changed u.change i p).phase ≡ At e
     unfolding ◌and◌
-    taken-halted k true n t g = executed-halted k i g (t refl)
-    taken-halted k false n t g = barred-halted (columns k).effect (eqb n 28)
+    taken_halted k true n t g = executed_halted k i g (t refl)
+    taken_halted k false n t g = barred_halted (columns k).effect (eqb n 28)
 
-    decoded-halted : (d : Decoded) → let u = outcomeTo d p.part p.phase wp i in
-        (eqb u.number 0 and letsGoBy d) ≡ false → halted (changed u.change i p).phase ≡ At e
-    decoded-halted (Known k) g =
-        let n = ignoredNumber (Known k) p.part p.phase i wp in
-        taken-halted k (eqb n 0) n (λ t. (command-taken (columns k) (begun (columns k) p.part i) p.part p.phase i wp (eqb-true n 0 t)).state-ok) g
-    decoded-halted Unknown g = h
+    decoded_halted : (d : Decoded) → let u = outcome_to d p.part p.phase wp i in
+        (eqb u.number 0 and lets_go_by d) ≡ false → halted (changed u.change i p).phase ≡ At e
+    decoded_halted (Known k) g =
+        let n = ignored_number (Known k) p.part p.phase i wp in
+        taken_halted k (eqb n 0) n (λ t. (command_taken (columns k) (begun (columns k) p.part i) p.part p.phase i wp (eqb-true n 0 t)).state_ok_lem) g
+    decoded_halted Unknown g = h
 
-    refused-halted : (t : Bool) (n : ℕ) → let u = cond t (outcomeTo (decoded p.part.blocks p.part.bank (get_or i 0 0)) p.part p.phase wp i) (refused n) in
-        (eqb u.number 0 and letsGoBy (decoded p.part.blocks p.part.bank (get_or i 0 0))) ≡ false → halted (changed u.change i p).phase ≡ At e
-    refused-halted true n g = decoded-halted (decoded p.part.blocks p.part.bank (get_or i 0 0)) g
-    refused-halted false n g = h
+    refused_halted : (t : Bool) (n : ℕ) → let u = cond t (outcome_to (decoded p.part.blocks p.part.bank (get_or i 0 0)) p.part p.phase wp i) (refused n) in
+        (eqb u.number 0 and lets_go_by (decoded p.part.blocks p.part.bank (get_or i 0 0))) ≡ false → halted (changed u.change i p).phase ≡ At e
+    refused_halted true n g = decoded_halted (decoded p.part.blocks p.part.bank (get_or i 0 0)) g
+    refused_halted false n g = h
 
 -- an operation that is suspended stays so, with the same target and as many ticks done, over every call that does not let it go
-pub call-halted : (c : Call) (p : Record) (e : Operation) → halted p.phase ≡ At e → releases c p ≡ false → halted (recordAfterCall c p).phase ≡ At e
-unfolding transacted outcomeOf
-call-halted (transaction wp i o) p e h g =
-    let n = transactionRefusal p.part.blocks (sound p) (arrayBytes p.part.blocks) rowsBytes (length i) o in
-    refused-halted p e h wp i (eqb n 0) n g
-call-halted (ticks n) p e h g =
-    after-tick-call (λ (q : Record). halted q.phase ≡ At e) p n h (run-halted n p ∙ h) (arrayBytes p.part.blocks) rowsBytes
+pub call_halted : (c : Call) (p : Record) (e : Operation) → halted p.phase ≡ At e → releases c p ≡ false → halted (record_after_call c p).phase ≡ At e
+unfolding transacted outcome_of
+call_halted (transaction wp i o) p e h g =
+    let n = transaction_refusal p.part.blocks (sound p) (array_bytes p.part.blocks) rows_bytes (length i) o in
+    refused_halted p e h wp i (eqb n 0) n g
+call_halted (ticks n) p e h g =
+    after_tick_call (λ (q : Record). halted q.phase ≡ At e) p n h (run_halted n p ∙ h) (array_bytes p.part.blocks) rows_bytes
 
 -- and over a list of such calls
-pub calls-halted : (cs : List Call) (p : Record) (e : Operation) → halted p.phase ≡ At e → noneReleases cs p ≡ true → halted (recordAfterCalls cs p).phase ≡ At e
-calls-halted [] p e h g = h
-calls-halted (c ∷ cs) p e h g =
-    calls-halted cs (recordAfterCall c p) e (call-halted c p e h (not-true _ (and_l _ _ g))) (and_r _ _ g)
+pub calls_halted : (cs : List Call) (p : Record) (e : Operation) → halted p.phase ≡ At e → none_releases cs p ≡ true → halted (record_after_calls cs p).phase ≡ At e
+calls_halted [] p e h g = h
+calls_halted (c ∷ cs) p e h g =
+    calls_halted cs (record_after_call c p) e (call_halted c p e h (not-true _ (and_l _ _ g))) (and_r _ _ g)
 
 -- a command that is executed and lets it go: what was suspended goes on, or the part is idle
 abbrev pub LetGo : Phase → Phase → Type 0
-LetGo f g = (g ≡ resumedIn f) ⊎ (g ≡ Idle)
+LetGo f g = (g ≡ resumed_in f) ⊎ (g ≡ Idle)
 
 module _ (p : Record) (i : List ℕ) where
-  effect-releases : (c : Effect) (a : Addressing) (w : Work) → lets_go c ≡ true → LetGo p.phase (changed (changeBy c a w p.part p.phase i) i p).phase
-  effect-releases Looks a w h = absurd (false≢true h)
-  effect-releases Enables a w h = absurd (false≢true h)
-  effect-releases Disables a w h = absurd (false≢true h)
-  effect-releases (Programs m) a w h = absurd (false≢true h)
-  effect-releases (Erases u) a w h = absurd (false≢true h)
-  effect-releases (Writes r) a w h = absurd (false≢true h)
-  effect-releases Suspends a w h = absurd (false≢true h)
-  effect-releases Resumes a w h = inl refl
-  effect-releases Sleeps a w h = absurd (false≢true h)
-  effect-releases Wakes a w h = absurd (false≢true h)
-  effect-releases Arms a w h = absurd (false≢true h)
-  effect-releases Resets a w h = inr refl
-  effect-releases SetsLive a w h = absurd (false≢true h)
-  effect-releases ClearsErrors a w h = absurd (false≢true h)
-  effect-releases SetsBank a w h = absurd (false≢true h)
-  effect-releases (SetsFar far) a w h = absurd (false≢true h)
+  effect_releases : (c : Effect) (a : Addressing) (w : Work) → lets_go c ≡ true → LetGo p.phase (changed (change_by c a w p.part p.phase i) i p).phase
+  effect_releases Looks a w h = absurd (false≢true h)
+  effect_releases Enables a w h = absurd (false≢true h)
+  effect_releases Disables a w h = absurd (false≢true h)
+  effect_releases (Programs m) a w h = absurd (false≢true h)
+  effect_releases (Erases u) a w h = absurd (false≢true h)
+  effect_releases (Writes r) a w h = absurd (false≢true h)
+  effect_releases Suspends a w h = absurd (false≢true h)
+  effect_releases Resumes a w h = inl refl
+  effect_releases Sleeps a w h = absurd (false≢true h)
+  effect_releases Wakes a w h = absurd (false≢true h)
+  effect_releases Arms a w h = absurd (false≢true h)
+  effect_releases Resets a w h = inr refl
+  effect_releases SetsLive a w h = absurd (false≢true h)
+  effect_releases ClearsErrors a w h = absurd (false≢true h)
+  effect_releases SetsBank a w h = absurd (false≢true h)
+  effect_releases (SetsFar far) a w h = absurd (false≢true h)
 
-  decoded-releases : (wp : Bool) (o : ℕ) (d : Decoded) → decoded p.part.blocks p.part.bank (get_or i 0 0) ≡ d → letsGoBy d ≡ true → (transacted p (arrayBytes p.part.blocks) rowsBytes wp i o).number ≡ 0
-      → LetGo p.phase (recordAfterCall (transaction wp i o) p).phase
-  decoded-releases wp o (Known k) e h z =
-      subst⁻¹ (λ (t : Answer). LetGo p.phase t.next.phase) (executed-so p (arrayBytes p.part.blocks) rowsBytes wp i o k e z) (effect-releases (columns k).effect (addressingOn (columns k) p.part) (begun (columns k) p.part i) h)
-  decoded-releases wp o Unknown e h z = absurd (false≢true h)
+  decoded_releases : (wp : Bool) (o : ℕ) (d : Decoded) → decoded p.part.blocks p.part.bank (get_or i 0 0) ≡ d → lets_go_by d ≡ true → (transacted p (array_bytes p.part.blocks) rows_bytes wp i o).number ≡ 0
+      → LetGo p.phase (record_after_call (transaction wp i o) p).phase
+  decoded_releases wp o (Known k) e h z =
+      subst⁻¹ (λ (t : Answer). LetGo p.phase t.next.phase) (executed_so p (array_bytes p.part.blocks) rows_bytes wp i o k e z) (effect_releases (columns k).effect (addressing_on (columns k) p.part) (begun (columns k) p.part i) h)
+  decoded_releases wp o Unknown e h z = absurd (false≢true h)
 
 -- and so does every call that lets it go
-pub call-lets-go : (c : Call) (p : Record) → releases c p ≡ true → LetGo p.phase (recordAfterCall c p).phase
-call-lets-go (transaction wp i o) p h = decoded-releases p i wp o (decoded p.part.blocks p.part.bank (get_or i 0 0)) refl (and_r _ _ h) (eqb-true _ _ (and_l _ _ h))
-call-lets-go (ticks n) p h = absurd (false≢true h)
+pub call_lets_go : (c : Call) (p : Record) → releases c p ≡ true → LetGo p.phase (record_after_call c p).phase
+call_lets_go (transaction wp i o) p h = decoded_releases p i wp o (decoded p.part.blocks p.part.bank (get_or i 0 0)) refl (and_r _ _ h) (eqb-true _ _ (and_l _ _ h))
+call_lets_go (ticks n) p h = absurd (false≢true h)
 
 -- nothing is suspended then
-none-halted : (f g : Phase) → LetGo f g → halted g ≡ NoWork
-none-halted f g (inl e) = ap halted e ∙ phase-halts (halted f) NoWork
-none-halted f g (inr e) = ap halted e
+none_halted : (f g : Phase) → LetGo f g → halted g ≡ NoWork
+none_halted f g (inl e) = ap halted e ∙ phase_halts (halted f) NoWork
+none_halted f g (inr e) = ap halted e
 
-pub call-releases : (c : Call) (p : Record) → releases c p ≡ true → halted (recordAfterCall c p).phase ≡ NoWork
-call-releases c p h = none-halted p.phase (recordAfterCall c p).phase (call-lets-go c p h)
+pub call_releases : (c : Call) (p : Record) → releases c p ≡ true → halted (record_after_call c p).phase ≡ NoWork
+call_releases c p h = none_halted p.phase (record_after_call c p).phase (call_lets_go c p h)

@@ -7,39 +7,39 @@ use Rattle.types.specs.declared.Work.{Work}
 use Rattle.types.specs.declared.Work.TheVariants.{NoWork, At}
 use Rattle.types.specs.declared.Record.{Record}
 use Rattle.words.specs.Logic.{◌and◌, ◌or◌}
-use Rattle.paper.specs.Phases.{running, halted, isIdle}
-use Rattle.paper.specs.Operations.{ticksDone}
-use Rattle.paper.specs.History.{Call, transaction, ticks, recordAfterCall}
+use Rattle.paper.specs.Phases.{running, halted, is_idle}
+use Rattle.paper.specs.Operations.{ticks_done}
+use Rattle.paper.specs.History.{Call, transaction, ticks, record_after_call}
 
 -- what is under way: what is suspended, also while a program runs within it; and where nothing is suspended, what runs
 abbrev pub first_of : Work → Work → Work
 first_of NoWork w = w
 first_of (At o) w = At o
 
-abbrev pub underWay : Phase → Work
-underWay f = first_of (halted f) (running f)
+abbrev pub under_way : Phase → Work
+under_way f = first_of (halted f) (running f)
 
 -- how many of its ticks are done
 abbrev pub done_of : Work → ℕ
 done_of NoWork = 0
-done_of (At o) = ticksDone o
+done_of (At o) = ticks_done o
 
-abbrev pub doneIn : Phase → ℕ
-doneIn f = done_of (underWay f)
+abbrev pub done_in : Phase → ℕ
+done_in f = done_of (under_way f)
 
 -- it is the erase of the unit u that begins at b
 abbrev pub Erasing : EraseUnit → ℕ → Phase → Type 0
-Erasing u b f = underWay f ≡ At (Erase u b (doneIn f))
+Erasing u b f = under_way f ≡ At (Erase u b (done_in f))
 
 -- the part is idle after none of the calls: what was under way before them still is, neither ended nor dropped
-abbrev pub neverIdle : List Call → Record → Bool
-neverIdle [] p = true
-neverIdle (c ∷ cs) p = not (isIdle (recordAfterCall c p).phase) and neverIdle cs (recordAfterCall c p)
+abbrev pub never_idle : List Call → Record → Bool
+never_idle [] p = true
+never_idle (c ∷ cs) p = not (is_idle (record_after_call c p).phase) and never_idle cs (record_after_call c p)
 
 -- what is under way runs to its end over the calls: ticks make the part idle, and no transaction before them does, as a reset would. After that any calls may come
-abbrev pub runsToEnd : List Call → Record → Bool
-runsToEnd [] p = false
-runsToEnd (transaction wp i o ∷ cs) p =
-    not (isIdle (recordAfterCall (transaction wp i o) p).phase) and runsToEnd cs (recordAfterCall (transaction wp i o) p)
-runsToEnd (ticks n ∷ cs) p =
-    isIdle (recordAfterCall (ticks n) p).phase or runsToEnd cs (recordAfterCall (ticks n) p)
+abbrev pub runs_to_end : List Call → Record → Bool
+runs_to_end [] p = false
+runs_to_end (transaction wp i o ∷ cs) p =
+    not (is_idle (record_after_call (transaction wp i o) p).phase) and runs_to_end cs (record_after_call (transaction wp i o) p)
+runs_to_end (ticks n ∷ cs) p =
+    is_idle (record_after_call (ticks n) p).phase or runs_to_end cs (record_after_call (ticks n) p)

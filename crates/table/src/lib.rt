@@ -1,7 +1,7 @@
 // The command table.
 ghost use Rattle.std.specs.Prelude.{◌≡◌};
-ghost use Rattle.paper.specs.Table.{line, columns, addressing, takenAsleep, takenBusy, takenSuspended, lengthOk, drives};
-ghost use Rattle.paper.specs.Reads.{firstDriven};
+ghost use Rattle.paper.specs.Table.{line, columns, addressing, taken_asleep, taken_busy, taken_suspended, length_ok, drives};
+ghost use Rattle.paper.specs.Reads.{first_driven};
 
 use types::Effect::*;
 use types::EraseUnit::*;
@@ -109,7 +109,7 @@ pub fn addressing(named: Named, bank: u8) -> Addressing
 
 // Whether a command is taken while the part is asleep.
 pub fn taken_asleep(taken: Taken) -> bool
-    ensures { result ≡ takenAsleep taken }
+    ensures { result ≡ taken_asleep taken }
 {
     match taken {
         Taken::Rest => false,
@@ -123,7 +123,7 @@ pub fn taken_asleep(taken: Taken) -> bool
 
 // Whether it is taken while the part is busy.
 pub fn taken_busy(taken: Taken) -> bool
-    ensures { result ≡ takenBusy taken }
+    ensures { result ≡ taken_busy taken }
 {
     match taken {
         Taken::Rest => false,
@@ -137,7 +137,7 @@ pub fn taken_busy(taken: Taken) -> bool
 
 // Whether it is taken while the part is suspended, from an erase or from a program.
 pub fn taken_suspended(taken: Taken, erase: bool) -> bool
-    ensures { result ≡ takenSuspended taken erase }
+    ensures { result ≡ taken_suspended taken erase }
 {
     match taken {
         Taken::Rest => false,
@@ -151,7 +151,7 @@ pub fn taken_suspended(taken: Taken, erase: bool) -> bool
 
 // Whether a transaction of n bytes has the length that the table asks for.
 pub fn length_ok(length: Length, n: usize) -> bool
-    ensures { result ≡ lengthOk length n }
+    ensures { result ≡ length_ok length n }
 {
     match length {
         Length::Exactly(l) => n == l,
@@ -179,7 +179,7 @@ pub fn drives_any(source: Source) -> bool
 
 // The first driven place of n output places: n where nothing is driven.
 pub fn first_driven(k: Columns, n: usize) -> usize
-    ensures { result ≡ firstDriven k n }
+    ensures { result ≡ first_driven k n }
 {
     let source = k.source;
     if drives_any(source) {

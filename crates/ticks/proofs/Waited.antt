@@ -17,87 +17,87 @@ use Rattle.types.specs.declared.Change.TheVariants.{Same, Runs}
 use Rattle.types.specs.declared.Record.{Record}
 use Rattle.types.specs.declared.Ticked.{Ticked}
 use Rattle.types.specs.declared.Waited.{Waited}
-use Rattle.paper.specs.Sizes.{pageBytes, arrayBytes, rowsBytes}
+use Rattle.paper.specs.Sizes.{page_bytes, array_bytes, rows_bytes}
 use Rattle.paper.specs.Phases.{running}
-use Rattle.paper.specs.Operations.{ticksLeft, advancedBy}
+use Rattle.paper.specs.Operations.{ticks_left, advanced_by}
 use Rattle.paper.specs.Soundness.{sound}
 use Rattle.paper.specs.Commands.{changed}
-use Rattle.paper.specs.Numbers.{tickNumber}
-use Rattle.paper.specs.Ticks.{finishedPart, finished, advanced, recordAfter, memoryAfter, workingTicks}
-use Rattle.paper.specs.Calls.{ticked, tickedMemory}
-use Rattle.paper.proofs.Soundness.{running-in-order}
-use Rattle.paper.proofs.Numbers.{TicksTaken, ticks-taken}
-use Rattle.paper.proofs.ManyTicks.{ran-all, rest-record, rest-memory, rest-works}
-use Rattle.ticks.specs.Waited.{ticksReached, memoryReached, tickChange, waitedOf, waitedMemory, tickedBy}
-use Rattle.ticks.proofs.OneMemory.{left-within}
+use Rattle.paper.specs.Numbers.{tick_number}
+use Rattle.paper.specs.Ticks.{finished_part, finished, advanced, record_after, memory_after, working_ticks}
+use Rattle.paper.specs.Calls.{ticked, ticked_memory}
+use Rattle.paper.proofs.Soundness.{running_in_order}
+use Rattle.paper.proofs.Numbers.{TicksTaken, ticks_taken}
+use Rattle.paper.proofs.ManyTicks.{ran_all, rest_record, rest_memory, rest_works}
+use Rattle.ticks.specs.Waited.{ticks_reached, memory_reached, tick_change, waited_of, waited_memory, ticked_by}
+use Rattle.ticks.proofs.OneMemory.{left_within}
 
 -- whichever it is
-changed-as : (p : Record) (o : Operation) (k : ℕ) (t : Bool)
-    → changed (cond {A = Change} t (Runs (finishedPart p.part p.phase o) Zero NoWork) (Runs p.part Kept (At (advancedBy k o)))) [] p
-    ≡ cond t (finished p o) (advanced p (advancedBy k o))
-changed-as p o k true = refl
-changed-as p o k false = refl
+changed_as : (p : Record) (o : Operation) (k : ℕ) (t : Bool)
+    → changed (cond {A = Change} t (Runs (finished_part p.part p.phase o) Zero NoWork) (Runs p.part Kept (At (advanced_by k o)))) [] p
+    ≡ cond t (finished p o) (advanced p (advanced_by k o))
+changed_as p o k true = refl
+changed_as p o k false = refl
 
 module _ (n : ℕ) (p : Record) (s : sound p ≡ true) where
-  changed-at : (w : Work) → running p.phase ≡ w → changed (tickChange n w p.part p.phase) [] p ≡ recordAfter n p
-  changed-at NoWork e = sym (rest-record p e n)
-  changed-at (At o) e =
-      let k = min n (ticksLeft o p.part.blocks) in
-      changed-as p o k (eqb k (ticksLeft o p.part.blocks))
-      ∙ sym (ran-all p o e n k (running-in-order p o e s).going refl).next
+  changed_at : (w : Work) → running p.phase ≡ w → changed (tick_change n w p.part p.phase) [] p ≡ record_after n p
+  changed_at NoWork e = sym (rest_record p e n)
+  changed_at (At o) e =
+      let k = min n (ticks_left o p.part.blocks) in
+      changed_as p o k (eqb k (ticks_left o p.part.blocks))
+      ∙ sym (ran_all p o e n k (running_in_order p o e s).going refl).next
 
   -- the record after n ticks
-  pub changed-ticks : changed (tickChange n (running p.phase) p.part p.phase) [] p ≡ recordAfter n p
-  changed-ticks = changed-at (running p.phase) refl
+  pub changed_ticks : changed (tick_change n (running p.phase) p.part p.phase) [] p ≡ record_after n p
+  changed_ticks = changed_at (running p.phase) refl
 
   -- how many of them do work
-  reached-at : (w : Work) → running p.phase ≡ w → ticksReached n w p.part.blocks ≡ workingTicks n p
-  reached-at NoWork e = sym (rest-works p e n)
-  reached-at (At o) e = sym (ran-all p o e n _ (running-in-order p o e s).going refl).done
+  reached_at : (w : Work) → running p.phase ≡ w → ticks_reached n w p.part.blocks ≡ working_ticks n p
+  reached_at NoWork e = sym (rest_works p e n)
+  reached_at (At o) e = sym (ran_all p o e n _ (running_in_order p o e s).going refl).done
 
-  pub reached-ticks : ticksReached n (running p.phase) p.part.blocks ≡ workingTicks n p
-  reached-ticks = reached-at (running p.phase) refl
+  pub reached_ticks : ticks_reached n (running p.phase) p.part.blocks ≡ working_ticks n p
+  reached_ticks = reached_at (running p.phase) refl
 
   -- and what they make of a memory that is the part's own
-  module _ (m : Memory) (a r : ℕ) (ea : a ≡ arrayBytes p.part.blocks) (er : r ≡ rowsBytes) (eg : length p.page ≡ pageBytes) (xs : List ℕ) where
-    memory-at : (w : Work) → running p.phase ≡ w → memoryReached m n w p.part.blocks p.page a r xs ≡ memoryAfter m n p xs
-    memory-at NoWork e = sym (rest-memory p e m xs n)
-    memory-at (At o) e =
-        let k = min n (ticksLeft o p.part.blocks) in
-        let i = running-in-order p o e s in
-        let few : k ≤ ticksLeft o p.part.blocks = omega arith in
-        rw (left-within o p.part.blocks p.part.stored k (length p.page) a r i few eg ea er)
-        (sym ((ran-all p o e n k i.going refl).memory m xs))
+  module _ (m : Memory) (a r : ℕ) (ea : a ≡ array_bytes p.part.blocks) (er : r ≡ rows_bytes) (eg : length p.page ≡ page_bytes) (xs : List ℕ) where
+    memory_at : (w : Work) → running p.phase ≡ w → memory_reached m n w p.part.blocks p.page a r xs ≡ memory_after m n p xs
+    memory_at NoWork e = sym (rest_memory p e m xs n)
+    memory_at (At o) e =
+        let k = min n (ticks_left o p.part.blocks) in
+        let i = running_in_order p o e s in
+        let few : k ≤ ticks_left o p.part.blocks = omega arith in
+        rw (left_within o p.part.blocks p.part.stored k (length p.page) a r i few eg ea er)
+        (sym ((ran_all p o e n k i.going refl).memory m xs))
 
-    pub reached-memory : memoryReached m n (running p.phase) p.part.blocks p.page a r xs ≡ memoryAfter m n p xs
-    reached-memory = memory-at (running p.phase) refl
+    pub reached_memory : memory_reached m n (running p.phase) p.part.blocks p.page a r xs ≡ memory_after m n p xs
+    reached_memory = memory_at (running p.phase) refl
 
 module _ (p : Record) (a r n : ℕ) where
   abbrev number : ℕ
-  number = tickNumber p.part.blocks (sound p) a r n
+  number = tick_number p.part.blocks (sound p) a r n
 
   taken : eqb number 0 ≡ true → TicksTaken p.part.blocks (sound p) a r n
-  taken e = ticks-taken _ _ _ _ _ (eqb-true _ _ e)
+  taken e = ticks_taken _ _ _ _ _ (eqb-true _ _ e)
 
-  told-as : (t : Bool) → eqb number 0 ≡ t
-      → tickedBy (cond {A = Waited} t (record { change = tickChange n (running p.phase) p.part p.phase; number = 0; done = ticksReached n (running p.phase) p.part.blocks }) (record { change = Same; number = number; done = 0 })) p
-      ≡ cond {A = Ticked} t (record { next = recordAfter n p; number = 0; done = workingTicks n p }) (record { next = p; number = number; done = 0 })
-  told-as true e =
-      ap (λ (q : Record). record { next = q; number = 0; done = ticksReached n (running p.phase) p.part.blocks }) (changed-ticks n p (taken e).is-sound)
-      ∙ ap (λ (k : ℕ). record { next = recordAfter n p; number = 0; done = k }) (reached-ticks n p (taken e).is-sound)
-  told-as false e = refl
+  told_as_lem : (t : Bool) → eqb number 0 ≡ t
+      → ticked_by (cond {A = Waited} t (record { change = tick_change n (running p.phase) p.part p.phase; number = 0; done = ticks_reached n (running p.phase) p.part.blocks }) (record { change = Same; number = number; done = 0 })) p
+      ≡ cond {A = Ticked} t (record { next = record_after n p; number = 0; done = working_ticks n p }) (record { next = p; number = number; done = 0 })
+  told_as_lem true e =
+      ap (λ (q : Record). record { next = q; number = 0; done = ticks_reached n (running p.phase) p.part.blocks }) (changed_ticks n p (taken e).is_sound)
+      ∙ ap (λ (k : ℕ). record { next = record_after n p; number = 0; done = k }) (reached_ticks n p (taken e).is_sound)
+  told_as_lem false e = refl
 
   -- what a tick call answers, made of the record
-  pub ticked-told : tickedBy (waitedOf p.part p.phase (sound p) a r n) p ≡ ticked p a r n
-  unfolding waitedOf ticked
-  ticked-told = told-as (eqb number 0) refl
+  pub ticked_told : ticked_by (waited_of p.part p.phase (sound p) a r n) p ≡ ticked p a r n
+  unfolding waited_of ticked
+  ticked_told = told_as_lem (eqb number 0) refl
 
-  memory-as : (m : Memory) (xs : List ℕ) → length p.page ≡ pageBytes → (t : Bool) → eqb number 0 ≡ t
-      → cond {A = List ℕ} t (memoryReached m n (running p.phase) p.part.blocks p.page a r xs) xs ≡ cond {A = List ℕ} t (memoryAfter m n p xs) xs
-  memory-as m xs l true e = reached-memory n p (taken e).is-sound m a r (taken e).size (taken e).rows l xs
-  memory-as m xs l false e = refl
+  memory_as : (m : Memory) (xs : List ℕ) → length p.page ≡ page_bytes → (t : Bool) → eqb number 0 ≡ t
+      → cond {A = List ℕ} t (memory_reached m n (running p.phase) p.part.blocks p.page a r xs) xs ≡ cond {A = List ℕ} t (memory_after m n p xs) xs
+  memory_as m xs l true e = reached_memory n p (taken e).is_sound m a r (taken e).size (taken e).rows l xs
+  memory_as m xs l false e = refl
 
   -- and what it leaves in a memory
-  pub memory-told : (m : Memory) (xs : List ℕ) → length p.page ≡ pageBytes → waitedMemory m p.part p.phase (sound p) p.page a r n xs ≡ tickedMemory m p a r n xs
-  unfolding waitedMemory tickedMemory
-  memory-told m xs l = memory-as m xs l (eqb number 0) refl
+  pub memory_told : (m : Memory) (xs : List ℕ) → length p.page ≡ page_bytes → waited_memory m p.part p.phase (sound p) p.page a r n xs ≡ ticked_memory m p a r n xs
+  unfolding waited_memory ticked_memory
+  memory_told m xs l = memory_as m xs l (eqb number 0) refl

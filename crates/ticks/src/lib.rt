@@ -3,15 +3,15 @@
 ghost use Rattle.std.specs.Prelude.{◌≡◌, cond, ◌+◌, ◌*◌, ◌^◌, ◌≤◌, ◌<◌, length};
 ghost use Rattle.types.specs.declared.Memory.TheVariants.{Array, Rows};
 ghost use Rattle.types.specs.declared.Work.TheVariants.{At};
-ghost use Rattle.paper.specs.Registers.{registerWritten, storedAfter};
+ghost use Rattle.paper.specs.Registers.{register_written, stored_after};
 ghost use Rattle.paper.specs.Phases.{running};
-ghost use Rattle.paper.specs.Operations.{ticksDone, ticksLeft, advancedBy};
-ghost use Rattle.paper.specs.Ticks.{finishedPart};
-ghost use Rattle.paper.specs.Calls.{ticked, tickedMemory};
-ghost use Rattle.record_bytes.specs.Read.{recordIn};
-ghost use Rattle.ticks.specs.OneMemory.{pagesErased, bytesNarrowed, programWithin, eraseWithin, ranWithin};
-ghost use Rattle.ticks.specs.Waited.{ticksReached, memoryReached, changeAfter, tickChange, waitedOf, waitedMemory};
-ghost use Rattle.ticks.specs.InBytes.{heldWorked, tickBytes, tickMemory};
+ghost use Rattle.paper.specs.Operations.{ticks_done, ticks_left, advanced_by};
+ghost use Rattle.paper.specs.Ticks.{finished_part};
+ghost use Rattle.paper.specs.Calls.{ticked, ticked_memory};
+ghost use Rattle.record_bytes.specs.Read.{record_in};
+ghost use Rattle.ticks.specs.OneMemory.{pages_erased, bytes_narrowed, program_within, erase_within, ran_within};
+ghost use Rattle.ticks.specs.Waited.{ticks_reached, memory_reached, change_after, tick_change, waited_of, waited_memory};
+ghost use Rattle.ticks.specs.InBytes.{held_worked, tick_bytes, tick_memory};
 
 use record_bytes::places;
 use types::{
@@ -22,7 +22,7 @@ use types::{
 // So many pages from a place on set to FFh, lowest first.
 fn erase_pages(memory: &mut [u8], from: usize, count: usize)
     requires { from + count * 256 ≤ length memory.old }
-    ensures { memory.new ≡ pagesErased count from memory.old }
+    ensures { memory.new ≡ pages_erased count from memory.old }
 {
     let mut i = 0;
     while i < count {
@@ -34,7 +34,7 @@ fn erase_pages(memory: &mut [u8], from: usize, count: usize)
 // So many kept bytes, from byte done on, written in order of arrival to their places in a page.
 fn narrow_page(page: &mut [u8], start: u8, done: usize, kept: &[u8], count: usize)
     requires { (done + count ≤ length kept.now) × (length page.old ≡ 256) }
-    ensures { page.new ≡ bytesNarrowed count 0 start done kept.now page.old }
+    ensures { page.new ≡ bytes_narrowed count 0 start done kept.now page.old }
 {
     let mut i = 0;
     while i < count {
@@ -48,7 +48,7 @@ fn narrow_page(page: &mut [u8], start: u8, done: usize, kept: &[u8], count: usiz
 // The same to the page at a base of a memory, which is lent on.
 fn narrow_bytes(memory: &mut [u8], base: usize, start: u8, done: usize, kept: &[u8], count: usize)
     requires { (done + count ≤ length kept.now) × (base + 256 ≤ length memory.old) }
-    ensures { memory.new ≡ bytesNarrowed count base start done kept.now memory.old }
+    ensures { memory.new ≡ bytes_narrowed count base start done kept.now memory.old }
 {
     let end = base + types::PAGE_BYTES;
     narrow_page(&mut memory[base..end], start, done, kept, count);
@@ -57,7 +57,7 @@ fn narrow_bytes(memory: &mut [u8], base: usize, start: u8, done: usize, kept: &[
 // Whether so many ticks of a program lie within kept bytes of page data, and its page within a memory of all bytes.
 fn program_within(base: usize, done: usize, count: usize, kept: usize, all: usize) -> bool
     requires { (done + count < 2 ^ 64) × (256 ≤ all) }
-    ensures { result ≡ programWithin base done count kept all }
+    ensures { result ≡ program_within base done count kept all }
 {
     words::both(done + count <= kept, base <= all - types::PAGE_BYTES)
 }
@@ -65,7 +65,7 @@ fn program_within(base: usize, done: usize, count: usize, kept: usize, all: usiz
 // Whether so many ticks of an erase lie within a memory of all bytes.
 fn erase_within(base: usize, done: usize, count: usize, all: usize) -> bool
     requires { done + count < 2 ^ 64 }
-    ensures { result ≡ eraseWithin base done count all }
+    ensures { result ≡ erase_within base done count all }
 {
     if all < base {
         return false;
@@ -76,7 +76,7 @@ fn erase_within(base: usize, done: usize, count: usize, all: usize) -> bool
 // So many ticks of a program of a memory, if they lie within it and the page data.
 fn program(memory: &mut [u8], base: usize, start: u8, done: usize, kept: &[u8], count: usize)
     requires { (done + count < 2 ^ 64) × (256 ≤ length memory.old) }
-    ensures { memory.new ≡ cond (programWithin base done count (length kept.now) (length memory.old)) (bytesNarrowed count base start done kept.now memory.old) memory.old }
+    ensures { memory.new ≡ cond (program_within base done count (length kept.now) (length memory.old)) (bytes_narrowed count base start done kept.now memory.old) memory.old }
 {
     let within = program_within(base, done, count, kept.len(), memory.len());
     if within {
@@ -87,7 +87,7 @@ fn program(memory: &mut [u8], base: usize, start: u8, done: usize, kept: &[u8], 
 // So many ticks of an erase of a memory, if they lie within it.
 fn erase(memory: &mut [u8], base: usize, done: usize, count: usize)
     requires { done + count < 2 ^ 64 }
-    ensures { memory.new ≡ cond (eraseWithin base done count (length memory.old)) (pagesErased count (base + done * 256) memory.old) memory.old }
+    ensures { memory.new ≡ cond (erase_within base done count (length memory.old)) (pages_erased count (base + done * 256) memory.old) memory.old }
 {
     let within = erase_within(base, done, count, memory.len());
     if within {
@@ -97,8 +97,8 @@ fn erase(memory: &mut [u8], base: usize, done: usize, count: usize)
 
 // So many ticks of an operation, on the memory that it is of, if they lie within it.
 fn touch(op: Operation, count: usize, kept: &[u8], array: &mut [u8], rows: &mut [u8])
-    requires { (ticksDone op + count < 2 ^ 64) × (256 ≤ length array.old) × (256 ≤ length rows.old) }
-    ensures { (array.new ≡ ranWithin Array count op kept.now (length array.old) (length rows.old) array.old) × (rows.new ≡ ranWithin Rows count op kept.now (length array.old) (length rows.old) rows.old) }
+    requires { (ticks_done op + count < 2 ^ 64) × (256 ≤ length array.old) × (256 ≤ length rows.old) }
+    ensures { (array.new ≡ ran_within Array count op kept.now (length array.old) (length rows.old) array.old) × (rows.new ≡ ran_within Rows count op kept.now (length array.old) (length rows.old) rows.old) }
 {
     match op {
         Operation::Program {
@@ -123,7 +123,7 @@ fn touch(op: Operation, count: usize, kept: &[u8], array: &mut [u8], rows: &mut 
 }
 
 fn register_written(register: Register, value: u8, stored: Stored) -> Stored
-    ensures { result ≡ registerWritten register value stored }
+    ensures { result ≡ register_written register value stored }
 {
     let mut next = stored;
     match register {
@@ -145,7 +145,7 @@ fn register_written(register: Register, value: u8, stored: Stored) -> Stored
 
 // The registers after an operation's last tick.
 fn stored_after(op: Operation, stored: Stored) -> Stored
-    ensures { result ≡ storedAfter op stored }
+    ensures { result ≡ stored_after op stored }
 {
     match op {
         Operation::Program { .. } => stored,
@@ -156,7 +156,7 @@ fn stored_after(op: Operation, stored: Stored) -> Stored
 
 // The part after an operation's last tick.
 fn finish(part: Part, phase: Phase, op: Operation) -> Part
-    ensures { result ≡ finishedPart part phase op }
+    ensures { result ≡ finished_part part phase op }
 {
     let stored = part.stored;
     record::make(
@@ -169,8 +169,8 @@ fn finish(part: Part, phase: Phase, op: Operation) -> Part
 
 // The operation with so many ticks more done.
 fn advance(op: Operation, count: usize) -> Operation
-    requires { ticksDone op + count < 2 ^ 64 }
-    ensures { result ≡ advancedBy count op }
+    requires { ticks_done op + count < 2 ^ 64 }
+    ensures { result ≡ advanced_by count op }
 {
     match op {
         Operation::Program {
@@ -200,8 +200,8 @@ fn advance(op: Operation, count: usize) -> Operation
 
 // What so many ticks of an operation change, of those that are left.
 fn change_after(count: usize, left: usize, op: Operation, part: Part, phase: Phase) -> Change
-    requires { (ticksDone op + count < 2 ^ 64) × (left ≡ ticksLeft op part.blocks) }
-    ensures { result ≡ changeAfter count op part phase }
+    requires { (ticks_done op + count < 2 ^ 64) × (left ≡ ticks_left op part.blocks) }
+    ensures { result ≡ change_after count op part phase }
 {
     if count == left {
         let last = finish(part, phase, op);
@@ -221,7 +221,7 @@ fn work(
     ticks: usize,
 ) -> Waited
     requires { (256 ≤ length array.old) × (256 ≤ length rows.old) }
-    ensures { (result ≡ record { change = tickChange ticks (At op) part phase; number = 0; done = ticksReached ticks (At op) part.blocks }) × (array.new ≡ memoryReached Array ticks (At op) part.blocks page.now (length array.old) (length rows.old) array.old) × (rows.new ≡ memoryReached Rows ticks (At op) part.blocks page.now (length array.old) (length rows.old) rows.old) }
+    ensures { (result ≡ record { change = tick_change ticks (At op) part phase; number = 0; done = ticks_reached ticks (At op) part.blocks }) × (array.new ≡ memory_reached Array ticks (At op) part.blocks page.now (length array.old) (length rows.old) array.old) × (rows.new ≡ memory_reached Rows ticks (At op) part.blocks page.now (length array.old) (length rows.old) rows.old) }
 {
     let all = operations::ticks_in_all(op, part.blocks);
     let left = all - words::lesser(all, operations::ticks_done(op));
@@ -245,7 +245,7 @@ fn run(
     ticks: usize,
 ) -> Waited
     requires { (256 ≤ length array.old) × (256 ≤ length rows.old) }
-    ensures { (result ≡ record { change = tickChange ticks (running phase) part phase; number = 0; done = ticksReached ticks (running phase) part.blocks }) × (array.new ≡ memoryReached Array ticks (running phase) part.blocks page.now (length array.old) (length rows.old) array.old) × (rows.new ≡ memoryReached Rows ticks (running phase) part.blocks page.now (length array.old) (length rows.old) rows.old) }
+    ensures { (result ≡ record { change = tick_change ticks (running phase) part phase; number = 0; done = ticks_reached ticks (running phase) part.blocks }) × (array.new ≡ memory_reached Array ticks (running phase) part.blocks page.now (length array.old) (length rows.old) array.old) × (rows.new ≡ memory_reached Rows ticks (running phase) part.blocks page.now (length array.old) (length rows.old) rows.old) }
 {
     let running = phases::running(phase);
     match running {
@@ -271,9 +271,9 @@ pub fn tick_part(
     rows: &mut [u8],
     ticks: usize,
 ) -> Waited
-    ensures answer { result ≡ waitedOf part phase sound (length array.old) (length rows.old) ticks }
-    ensures array { array.new ≡ waitedMemory Array part phase sound page.now (length array.old) (length rows.old) ticks array.old }
-    ensures rows { rows.new ≡ waitedMemory Rows part phase sound page.now (length array.old) (length rows.old) ticks rows.old }
+    ensures answer { result ≡ waited_of part phase sound (length array.old) (length rows.old) ticks }
+    ensures array { array.new ≡ waited_memory Array part phase sound page.now (length array.old) (length rows.old) ticks array.old }
+    ensures rows { rows.new ≡ waited_memory Rows part phase sound page.now (length array.old) (length rows.old) ticks rows.old }
 {
     let number = refusals::tick_number(part.blocks, sound, array.len(), rows.len(), ticks);
     if number != 0 {
@@ -290,8 +290,8 @@ pub fn tick_part(
 // or 6, it writes nothing and gives the record back with 0 ticks.
 pub fn tick(state: Record, array: &mut [u8], rows: &mut [u8], ticks: usize) -> Ticked
     ensures answer { result ≡ ticked state (length array.old) (length rows.old) ticks }
-    ensures array { array.new ≡ tickedMemory Array state (length array.old) (length rows.old) ticks array.old }
-    ensures rows { rows.new ≡ tickedMemory Rows state (length array.old) (length rows.old) ticks rows.old }
+    ensures array { array.new ≡ ticked_memory Array state (length array.old) (length rows.old) ticks array.old }
+    ensures rows { rows.new ≡ ticked_memory Rows state (length array.old) (length rows.old) ticks rows.old }
 {
     let part = state.part;
     let phase = state.phase;
@@ -310,10 +310,10 @@ pub fn tick(state: Record, array: &mut [u8], rows: &mut [u8], ticks: usize) -> T
 // So many ticks of the record that bytes hold, which is written over them. It answers the number, and what the ticks reached;
 // refused, with 1, 2, 5 or 6, every buffer is as it was. Where the bytes hold no record, 1 is not judged: there is no size.
 pub fn tick_bytes(bytes: &mut [u8], array: &mut [u8], rows: &mut [u8], ticks: usize) -> Worked
-    ensures answer { result ≡ heldWorked (recordIn bytes.old) (length array.old) (length rows.old) ticks }
-    ensures bytes { bytes.new ≡ tickBytes (recordIn bytes.old) (length array.old) (length rows.old) ticks bytes.old }
-    ensures array { array.new ≡ tickMemory Array (recordIn bytes.old) (length array.old) (length rows.old) ticks array.old }
-    ensures rows { rows.new ≡ tickMemory Rows (recordIn bytes.old) (length array.old) (length rows.old) ticks rows.old }
+    ensures answer { result ≡ held_worked (record_in bytes.old) (length array.old) (length rows.old) ticks }
+    ensures bytes { bytes.new ≡ tick_bytes (record_in bytes.old) (length array.old) (length rows.old) ticks bytes.old }
+    ensures array { array.new ≡ tick_memory Array (record_in bytes.old) (length array.old) (length rows.old) ticks array.old }
+    ensures rows { rows.new ≡ tick_memory Rows (record_in bytes.old) (length array.old) (length rows.old) ticks rows.old }
 {
     let found = record_bytes::reading::read(bytes);
     if !found.ok {

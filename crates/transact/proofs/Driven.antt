@@ -16,13 +16,13 @@ use Rattle.types.specs.declared.Work.{Work}
 use Rattle.types.specs.declared.Addressing.{Addressing}
 use Rattle.types.specs.declared.Columns.{Columns}
 use Rattle.types.specs.declared.Decoded.TheVariants.{Known}
-use Rattle.paper.specs.Sizes.{sizeOk, arrayBytes, rowsBytes}
+use Rattle.paper.specs.Sizes.{size_ok, array_bytes, rows_bytes}
 use Rattle.paper.specs.Address.{row_ok}
-use Rattle.paper.specs.Table.{columns, addressingOn, drives}
-use Rattle.paper.specs.Reads.{sourceBytes}
+use Rattle.paper.specs.Table.{columns, addressing_on, drives}
+use Rattle.paper.specs.Reads.{source_bytes}
 use Rattle.paper.specs.Commands.{begins, begun}
-use Rattle.paper.specs.Numbers.{addressOk, commandNumber, ignoredNumber}
-use Rattle.paper.proofs.Sizes.{size-range}
+use Rattle.paper.specs.Numbers.{address_ok, command_number, ignored_number}
+use Rattle.paper.proofs.Sizes.{size_range}
 use Rattle.paper.proofs.Addresses.{row_inside}
 use Rattle.transact.specs.Shown.{HasBytes}
 
@@ -39,10 +39,10 @@ Asked DeviceByte g i = Unit {0}
 Asked ExtendedByte g i = Unit {0}
 Asked BankByte g i = Unit {0}
 
-module _ (id : Identity) (p : Part) (xs rs i : List ℕ) (s : sizeOk p.blocks ≡ true) (array : length xs ≡ arrayBytes p.blocks) (rows : length rs ≡ rowsBytes) where
-  some : (w : Source) (g : Addressing) → Asked w g i → drives w ≡ true → length (sourceBytes w g id p xs rs i) ≡ 0 → ⊥
+module _ (id : Identity) (p : Part) (xs rs i : List ℕ) (s : size_ok p.blocks ≡ true) (array : length xs ≡ array_bytes p.blocks) (rows : length rs ≡ rows_bytes) where
+  some : (w : Source) (g : Addressing) → Asked w g i → drives w ≡ true → length (source_bytes w g id p xs rs i) ≡ 0 → ⊥
   some None g r d z = false≢true d
-  some ArrayBytes g r d z = omega (arith, size-range p.blocks s)
+  some ArrayBytes g r d z = omega (arith, size_range p.blocks s)
   some RowBytes g r d z =
       omega (arith, row_inside g i r, simp (length-take, length-drop) at z)
   some StatusByte g r d z = omega arith
@@ -53,56 +53,56 @@ module _ (id : Identity) (p : Part) (xs rs i : List ℕ) (s : sizeOk p.blocks �
   some ExtendedByte g r d z = omega arith
   some BankByte g r d z = omega arith
 
-  sent : (k : Command) (w : Source) → let g = addressingOn (columns k) p in Asked w g i → drives w ≡ true → length (sourceBytes w g id p xs rs i) ≡ 0 → ⊥
-  sent k w = some w (addressingOn (columns k) p)
+  sent : (k : Command) (w : Source) → let g = addressing_on (columns k) p in Asked w g i → drives w ≡ true → length (source_bytes w g id p xs rs i) ≡ 0 → ⊥
+  sent k w = some w (addressing_on (columns k) p)
 
-  pub has-bytes : (k : Command) → addressOk (columns k).named (addressingOn (columns k) p) i ≡ true → HasBytes (columns k) id p xs rs i
-  has-bytes Read h = sent Read ArrayBytes tt
-  has-bytes FastRead h = sent FastRead ArrayBytes tt
-  has-bytes ReadStatus h = sent ReadStatus StatusByte tt
-  has-bytes ReadFunction h = sent ReadFunction FunctionByte tt
-  has-bytes ReadIdentity h = sent ReadIdentity IdentityBytes tt
-  has-bytes ReadMakerDevice h = sent ReadMakerDevice MakerPair tt
-  has-bytes Wake h = sent Wake DeviceByte tt
-  has-bytes ReadRow h = sent ReadRow RowBytes h
-  has-bytes WriteEnable h = sent WriteEnable None tt
-  has-bytes WriteDisable h = sent WriteDisable None tt
-  has-bytes WriteStatus h = sent WriteStatus None tt
-  has-bytes WriteFunction h = sent WriteFunction None tt
-  has-bytes PageProgram h = sent PageProgram None tt
-  has-bytes SectorErase h = sent SectorErase None tt
-  has-bytes BlockErase32 h = sent BlockErase32 None tt
-  has-bytes BlockErase64 h = sent BlockErase64 None tt
-  has-bytes ChipErase h = sent ChipErase None tt
-  has-bytes Suspend h = sent Suspend None tt
-  has-bytes Resume h = sent Resume None tt
-  has-bytes Sleep h = sent Sleep None tt
-  has-bytes ArmReset h = sent ArmReset None tt
-  has-bytes Reset h = sent Reset None tt
-  has-bytes RowErase h = sent RowErase None tt
-  has-bytes RowProgram h = sent RowProgram None tt
-  has-bytes ReadExtended h = sent ReadExtended ExtendedByte tt
-  has-bytes SetStored h = sent SetStored None tt
-  has-bytes SetLive h = sent SetLive None tt
-  has-bytes ClearErrors h = sent ClearErrors None tt
-  has-bytes FarRead h = sent FarRead ArrayBytes tt
-  has-bytes FarFastRead h = sent FarFastRead ArrayBytes tt
-  has-bytes FarPageProgram h = sent FarPageProgram None tt
-  has-bytes FarPageProgramAtRest h = sent FarPageProgramAtRest None tt
-  has-bytes FarSectorErase h = sent FarSectorErase None tt
-  has-bytes FarBlockErase32 h = sent FarBlockErase32 None tt
-  has-bytes FarBlockErase64 h = sent FarBlockErase64 None tt
-  has-bytes ReadBank h = sent ReadBank BankByte tt
-  has-bytes WriteBank h = sent WriteBank None tt
-  has-bytes EnterFar h = sent EnterFar None tt
-  has-bytes LeaveFar h = sent LeaveFar None tt
+  pub has_bytes : (k : Command) → address_ok (columns k).named (addressing_on (columns k) p) i ≡ true → HasBytes (columns k) id p xs rs i
+  has_bytes Read h = sent Read ArrayBytes tt
+  has_bytes FastRead h = sent FastRead ArrayBytes tt
+  has_bytes ReadStatus h = sent ReadStatus StatusByte tt
+  has_bytes ReadFunction h = sent ReadFunction FunctionByte tt
+  has_bytes ReadIdentity h = sent ReadIdentity IdentityBytes tt
+  has_bytes ReadMakerDevice h = sent ReadMakerDevice MakerPair tt
+  has_bytes Wake h = sent Wake DeviceByte tt
+  has_bytes ReadRow h = sent ReadRow RowBytes h
+  has_bytes WriteEnable h = sent WriteEnable None tt
+  has_bytes WriteDisable h = sent WriteDisable None tt
+  has_bytes WriteStatus h = sent WriteStatus None tt
+  has_bytes WriteFunction h = sent WriteFunction None tt
+  has_bytes PageProgram h = sent PageProgram None tt
+  has_bytes SectorErase h = sent SectorErase None tt
+  has_bytes BlockErase32 h = sent BlockErase32 None tt
+  has_bytes BlockErase64 h = sent BlockErase64 None tt
+  has_bytes ChipErase h = sent ChipErase None tt
+  has_bytes Suspend h = sent Suspend None tt
+  has_bytes Resume h = sent Resume None tt
+  has_bytes Sleep h = sent Sleep None tt
+  has_bytes ArmReset h = sent ArmReset None tt
+  has_bytes Reset h = sent Reset None tt
+  has_bytes RowErase h = sent RowErase None tt
+  has_bytes RowProgram h = sent RowProgram None tt
+  has_bytes ReadExtended h = sent ReadExtended ExtendedByte tt
+  has_bytes SetStored h = sent SetStored None tt
+  has_bytes SetLive h = sent SetLive None tt
+  has_bytes ClearErrors h = sent ClearErrors None tt
+  has_bytes FarRead h = sent FarRead ArrayBytes tt
+  has_bytes FarFastRead h = sent FarFastRead ArrayBytes tt
+  has_bytes FarPageProgram h = sent FarPageProgram None tt
+  has_bytes FarPageProgramAtRest h = sent FarPageProgramAtRest None tt
+  has_bytes FarSectorErase h = sent FarSectorErase None tt
+  has_bytes FarBlockErase32 h = sent FarBlockErase32 None tt
+  has_bytes FarBlockErase64 h = sent FarBlockErase64 None tt
+  has_bytes ReadBank h = sent ReadBank BankByte tt
+  has_bytes WriteBank h = sent WriteBank None tt
+  has_bytes EnterFar h = sent EnterFar None tt
+  has_bytes LeaveFar h = sent LeaveFar None tt
 
 -- the number that was worked out of a command's columns and of what it begins
 module _ (c : Command) (p : Part) (f : Phase) (i : List ℕ) (wp : Bool) where
-  pub number-told : {k : Columns} {g : Addressing} {w : Work} {x : ℕ} → k ≡ columns c → g ≡ addressingOn k p → w ≡ begins k.effect g p.blocks i → x ≡ commandNumber k g w p f i wp
-      → x ≡ ignoredNumber (Known c) p f i wp
-  number-told {k} {g} ek eg ew ex =
+  pub number_told : {k : Columns} {g : Addressing} {w : Work} {x : ℕ} → k ≡ columns c → g ≡ addressing_on k p → w ≡ begins k.effect g p.blocks i → x ≡ command_number k g w p f i wp
+      → x ≡ ignored_number (Known c) p f i wp
+  number_told {k} {g} ek eg ew ex =
       ex
-      ∙ ap (λ (y : Work). commandNumber k g y p f i wp) ew
-      ∙ ap (λ (y : Addressing). commandNumber k y (begins k.effect y p.blocks i) p f i wp) eg
-      ∙ ap (λ (y : Columns). commandNumber y (addressingOn y p) (begun y p i) p f i wp) ek
+      ∙ ap (λ (y : Work). command_number k g y p f i wp) ew
+      ∙ ap (λ (y : Addressing). command_number k y (begins k.effect y p.blocks i) p f i wp) eg
+      ∙ ap (λ (y : Columns). command_number y (addressing_on y p) (begun y p i) p f i wp) ek

@@ -16,35 +16,35 @@ use Rattle.types.specs.declared.Identity.{Identity}
 use Rattle.types.specs.declared.Part.{Part}
 use Rattle.words.specs.Logic.{◌and◌}
 use Rattle.words.specs.Lists.{up_to, round}
-use Rattle.words.proofs.Lists.{upTo-const}
-use Rattle.paper.specs.Address.{rowBase}
-use Rattle.paper.specs.Table.{addressingOn, drives}
-use Rattle.paper.specs.Reads.{undrivenByte, undriven, sourceBytes, sourceStart, outputOf}
+use Rattle.words.proofs.Lists.{up_to_const}
+use Rattle.paper.specs.Address.{row_base}
+use Rattle.paper.specs.Table.{addressing_on, drives}
+use Rattle.paper.specs.Reads.{undriven_byte, undriven, source_bytes, source_start, output_of}
 use Rattle.transact.specs.Shown.{shown, HasBytes}
 
 module _ (k : Columns) (id : Identity) (p : Part) (xs rs i : List ℕ) where
   -- how the address is sent
   abbrev form : Addressing
-  form = addressingOn k p
+  form = addressing_on k p
 
   -- the output with what is driven apart
-  outputFor : Source → Bool → List ℕ
-  outputFor w t =
-      up_to (length i) (λ (j : ℕ). cond (t and leb k.from j) (round (sourceBytes w form id p xs rs i) (sourceStart w form p.blocks i) (j - k.from)) undrivenByte)
+  output_for : Source → Bool → List ℕ
+  output_for w t =
+      up_to (length i) (λ (j : ℕ). cond (t and leb k.from j) (round (source_bytes w form id p xs rs i) (source_start w form p.blocks i) (j - k.from)) undriven_byte)
 
   module _ (w : Source) (e : k.source ≡ w) where
-    pub driven-output : drives w ≡ true → outputOf k id p xs rs i ≡ shown (sourceBytes w form id p xs rs i) (sourceStart w form p.blocks i) k.from (length i)
-    unfolding outputOf outputFor ◌and◌
-    driven-output d = ap (λ (x : Source). outputFor x (drives x)) e ∙ ap (outputFor w) d
+    pub driven_output : drives w ≡ true → output_of k id p xs rs i ≡ shown (source_bytes w form id p xs rs i) (source_start w form p.blocks i) k.from (length i)
+    unfolding output_of output_for ◌and◌
+    driven_output d = ap (λ (x : Source). output_for x (drives x)) e ∙ ap (output_for w) d
 
-    pub some_bytes : drives w ≡ true → HasBytes k id p xs rs i → 0 < length (sourceBytes w form id p xs rs i)
+    pub some_bytes : drives w ≡ true → HasBytes k id p xs rs i → 0 < length (source_bytes w form id p xs rs i)
     some_bytes d h =
-        let n = subst (λ (x : Source). drives x ≡ true → length (sourceBytes x form id p xs rs i) ≡ 0 → ⊥) e h d in
-        ⊎_elim (λ z. absurd (n z)) (λ l. l) (eq-zero-or-pos (length (sourceBytes w form id p xs rs i)))
+        let n = subst (λ (x : Source). drives x ≡ true → length (source_bytes x form id p xs rs i) ≡ 0 → ⊥) e h d in
+        ⊎_elim (λ z. absurd (n z)) (λ l. l) (eq-zero-or-pos (length (source_bytes w form id p xs rs i)))
 
-  pub blank-output : k.source ≡ None → outputOf k id p xs rs i ≡ undriven (length i)
-  unfolding outputOf outputFor ◌and◌
-  blank-output e = ap (λ (x : Source). outputFor x (drives x)) e ∙ upTo-const (length i) undrivenByte
+  pub blank_output : k.source ≡ None → output_of k id p xs rs i ≡ undriven (length i)
+  unfolding output_of output_for ◌and◌
+  blank_output e = ap (λ (x : Source). output_for x (drives x)) e ∙ up_to_const (length i) undriven_byte
 
-  pub row_inside : k.source ≡ RowBytes → HasBytes k id p xs rs i → rowBase form i < length rs
+  pub row_inside : k.source ≡ RowBytes → HasBytes k id p xs rs i → row_base form i < length rs
   row_inside e h = omega (arith, simp (length-take, length-drop) at (some_bytes RowBytes e refl h))

@@ -2,13 +2,13 @@
 ghost use Rattle.std.specs.Prelude.{◌≡◌, true, false, [], ◌∷◌, ◌<◌, length, take, drop};
 ghost use Rattle.types.specs.declared.Decoded.TheVariants.{Known};
 ghost use Rattle.types.specs.declared.Change.TheVariants.{Marked};
-ghost use Rattle.paper.specs.Sizes.{sizeOk, arrayBytes, rowsBytes};
-ghost use Rattle.paper.specs.Address.{rowBase, rowByte};
-ghost use Rattle.paper.specs.Registers.{extendedRead};
-ghost use Rattle.paper.specs.Table.{addressingOn};
-ghost use Rattle.paper.specs.Reads.{undriven, outputOf};
-ghost use Rattle.paper.specs.Commands.{changeBarred};
-ghost use Rattle.paper.specs.Calls.{outcomeTo, outcomeOf, transacted, outputTo, outputAfter, transactedOutput};
+ghost use Rattle.paper.specs.Sizes.{size_ok, array_bytes, rows_bytes};
+ghost use Rattle.paper.specs.Address.{row_base, row_byte};
+ghost use Rattle.paper.specs.Registers.{extended_read};
+ghost use Rattle.paper.specs.Table.{addressing_on};
+ghost use Rattle.paper.specs.Reads.{undriven, output_of};
+ghost use Rattle.paper.specs.Commands.{change_barred};
+ghost use Rattle.paper.specs.Calls.{outcome_to, outcome_of, transacted, output_to, output_after, transacted_output};
 ghost use Rattle.transact.specs.Shown.{shown, HasBytes};
 
 use types::{
@@ -39,7 +39,7 @@ fn repeat_from(byte: u8, output: &mut [u8], from: usize)
 
 // The extended read register as it is read: bits 7..5 and the error bits of the live byte, bit 4 1, and bit 0 WIP.
 fn extended_read(part: Part) -> u8
-    ensures { result ≡ extendedRead part.live part.stored.status }
+    ensures { result ≡ extended_read part.live part.stored.status }
 {
     let live = part.live;
     live / 32 * 32 + 16 + live / 2 % 8 * 2 + part.stored.status % 2
@@ -47,8 +47,8 @@ fn extended_read(part: Part) -> u8
 
 // The row that was named, from the byte that was named on.
 fn drive_row(form: Addressing, rows: &[u8], input: &[u8], output: &mut [u8], from: usize)
-    requires { rowBase form input.now < length rows.now }
-    ensures { output.new ≡ shown (take 256 (drop (rowBase form input.now) rows.now)) (rowByte form input.now) from (length output.old) }
+    requires { row_base form input.now < length rows.now }
+    ensures { output.new ≡ shown (take 256 (drop (row_base form input.now) rows.now)) (row_byte form input.now) from (length output.old) }
 {
     let base = sent::row_base(form, input);
     let end = words::lesser(base + types::PAGE_BYTES, rows.len());
@@ -67,8 +67,8 @@ fn show(
     input: &[u8],
     output: &mut [u8],
 )
-    requires { HasBytes k identity part array.now rows.now input.now × (length output.old ≡ length input.now) × (form ≡ addressingOn k part) }
-    ensures { output.new ≡ outputOf k identity part array.now rows.now input.now }
+    requires { HasBytes k identity part array.now rows.now input.now × (length output.old ≡ length input.now) × (form ≡ addressing_on k part) }
+    ensures { output.new ≡ output_of k identity part array.now rows.now input.now }
 {
     let source = k.source;
     let from = k.from;
@@ -110,7 +110,7 @@ fn ignore(number: u8, n: usize, output: &mut [u8]) -> Outcome
 
 // It ignores one with a number that sets the error bits of the command, if it has any.
 fn bar(effect: Effect, number: u8, part: Part, n: usize, output: &mut [u8]) -> Outcome
-    ensures { (result ≡ record { change = changeBarred effect part; number = number; first = n }) × (output.new ≡ undriven (length output.old)) }
+    ensures { (result ≡ record { change = change_barred effect part; number = number; first = n }) × (output.new ≡ undriven (length output.old)) }
 {
     runs::blank(output);
     let change = effects::change_barred(effect, part);
@@ -133,8 +133,8 @@ fn answer_to(
     input: &[u8],
     output: &mut [u8],
 ) -> Outcome
-    requires { (sizeOk part.blocks ≡ true) × (length array.now ≡ arrayBytes part.blocks) × (length rows.now ≡ rowsBytes) × (length output.old ≡ length input.now) }
-    ensures { (result ≡ outcomeTo (Known command) part phase wp input.now) × (output.new ≡ outputTo (Known command) identity part phase array.now rows.now wp input.now) }
+    requires { (size_ok part.blocks ≡ true) × (length array.now ≡ array_bytes part.blocks) × (length rows.now ≡ rows_bytes) × (length output.old ≡ length input.now) }
+    ensures { (result ≡ outcome_to (Known command) part phase wp input.now) × (output.new ≡ output_to (Known command) identity part phase array.now rows.now wp input.now) }
 {
     let k = table::columns_of(command);
     let n = input.len();
@@ -173,8 +173,8 @@ pub fn transact_part(
     input: &[u8],
     output: &mut [u8],
 ) -> Outcome
-    ensures answer { result ≡ outcomeOf part phase sound (length array.now) (length rows.now) wp input.now (length output.old) }
-    ensures output { output.new ≡ outputAfter identity part phase sound array.now rows.now wp input.now output.old }
+    ensures answer { result ≡ outcome_of part phase sound (length array.now) (length rows.now) wp input.now (length output.old) }
+    ensures output { output.new ≡ output_after identity part phase sound array.now rows.now wp input.now output.old }
 {
     let n = input.len();
     let number = refusals::transaction_refusal(
@@ -212,7 +212,7 @@ pub fn transact(
     output: &mut [u8],
 ) -> Answer
     ensures answer { result ≡ transacted state (length array.now) (length rows.now) wp input.now (length output.old) }
-    ensures output { output.new ≡ transactedOutput state array.now rows.now wp input.now output.old }
+    ensures output { output.new ≡ transacted_output state array.now rows.now wp input.now output.old }
 {
     let identity = state.identity;
     let part = state.part;

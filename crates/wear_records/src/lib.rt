@@ -2,9 +2,9 @@
 // record, and what a tally makes of the records.
 ghost use Rattle.std.specs.Prelude.{◌≡◌, true, cond, suc, ◌+◌, ◌-◌, ◌/◌, ◌≤◌, ◌<◌, length};
 ghost use Rattle.types.specs.declared.Memory.TheVariants.{Array};
-ghost use Rattle.paper.specs.Sizes.{sameMemory, fromOn, sectorPages};
-ghost use Rattle.paper.specs.Wear.{oneMore, tallyBy, noTally, tally_of, worn};
-ghost use Rattle.wear_records.specs.Thin.{eraseAt, programWhere, erasedFrom, clipped};
+ghost use Rattle.paper.specs.Sizes.{same_memory, from_on, sector_pages};
+ghost use Rattle.paper.specs.Wear.{one_more, tally_by, no_tally, tally_of, worn};
+ghost use Rattle.wear_records.specs.Thin.{erase_at, program_where, erased_from, clipped};
 
 use types::{Memory, Operation, Reached, Tally, Wear, Work};
 
@@ -18,7 +18,7 @@ const FULL: u32 = 4294967295;
 
 // Whether a memory is the array: the rows have no records.
 fn in_array(memory: Memory) -> bool
-    ensures { result ≡ sameMemory Array memory }
+    ensures { result ≡ same_memory Array memory }
 {
     match memory {
         Memory::Array => true,
@@ -28,14 +28,14 @@ fn in_array(memory: Memory) -> bool
 
 // The sectors that an erase finishes in so many ticks, after those done.
 fn finished(done: usize, ticks: usize) -> usize
-    ensures { result ≡ (done + ticks) / sectorPages - done / sectorPages }
+    ensures { result ≡ (done + ticks) / sector_pages - done / sector_pages }
 {
     ticks / SECTOR_TICKS + (done % SECTOR_TICKS + ticks % SECTOR_TICKS) / SECTOR_TICKS
 }
 
 // The sectors that an erase of a memory finishes.
 fn erased_in(memory: Memory, done: usize, ticks: usize) -> usize
-    ensures { result ≡ cond (sameMemory Array memory) ((done + ticks) / sectorPages - done / sectorPages) 0 }
+    ensures { result ≡ cond (same_memory Array memory) ((done + ticks) / sector_pages - done / sector_pages) 0 }
 {
     if in_array(memory) {
         return finished(done, ticks);
@@ -45,7 +45,7 @@ fn erased_in(memory: Memory, done: usize, ticks: usize) -> usize
 
 // Whether the last tick of a program of so many bytes is among so many ticks, after those done.
 fn ends(done: usize, ticks: usize, count: usize) -> bool
-    ensures { result ≡ fromOn (suc done) ticks count }
+    ensures { result ≡ from_on (suc done) ticks count }
 {
     if done < count {
         return count - done <= ticks;
@@ -55,7 +55,7 @@ fn ends(done: usize, ticks: usize, count: usize) -> bool
 
 // The tally of ticks that count nothing.
 pub fn nothing() -> Tally
-    ensures { result ≡ noTally }
+    ensures { result ≡ no_tally }
 {
     Tally {
         first: 0,
@@ -67,7 +67,7 @@ pub fn nothing() -> Tally
 
 // What so many ticks of an operation count.
 fn tally_by(operation: Operation, ticks: usize) -> Tally
-    ensures { result ≡ tallyBy operation ticks }
+    ensures { result ≡ tally_by operation ticks }
 {
     match operation {
         Operation::Program {
@@ -111,7 +111,7 @@ pub fn tally(reached: Reached) -> Tally
 
 // One more, up to the largest count.
 fn more(n: u32) -> u32
-    ensures { result ≡ oneMore n }
+    ensures { result ≡ one_more n }
 {
     if n < FULL { n + 1 } else { n }
 }
@@ -119,7 +119,7 @@ fn more(n: u32) -> u32
 // One erase more for a sector: one field of one record changes.
 fn add_erase(wear: &mut [Wear], sector: usize)
     requires { sector < length wear.old }
-    ensures { wear.new ≡ eraseAt sector wear.old }
+    ensures { wear.new ≡ erase_at sector wear.old }
 {
     wear[sector].erases = more(wear[sector].erases);
 }
@@ -127,7 +127,7 @@ fn add_erase(wear: &mut [Wear], sector: usize)
 // One program more for a sector, where a program ended.
 fn add_program(wear: &mut [Wear], programmed: bool, sector: usize)
     requires { programmed ≡ true → sector < length wear.old }
-    ensures { wear.new ≡ programWhere programmed sector wear.old }
+    ensures { wear.new ≡ program_where programmed sector wear.old }
 {
     if programmed {
         wear[sector].programs = more(wear[sector].programs);
@@ -137,7 +137,7 @@ fn add_program(wear: &mut [Wear], programmed: bool, sector: usize)
 // One erase more for each of so many sectors.
 fn erase_each(wear: &mut [Wear], first: usize, count: usize)
     requires { first + count ≤ length wear.old }
-    ensures { wear.new ≡ erasedFrom first count wear.old }
+    ensures { wear.new ≡ erased_from first count wear.old }
 {
     let mut k = 0;
     while k < count {

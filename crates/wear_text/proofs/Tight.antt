@@ -2,8 +2,8 @@
 use Rattle.words.proofs.Allowed.{OneResult, OneExit, agree}
 use Rattle.wear_text.proofs.ByHand.write as write
 
-pub write-one : OneResult write.Learnt
-write-one κ a x y s t p q = agree p.0 q.0
+pub write_one : OneResult write.Learnt
+write_one κ a x y s t p q = agree p.0 q.0
 
-pub write-one-text : OneExit write.Learnt (λ κ s. s.1.1.0.now)
-write-one-text κ a x y s t p q = agree p.1 q.1
+pub write_one_text : OneExit write.Learnt (λ κ s. s.1.1.0.now)
+write_one_text κ a x y s t p q = agree p.1 q.1

@@ -1,8 +1,8 @@
 // The text of wear records: a line for each sector, then the largest and the total of each count.
 ghost use Rattle.std.specs.Prelude.{◌≡◌, ◌≤◌, length};
-ghost use Rattle.paper.specs.Numbers.{wearTextNumber};
-ghost use Rattle.paper.specs.WearText.{larger, wearWritten};
-ghost use Rattle.wear_text.specs.Page.{page, lined, linedTo, begunOf, finished, written_of};
+ghost use Rattle.paper.specs.Numbers.{wear_text_number};
+ghost use Rattle.paper.specs.WearText.{larger, wear_written};
+ghost use Rattle.wear_text.specs.Page.{page, lined, lined_to, begun_of, finished, written_of};
 
 use types::Wear;
 
@@ -58,7 +58,7 @@ fn line(state: State, text: &mut [u8], sector: usize, erases: u32, programs: u32
 // The lines of the first records.
 fn lines(start: State, wear: &[Wear], text: &mut [u8], count: usize) -> State
     requires { count ≤ length wear.now }
-    ensures { page result text.new ≡ linedTo wear.now count (page start text.old) }
+    ensures { page result text.new ≡ lined_to wear.now count (page start text.old) }
 {
     let mut s = start;
     let mut k = 0;
@@ -73,7 +73,7 @@ fn lines(start: State, wear: &[Wear], text: &mut [u8], count: usize) -> State
 // 1 where the size is none; 35 where there isn't one record for each sector; 4 where the buffer hasn't the length that is asked;
 // else 0.
 fn text_number(blocks: u64, records: usize, room: usize) -> u8
-    ensures { result ≡ wearTextNumber blocks records room }
+    ensures { result ≡ wear_text_number blocks records room }
 {
     if sizes::size_ok(blocks) {
         let n = blocks as usize;
@@ -86,7 +86,7 @@ fn text_number(blocks: u64, records: usize, room: usize) -> u8
 
 // The call is judged. Refused, it has no lines.
 fn begin(blocks: u64, records: usize, room: usize) -> Begun
-    ensures { result ≡ begunOf blocks records room }
+    ensures { result ≡ begun_of blocks records room }
 {
     let number = text_number(blocks, records, room);
     let state = State {
@@ -123,8 +123,8 @@ fn finish(text: &mut [u8], number: u8, state: State) -> Written
 
 // The text of the wear records of a part of so many blocks, into a buffer. Refused, with 1, 35 or 4, the buffer is as it was.
 pub fn write(blocks: u64, wear: &[Wear], text: &mut [u8]) -> Written
-    ensures answer { result ≡ written_of (wearWritten blocks wear.now text.old) }
-    ensures text { text.new ≡ (wearWritten blocks wear.now text.old).text }
+    ensures answer { result ≡ written_of (wear_written blocks wear.now text.old) }
+    ensures text { text.new ≡ (wear_written blocks wear.now text.old).text }
 {
     let b = begin(blocks, wear.len(), text.len());
     let s = lines(b.state, wear, text, b.count);

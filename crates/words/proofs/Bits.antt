@@ -24,8 +24,8 @@ and_assoc =
     omega (arith, step_left n b c, ih (b / 2) (c / 2), r, e))
 
 -- the order of two does not matter
-pub and-swap : (x a b : ℕ) → bit_and (bit_and x a) b ≡ bit_and (bit_and x b) a
-and-swap x a b = and_assoc x a b ∙ ap (bit_and x) (and_comm a b) ∙ sym (and_assoc x b a)
+pub and_swap : (x a b : ℕ) → bit_and (bit_and x a) b ≡ bit_and (bit_and x b) a
+and_swap x a b = and_assoc x a b ∙ ap (bit_and x) (and_comm a b) ∙ sym (and_assoc x b a)
 
 -- nor does the same once more
 pub and_again : (x a : ℕ) → bit_and (bit_and x a) a ≡ bit_and x a

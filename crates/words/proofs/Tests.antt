@@ -6,7 +6,7 @@ use Prim.Native.Nat.{ℕ, zero, suc, ◌≤◌}
 use native.Mathlib.Omega.{arith}
 use lib.Dec.{leb}
 use borrow.Author.Tests.{leb-true, le-leb}
-use Rattle.words.specs.Logic.{◌and◌, ◌or◌, bit, unless, ◌orElse◌}
+use Rattle.words.specs.Logic.{◌and◌, ◌or◌, bit, unless, ◌or_else◌}
 
 pub and_l : (a b : Bool) → (a and b) ≡ true → a ≡ true
 unfolding ◌and◌
@@ -27,25 +27,25 @@ unfolding ◌and◌
 and_assoc true b c = refl
 and_assoc false b c = refl
 
-pub and-true : (a : Bool) → (a and true) ≡ a
+pub and_true : (a : Bool) → (a and true) ≡ a
 unfolding ◌and◌
-and-true true = refl
-and-true false = refl
+and_true true = refl
+and_true false = refl
 
-pub and-false : (a : Bool) → (a and false) ≡ false
+pub and_false : (a : Bool) → (a and false) ≡ false
 unfolding ◌and◌
-and-false true = refl
-and-false false = refl
+and_false true = refl
+and_false false = refl
 
-pub or-true : (a : Bool) → (a or true) ≡ true
+pub or_true : (a : Bool) → (a or true) ≡ true
 unfolding ◌or◌
-or-true true = refl
-or-true false = refl
+or_true true = refl
+or_true false = refl
 
-pub or-false : (a : Bool) → (a or false) ≡ a
+pub or_false : (a : Bool) → (a or false) ≡ a
 unfolding ◌or◌
-or-false true = refl
-or-false false = refl
+or_false true = refl
+or_false false = refl
 
 pub or_cases : (a b : Bool) → (a or b) ≡ true → (a ≡ true) ⊎ (b ≡ true)
 unfolding ◌or◌
@@ -58,44 +58,44 @@ or_assoc true b c = refl
 or_assoc false b c = refl
 
 -- neither of two
-pub nor-l : (a b : Bool) → (a or b) ≡ false → a ≡ false
+pub nor_l : (a b : Bool) → (a or b) ≡ false → a ≡ false
 unfolding ◌or◌
-nor-l true b e = e
-nor-l false b e = refl
+nor_l true b e = e
+nor_l false b e = refl
 
-pub nor-r : (a b : Bool) → (a or b) ≡ false → b ≡ false
+pub nor_r : (a b : Bool) → (a or b) ≡ false → b ≡ false
 unfolding ◌or◌
-nor-r true b e = absurd (false≢true (sym e))
-nor-r false b e = e
+nor_r true b e = absurd (false≢true (sym e))
+nor_r false b e = e
 
-pub orElse-on : (m n : ℕ) → m ≡ 0 → (m or_else n) ≡ n
-unfolding ◌orElse◌
-orElse-on m n e = rw e
+pub or_else_on : (m n : ℕ) → m ≡ 0 → (m or_else n) ≡ n
+unfolding ◌or_else◌
+or_else_on m n e = rw e
 
-pub orElse-first : (m n : ℕ) → (m ≡ 0 → ⊥) → (m or_else n) ≡ m
-unfolding ◌orElse◌
-orElse-first zero n h = absurd (h refl)
-orElse-first (suc m) n h = refl
+pub or_else_first : (m n : ℕ) → (m ≡ 0 → ⊥) → (m or_else n) ≡ m
+unfolding ◌or_else◌
+or_else_first zero n h = absurd (h refl)
+or_else_first (suc m) n h = refl
 
-pub orElse-none : (m : ℕ) → (m or_else 0) ≡ m
-unfolding ◌orElse◌
-orElse-none zero = refl
-orElse-none (suc m) = refl
+pub or_else_none : (m : ℕ) → (m or_else 0) ≡ m
+unfolding ◌or_else◌
+or_else_none zero = refl
+or_else_none (suc m) = refl
 
-pub suc-not-zero : {n : ℕ} → suc n ≡ 0 → ⊥
-suc-not-zero e = omega arith
+pub suc_not_zero : {n : ℕ} → suc n ≡ 0 → ⊥
+suc_not_zero e = omega arith
 
 -- no number: the test passed
-pub unless-zero : (b : Bool) (n : ℕ) → unless b (suc n) ≡ 0 → b ≡ true
+pub unless_zero : (b : Bool) (n : ℕ) → unless b (suc n) ≡ 0 → b ≡ true
 unfolding unless
-unless-zero true n e = refl
-unless-zero false n e = absurd (suc-not-zero e)
+unless_zero true n e = refl
+unless_zero false n e = absurd (suc_not_zero e)
 
 -- no number: neither of two
-pub orElse-zero : (m n : ℕ) → (m or_else n) ≡ 0 → (m ≡ 0) × (n ≡ 0)
-unfolding ◌orElse◌
-orElse-zero zero n e = (refl, e)
-orElse-zero (suc m) n e = absurd (suc-not-zero e)
+pub or_else_zero : (m n : ℕ) → (m or_else n) ≡ 0 → (m ≡ 0) × (n ≡ 0)
+unfolding ◌or_else◌
+or_else_zero zero n e = (refl, e)
+or_else_zero (suc m) n e = absurd (suc_not_zero e)
 
 -- two tests of one fact
 pub same_tests : (a b : Bool) → (a ≡ true → b ≡ true) → (b ≡ true → a ≡ true) → a ≡ b
@@ -103,8 +103,8 @@ same_tests true b f g = sym (f refl)
 same_tests false true f g = g refl
 same_tests false false f g = refl
 
-pub same-leb : (a b c d : ℕ) → (a ≤ b → c ≤ d) → (c ≤ d → a ≤ b) → leb a b ≡ leb c d
-same-leb a b c d f g =
+pub same_leb : (a b c d : ℕ) → (a ≤ b → c ≤ d) → (c ≤ d → a ≤ b) → leb a b ≡ leb c d
+same_leb a b c d f g =
     same_tests _ _ (λ e. le-leb c d (f (leb-true a b e))) (λ e. le-leb a b (g (leb-true c d e)))
 
 -- a test that can't pass fails
@@ -113,9 +113,9 @@ fails true h = absurd (h refl)
 fails false h = refl
 
 -- 1 for yes alone
-pub bit-one : (b : Bool) → bit b ≡ 1 → b ≡ true
-bit-one true e = refl
-bit-one false e = absurd (suc-not-zero (sym e))
+pub bit_one : (b : Bool) → bit b ≡ 1 → b ≡ true
+bit_one true e = refl
+bit_one false e = absurd (suc_not_zero (sym e))
 
 pub bit_le : (b : Bool) → bit b ≤ 1
 bit_le true = omega arith

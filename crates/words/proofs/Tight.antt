@@ -9,14 +9,14 @@ use Rattle.words.proofs.lesser.Reads as lesser
 pub both_one : OneResult both.Learnt
 both_one κ a x y s t p q = agree p q
 
-pub either-one : OneResult either.Learnt
-either-one κ a x y s t p q = agree p q
+pub either_one : OneResult either.Learnt
+either_one κ a x y s t p q = agree p q
 
-pub bit-of-one : OneResult bit-of.Learnt
-bit-of-one κ a x y s t p q = agree p q
+pub bit_of_one : OneResult bit-of.Learnt
+bit_of_one κ a x y s t p q = agree p q
 
-pub number-or-one : OneResult number-or.Learnt
-number-or-one κ a x y s t p q = agree p q
+pub number_or_one : OneResult number-or.Learnt
+number_or_one κ a x y s t p q = agree p q
 
-pub lesser-one : OneResult lesser.Learnt
-lesser-one κ a x y s t p q = agree p q
+pub lesser_one : OneResult lesser.Learnt
+lesser_one κ a x y s t p q = agree p q

@@ -16,9 +16,9 @@ unfoldable pub driven : List ℕ → ℕ → List ℕ → ℕ → List ℕ
 driven s at o from = cond (eqb (length s) 0) o (take from o ++ up_to (length o - from) (round s at))
 
 -- all of the bytes are 0
-abbrev pub allZero : List ℕ → Bool
-allZero [] = true
-allZero (x ∷ xs) = eqb x 0 and allZero xs
+abbrev pub all_zero : List ℕ → Bool
+all_zero [] = true
+all_zero (x ∷ xs) = eqb x 0 and all_zero xs
 
 -- every item of a list passes a test
 abbrev pub every : {A : Type 0} → (A → Bool) → List A → Bool
@@ -34,8 +34,8 @@ sum_to ns (suc k) = sum_to ns k + get_or ns k 0
 abbrev pub between : ℕ → ℕ → List ℕ → List ℕ
 between at n xs = take n (drop at xs)
 
-abbrev pub putBetween : ℕ → ℕ → List ℕ → List ℕ → List ℕ
-putBetween at n xs ys = take at xs ++ (ys ++ drop n (drop at xs))
+abbrev pub put_between : ℕ → ℕ → List ℕ → List ℕ → List ℕ
+put_between at n xs ys = take at xs ++ (ys ++ drop n (drop at xs))
 
 -- the first of the numbers 0, 1, .., n - 1 that passes a test; n where none does
 unfoldable pub first_of : ℕ → (ℕ → Bool) → ℕ
@@ -52,10 +52,10 @@ abbrev pub AreBytes : List ℕ → Type 0
 AreBytes xs = (a : ℕ) → get_or xs a 0 < 256
 
 -- two lists differ at a place
-abbrev pub differAt : List ℕ → List ℕ → ℕ → Bool
-differAt xs ys k = not (eqb (get_or xs k 0) (get_or ys k 0))
+abbrev pub differ_at : List ℕ → List ℕ → ℕ → Bool
+differ_at xs ys k = not (eqb (get_or xs k 0) (get_or ys k 0))
 
 -- every item of a list, from the place k on, as f makes it of its place and of what it was
-abbrev pub eachFrom : {A : Type 0} → ℕ → (ℕ → A → A) → List A → List A
-eachFrom k f [] = []
-eachFrom k f (x ∷ xs) = f k x ∷ eachFrom (suc k) f xs
+abbrev pub each_from : {A : Type 0} → ℕ → (ℕ → A → A) → List A → List A
+each_from k f [] = []
+each_from k f (x ∷ xs) = f k x ∷ each_from (suc k) f xs

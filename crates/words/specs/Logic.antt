@@ -3,7 +3,7 @@ use Rattle.std.specs.Prelude.{ℕ, zero, suc, Bool, true, false, cond, eqb}
 
 infixr 30 ◌and◌
 infixr 28 ◌or◌
-infixr 25 ◌orElse◌
+infixr 25 ◌or_else◌
 -- both of two tests. (It stays shut, so that a proof's `_` is found from `a and b`.)
 unfoldable pub ◌and◌ : Bool → Bool → Bool
 true and b = b
@@ -25,10 +25,10 @@ unless true n = 0
 unless false n = n
 
 -- the first number that is not 0
-unfoldable pub ◌orElse◌ : ℕ → ℕ → ℕ
+unfoldable pub ◌or_else◌ : ℕ → ℕ → ℕ
 zero or_else n = n
 suc m or_else n = suc m
 
 -- a where the number is 0, else b
-abbrev pub whenZero : {A : Type 0} → ℕ → A → A → A
-whenZero n a b = cond (eqb n 0) a b
+abbrev pub when_zero : {A : Type 0} → ℕ → A → A → A
+when_zero n a b = cond (eqb n 0) a b

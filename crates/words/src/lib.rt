@@ -1,7 +1,7 @@
 // Tests and numbers, put together as the definitions put them together: a decision is then
 // straight-line code, in the order of the specification's table of numbers.
 ghost use Rattle.std.specs.Prelude.{◌≡◌, min};
-ghost use Rattle.words.specs.Logic.{◌and◌, ◌or◌, bit, unless, ◌orElse◌};
+ghost use Rattle.words.specs.Logic.{◌and◌, ◌or◌, bit, unless, ◌or_else◌};
 
 // Both of two tests.
 pub fn both(a: bool, b: bool) -> bool

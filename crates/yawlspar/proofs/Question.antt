@@ -3,19 +3,19 @@ use Prim.Native.Nat.{ℕ, ◌/◌, ◌%◌, ◌≤◌}
 use mathlib.Core.Path.{◌≡◌, sym, ap, ◌∙◌}
 use Rattle.types.specs.declared.Blocks.{Blocks}
 use Rattle.words.specs.Logic.{bit}
-use Rattle.paper.specs.Sizes.{blockBytes, arrayBytes}
-use Rattle.paper.specs.Protection.{protectedBlocks}
-use Rattle.paper.specs.CBench.{protectedAnswer}
-use Rattle.paper.proofs.Sizes.{size-range}
-use Rattle.paper.proofs.Protected.{none-protected, some-answerable}
+use Rattle.paper.specs.Sizes.{block_bytes, array_bytes}
+use Rattle.paper.specs.Protection.{protected_blocks}
+use Rattle.paper.specs.CBench.{protected_answer}
+use Rattle.paper.proofs.Sizes.{size_range}
+use Rattle.paper.proofs.Protected.{none_protected, some_answerable}
 
-module _ (b : Blocks) (code n : ℕ) (told : b ≡ protectedBlocks code n) where
-  counted : b.count ≡ (protectedBlocks code n).count
+module _ (b : Blocks) (code n : ℕ) (told : b ≡ protected_blocks code n) where
+  counted : b.count ≡ (protected_blocks code n).count
   counted = ap (λ (x : Blocks). x.count) told
 
-  pub none-held : (address : ℕ) → b.count ≡ 0 → 0 ≡ protectedAnswer code n address
-  none-held address z =
-      sym (ap bit (none-protected code n (address % arrayBytes n / blockBytes) (sym counted ∙ z)))
+  pub none_held : (address : ℕ) → b.count ≡ 0 → 0 ≡ protected_answer code n address
+  none_held address z =
+      sym (ap bit (none_protected code n (address % array_bytes n / block_bytes) (sym counted ∙ z)))
 
-  pub some-held : (b.count ≡ 0 → ⊥) → (1 ≤ n) × (n ≤ 512)
-  some-held h = size-range n (some-answerable code n (λ e. h (counted ∙ e))).size
+  pub some_held : (b.count ≡ 0 → ⊥) → (1 ≤ n) × (n ≤ 512)
+  some_held h = size_range n (some_answerable code n (λ e. h (counted ∙ e))).size

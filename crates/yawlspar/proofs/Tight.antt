@@ -11,50 +11,50 @@ use Rattle.yawlspar.proofs.yawlspar_transact.Reads as yawlspar-transact
 use Rattle.yawlspar.proofs.yawlspar_tick.Reads as yawlspar-tick
 use Rattle.yawlspar.proofs.yawlspar_version.Reads as yawlspar-version
 
-pub protection-number-one : OneResult yawlspar-protection-number.Learnt
-protection-number-one κ a x y s t p q = agree p q
+pub protection_number_one : OneResult yawlspar-protection-number.Learnt
+protection_number_one κ a x y s t p q = agree p q
 
-pub protected-first-one : OneResult yawlspar-protected-first.Learnt
-protected-first-one κ a x y s t p q = agree p q
+pub protected_first_one : OneResult yawlspar-protected-first.Learnt
+protected_first_one κ a x y s t p q = agree p q
 
-pub protected-count-one : OneResult yawlspar-protected-count.Learnt
-protected-count-one κ a x y s t p q = agree p q
+pub protected_count_one : OneResult yawlspar-protected-count.Learnt
+protected_count_one κ a x y s t p q = agree p q
 
-pub protected-one : OneResult yawlspar-protected.Learnt
-protected-one κ a x y s t p q = agree p q
+pub protected_one : OneResult yawlspar-protected.Learnt
+protected_one κ a x y s t p q = agree p q
 
-pub page-place-one : OneResult yawlspar-page-place.Learnt
-page-place-one κ a x y s t p q = agree p q
+pub page_place_one : OneResult yawlspar-page-place.Learnt
+page_place_one κ a x y s t p q = agree p q
 
 pub pack_one : OneResult pack.Learnt
 pack_one κ a x y s t p q = agree p q
 
-pub power-up-one : OneResult yawlspar-power-up.Learnt
-power-up-one κ a x y s t p q = agree p.0 q.0
+pub power_up_one : OneResult yawlspar-power-up.Learnt
+power_up_one κ a x y s t p q = agree p.0 q.0
 
-pub power-up-one-bytes : OneExit yawlspar-power-up.Learnt (λ κ s. s.0.now)
-power-up-one-bytes κ a x y s t p q = agree p.1 q.1
+pub power_up_one_bytes : OneExit yawlspar-power-up.Learnt (λ κ s. s.0.now)
+power_up_one_bytes κ a x y s t p q = agree p.1 q.1
 
-pub transact-one : OneResult yawlspar-transact.Learnt
-transact-one κ a x y s t p q = agree p.0 q.0
+pub transact_one : OneResult yawlspar-transact.Learnt
+transact_one κ a x y s t p q = agree p.0 q.0
 
-pub transact-one-bytes : OneExit yawlspar-transact.Learnt (λ κ s. s.0.now)
-transact-one-bytes κ a x y s t p q = agree p.1.0 q.1.0
+pub transact_one_bytes : OneExit yawlspar-transact.Learnt (λ κ s. s.0.now)
+transact_one_bytes κ a x y s t p q = agree p.1.0 q.1.0
 
-pub transact-one-output : OneExit yawlspar-transact.Learnt (λ κ s. s.1.1.1.1.1.0.now)
-transact-one-output κ a x y s t p q = agree p.1.1 q.1.1
+pub transact_one_output : OneExit yawlspar-transact.Learnt (λ κ s. s.1.1.1.1.1.0.now)
+transact_one_output κ a x y s t p q = agree p.1.1 q.1.1
 
-pub tick-one : OneResult yawlspar-tick.Learnt
-tick-one κ a x y s t p q = agree p.0 q.0
+pub tick_one : OneResult yawlspar-tick.Learnt
+tick_one κ a x y s t p q = agree p.0 q.0
 
-pub tick-one-bytes : OneExit yawlspar-tick.Learnt (λ κ s. s.0.now)
-tick-one-bytes κ a x y s t p q = agree p.1.0 q.1.0
+pub tick_one_bytes : OneExit yawlspar-tick.Learnt (λ κ s. s.0.now)
+tick_one_bytes κ a x y s t p q = agree p.1.0 q.1.0
 
-pub tick-one-array : OneExit yawlspar-tick.Learnt (λ κ s. s.1.0.now)
-tick-one-array κ a x y s t p q = agree p.1.1.0 q.1.1.0
+pub tick_one_array : OneExit yawlspar-tick.Learnt (λ κ s. s.1.0.now)
+tick_one_array κ a x y s t p q = agree p.1.1.0 q.1.1.0
 
-pub tick-one-rows : OneExit yawlspar-tick.Learnt (λ κ s. s.1.1.0.now)
-tick-one-rows κ a x y s t p q = agree p.1.1.1 q.1.1.1
+pub tick_one_rows : OneExit yawlspar-tick.Learnt (λ κ s. s.1.1.0.now)
+tick_one_rows κ a x y s t p q = agree p.1.1.1 q.1.1.1
 
-pub version-one : OneResult yawlspar-version.Learnt
-version-one κ a x y s t p q = agree p q
+pub version_one : OneResult yawlspar-version.Learnt
+version_one κ a x y s t p q = agree p q

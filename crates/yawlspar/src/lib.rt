@@ -5,9 +5,9 @@ pub mod numbers;
 
 ghost use Rattle.std.specs.Prelude.{◌≡◌, ◌%◌, ◌^◌, length};
 ghost use Rattle.types.specs.declared.Memory.TheVariants.{Array, Rows};
-ghost use Rattle.record_bytes.specs.Read.{recordIn};
-ghost use Rattle.ticks.specs.InBytes.{tickBytes, tickMemory};
-ghost use Rattle.yawlspar.specs.Face.{packed, asked, givenNumber, powerUpAnswer, powerUpBytes, transactAnswer, transactBytes, transactOutput, tick_answer};
+ghost use Rattle.record_bytes.specs.Read.{record_in};
+ghost use Rattle.ticks.specs.InBytes.{tick_bytes, tick_memory};
+ghost use Rattle.yawlspar.specs.Face.{packed, asked, given_number, power_up_answer, power_up_bytes, transact_answer, transact_bytes, transact_output, tick_answer};
 ghost use Rattle.yawlspar.specs.Version.{version};
 
 use record_bytes::places;
@@ -35,7 +35,7 @@ fn given_number(
     function: u64,
     extended: u64,
 ) -> u8
-    ensures { result ≡ givenNumber length (asked blocks maker kind capacity device status function extended) }
+    ensures { result ≡ given_number length (asked blocks maker kind capacity device status function extended) }
 {
     let size = sizes::size_ok(blocks);
     let long = length == places::END;
@@ -65,8 +65,8 @@ pub extern "C" fn yawlspar_power_up(
     function: u64,
     extended: u64,
 ) -> u64
-    ensures answer { result ≡ powerUpAnswer (length bytes.old) (asked blocks maker kind capacity device status function extended) }
-    ensures bytes { bytes.new ≡ powerUpBytes (asked blocks maker kind capacity device status function extended) bytes.old }
+    ensures answer { result ≡ power_up_answer (length bytes.old) (asked blocks maker kind capacity device status function extended) }
+    ensures bytes { bytes.new ≡ power_up_bytes (asked blocks maker kind capacity device status function extended) bytes.old }
 {
     let number = given_number(
         bytes.len(),
@@ -115,9 +115,9 @@ pub extern "C" fn yawlspar_transact(
     input: &[u8],
     output: &mut [u8],
 ) -> u64
-    ensures answer { result ≡ transactAnswer (recordIn bytes.old) (length array.now) (length rows.now) wp input.now (length output.old) }
-    ensures bytes { bytes.new ≡ transactBytes (recordIn bytes.old) (length array.now) (length rows.now) wp input.now (length output.old) bytes.old }
-    ensures output { output.new ≡ transactOutput (recordIn bytes.old) array.now rows.now wp input.now output.old }
+    ensures answer { result ≡ transact_answer (record_in bytes.old) (length array.now) (length rows.now) wp input.now (length output.old) }
+    ensures bytes { bytes.new ≡ transact_bytes (record_in bytes.old) (length array.now) (length rows.now) wp input.now (length output.old) bytes.old }
+    ensures output { output.new ≡ transact_output (record_in bytes.old) array.now rows.now wp input.now output.old }
 {
     let found = record_bytes::reading::read(bytes);
     if !found.ok {
@@ -148,10 +148,10 @@ pub extern "C" fn yawlspar_tick(
     rows: &mut [u8],
     count: u64,
 ) -> u64
-    ensures answer { result ≡ tick_answer (recordIn bytes.old) (length array.old) (length rows.old) count }
-    ensures bytes { bytes.new ≡ tickBytes (recordIn bytes.old) (length array.old) (length rows.old) count bytes.old }
-    ensures array { array.new ≡ tickMemory Array (recordIn bytes.old) (length array.old) (length rows.old) count array.old }
-    ensures rows { rows.new ≡ tickMemory Rows (recordIn bytes.old) (length array.old) (length rows.old) count rows.old }
+    ensures answer { result ≡ tick_answer (record_in bytes.old) (length array.old) (length rows.old) count }
+    ensures bytes { bytes.new ≡ tick_bytes (record_in bytes.old) (length array.old) (length rows.old) count bytes.old }
+    ensures array { array.new ≡ tick_memory Array (record_in bytes.old) (length array.old) (length rows.old) count array.old }
+    ensures rows { rows.new ≡ tick_memory Rows (record_in bytes.old) (length array.old) (length rows.old) count rows.old }
 {
     let worked = ticks::tick_bytes(bytes, array, rows, count as usize);
     pack(worked.number, worked.reached.count)

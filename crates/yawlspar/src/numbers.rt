@@ -1,11 +1,11 @@
 // The C bench's functions on numbers.
 ghost use Rattle.std.specs.Prelude.{◌≡◌};
-ghost use Rattle.paper.specs.CBench.{protectionNumber, protectedFirst, protectedCount, protectedAnswer, placeAnswer};
+ghost use Rattle.paper.specs.CBench.{protection_number, protected_first, protected_count, protected_answer, place_answer};
 
 // The protection question's number. The address does not matter to it.
 #[unsafe(no_mangle)]
 pub extern "C" fn yawlspar_protection_number(code: u64, blocks: u64, address: u64) -> u64
-    ensures { result ≡ protectionNumber code blocks }
+    ensures { result ≡ protection_number code blocks }
 {
     protection::question_number(code, blocks) as u64
 }
@@ -13,7 +13,7 @@ pub extern "C" fn yawlspar_protection_number(code: u64, blocks: u64, address: u6
 // Its first protected block, 0 where there is none and when refused.
 #[unsafe(no_mangle)]
 pub extern "C" fn yawlspar_protected_first(code: u64, blocks: u64) -> u64
-    ensures { result ≡ protectedFirst code blocks }
+    ensures { result ≡ protected_first code blocks }
 {
     protection::protected_blocks(code, blocks).first as u64
 }
@@ -21,7 +21,7 @@ pub extern "C" fn yawlspar_protected_first(code: u64, blocks: u64) -> u64
 // The count of protected blocks from the first on, 0 where there is none and when refused.
 #[unsafe(no_mangle)]
 pub extern "C" fn yawlspar_protected_count(code: u64, blocks: u64) -> u64
-    ensures { result ≡ protectedCount code blocks }
+    ensures { result ≡ protected_count code blocks }
 {
     protection::protected_blocks(code, blocks).count as u64
 }
@@ -30,7 +30,7 @@ pub extern "C" fn yawlspar_protected_count(code: u64, blocks: u64) -> u64
 // there is one, the size is good, and not 0 to divide by.)
 #[unsafe(no_mangle)]
 pub extern "C" fn yawlspar_protected(code: u64, blocks: u64, address: u64) -> u64
-    ensures { result ≡ protectedAnswer code blocks address }
+    ensures { result ≡ protected_answer code blocks address }
 {
     let protected = protection::protected_blocks(code, blocks);
     if protected.count == 0 {
@@ -43,7 +43,7 @@ pub extern "C" fn yawlspar_protected(code: u64, blocks: u64, address: u64) -> u6
 // The place in a page of byte index of bytes that are sent from the place start on; 256 where there is none.
 #[unsafe(no_mangle)]
 pub extern "C" fn yawlspar_page_place(start: u64, index: u64) -> u64
-    ensures { result ≡ placeAnswer start index }
+    ensures { result ≡ place_answer start index }
 {
     if 256 <= start {
         return 256;

@@ -2,16 +2,16 @@
 use Rattle.std.specs.Prelude.{ℕ}
 use Rattle.types.specs.declared.Blank.{Blank}
 use Rattle.types.specs.declared.Blank.TheVariants.{Page, NoPage, Refused}
-use Rattle.paper.specs.Sizes.{arrayPages}
+use Rattle.paper.specs.Sizes.{array_pages}
 use Rattle.paper.specs.Map.{MapTicked}
 use Rattle.yawlspar.specs.Face.{packed}
 
 -- a query on n blocks: the page; where there is none, the number of pages
-abbrev pub blankAnswer : ℕ → Blank → ℕ
-blankAnswer n (Page q) = packed 0 q
-blankAnswer n NoPage = packed 0 (arrayPages n)
-blankAnswer n (Refused number) = packed number 0
+abbrev pub blank_answer : ℕ → Blank → ℕ
+blank_answer n (Page q) = packed 0 q
+blank_answer n NoPage = packed 0 (array_pages n)
+blank_answer n (Refused number) = packed number 0
 
 -- ticks: their number, and how many did work
-abbrev pub mapTickAnswer : MapTicked → ℕ
-mapTickAnswer w = packed w.number w.done
+abbrev pub map_tick_answer : MapTicked → ℕ
+map_tick_answer w = packed w.number w.done

@@ -2,19 +2,19 @@
 // library of its own, for the speed of calls without a map (docs/SPEED.md), and a part of the archive that C links. A script with a
 // map stands beside the other scripts.
 ghost use Rattle.std.specs.Prelude.{◌≡◌, length};
-ghost use Rattle.paper.specs.Numbers.{rebuildNumber};
+ghost use Rattle.paper.specs.Numbers.{rebuild_number};
 ghost use Rattle.paper.specs.Map.{rebuilt, queried};
-ghost use Rattle.record_bytes.specs.Read.{recordIn};
-ghost use Rattle.mapped.specs.InBytes.{heldMapTicked};
-ghost use Rattle.beside.specs.Beside.{boardBytes};
-ghost use Rattle.yawlspar_map.specs.Face.{blankAnswer, mapTickAnswer};
+ghost use Rattle.record_bytes.specs.Read.{record_in};
+ghost use Rattle.mapped.specs.InBytes.{held_map_ticked};
+ghost use Rattle.beside.specs.Beside.{board_bytes};
+ghost use Rattle.yawlspar_map.specs.Face.{blank_answer, map_tick_answer};
 
 use types::Blank;
 
 // A rebuild: the map is made from the array. The number; refused, with 1 or 36, the map is as it was.
 #[unsafe(no_mangle)]
 pub extern "C" fn yawlspar_map_rebuild(blocks: u64, array: &[u8], map: &mut [u8]) -> u64
-    ensures number { result ≡ rebuildNumber blocks (length array.now) (length map.old) }
+    ensures number { result ≡ rebuild_number blocks (length array.now) (length map.old) }
     ensures map { map.new ≡ rebuilt blocks array.now map.old }
 {
     blank_map::rebuild(blocks, array, map) as u64
@@ -24,7 +24,7 @@ pub extern "C" fn yawlspar_map_rebuild(blocks: u64, array: &[u8], map: &mut [u8]
 // refused, with 1, 36 or 37.
 #[unsafe(no_mangle)]
 pub extern "C" fn yawlspar_map_next(blocks: u64, map: &[u8], page: u64) -> u64
-    ensures { result ≡ blankAnswer blocks (queried blocks map.now page) }
+    ensures { result ≡ blank_answer blocks (queried blocks map.now page) }
 {
     let next = blank_map::next(blocks, map, page);
     match next {
@@ -44,11 +44,11 @@ pub extern "C" fn yawlspar_tick_map(
     count: u64,
     map: &mut [u8],
 ) -> u64
-    ensures answer { result ≡ mapTickAnswer (heldMapTicked (recordIn bytes.old) array.old rows.old count map.old) }
-    ensures bytes { bytes.new ≡ boardBytes (recordIn bytes.old) (heldMapTicked (recordIn bytes.old) array.old rows.old count map.old).board bytes.old }
-    ensures array { array.new ≡ (heldMapTicked (recordIn bytes.old) array.old rows.old count map.old).board.array }
-    ensures rows { rows.new ≡ (heldMapTicked (recordIn bytes.old) array.old rows.old count map.old).board.rows }
-    ensures map { map.new ≡ (heldMapTicked (recordIn bytes.old) array.old rows.old count map.old).map }
+    ensures answer { result ≡ map_tick_answer (held_map_ticked (record_in bytes.old) array.old rows.old count map.old) }
+    ensures bytes { bytes.new ≡ board_bytes (record_in bytes.old) (held_map_ticked (record_in bytes.old) array.old rows.old count map.old).board bytes.old }
+    ensures array { array.new ≡ (held_map_ticked (record_in bytes.old) array.old rows.old count map.old).board.array }
+    ensures rows { rows.new ≡ (held_map_ticked (record_in bytes.old) array.old rows.old count map.old).board.rows }
+    ensures map { map.new ≡ (held_map_ticked (record_in bytes.old) array.old rows.old count map.old).map }
 {
     let kept = mapped::tick(bytes, array, rows, count as usize, map);
     yawlspar::pack(kept.number, kept.done)

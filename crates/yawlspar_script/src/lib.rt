@@ -1,13 +1,13 @@
 // Scripts, with a map of blank pages and without, and checks for C, which include/yawlspar.h declares. They are a static library of
 // their own, for the speed of single calls (docs/SPEED.md), and a part of the archive that C links.
 ghost use Rattle.std.specs.Prelude.{◌≡◌, ◌+◌, ◌*◌, ◌%◌, ◌^◌, ◌≤◌};
-ghost use Rattle.record_bytes.specs.Read.{recordIn};
-ghost use Rattle.script.specs.InBytes.{scriptOf, heldScript, scriptBytes};
-ghost use Rattle.mapped.specs.InBytes.{heldMapScripted};
-ghost use Rattle.beside.specs.Beside.{boardBytes};
-ghost use Rattle.checker.specs.InBytes.{heldCheck};
+ghost use Rattle.record_bytes.specs.Read.{record_in};
+ghost use Rattle.script.specs.InBytes.{script_of, held_script, script_bytes};
+ghost use Rattle.mapped.specs.InBytes.{held_map_scripted};
+ghost use Rattle.beside.specs.Beside.{board_bytes};
+ghost use Rattle.checker.specs.InBytes.{held_check};
 ghost use Rattle.yawlspar.specs.Face.{packed};
-ghost use Rattle.yawlspar_script.specs.Face.{scriptAnswer, checkAnswer};
+ghost use Rattle.yawlspar_script.specs.Face.{script_answer, check_answer};
 
 use types::Verdict;
 
@@ -26,13 +26,13 @@ pub extern "C" fn yawlspar_script(
     answers: &mut [u8],
     done: &mut [u16],
 ) -> u64
-    ensures answer { result ≡ scriptAnswer (heldScript (recordIn bytes.old) wp (scriptOf wp input.now lengths.now ticks.now) array.old rows.old output.old answers.old done.old) }
-    ensures bytes { bytes.new ≡ scriptBytes (recordIn bytes.old) (heldScript (recordIn bytes.old) wp (scriptOf wp input.now lengths.now ticks.now) array.old rows.old output.old answers.old done.old) bytes.old }
-    ensures array { array.new ≡ (heldScript (recordIn bytes.old) wp (scriptOf wp input.now lengths.now ticks.now) array.old rows.old output.old answers.old done.old).board.array }
-    ensures rows { rows.new ≡ (heldScript (recordIn bytes.old) wp (scriptOf wp input.now lengths.now ticks.now) array.old rows.old output.old answers.old done.old).board.rows }
-    ensures output { output.new ≡ (heldScript (recordIn bytes.old) wp (scriptOf wp input.now lengths.now ticks.now) array.old rows.old output.old answers.old done.old).output }
-    ensures answers { answers.new ≡ (heldScript (recordIn bytes.old) wp (scriptOf wp input.now lengths.now ticks.now) array.old rows.old output.old answers.old done.old).answers }
-    ensures done { done.new ≡ (heldScript (recordIn bytes.old) wp (scriptOf wp input.now lengths.now ticks.now) array.old rows.old output.old answers.old done.old).done }
+    ensures answer { result ≡ script_answer (held_script (record_in bytes.old) wp (script_of wp input.now lengths.now ticks.now) array.old rows.old output.old answers.old done.old) }
+    ensures bytes { bytes.new ≡ script_bytes (record_in bytes.old) (held_script (record_in bytes.old) wp (script_of wp input.now lengths.now ticks.now) array.old rows.old output.old answers.old done.old) bytes.old }
+    ensures array { array.new ≡ (held_script (record_in bytes.old) wp (script_of wp input.now lengths.now ticks.now) array.old rows.old output.old answers.old done.old).board.array }
+    ensures rows { rows.new ≡ (held_script (record_in bytes.old) wp (script_of wp input.now lengths.now ticks.now) array.old rows.old output.old answers.old done.old).board.rows }
+    ensures output { output.new ≡ (held_script (record_in bytes.old) wp (script_of wp input.now lengths.now ticks.now) array.old rows.old output.old answers.old done.old).output }
+    ensures answers { answers.new ≡ (held_script (record_in bytes.old) wp (script_of wp input.now lengths.now ticks.now) array.old rows.old output.old answers.old done.old).answers }
+    ensures done { done.new ≡ (held_script (record_in bytes.old) wp (script_of wp input.now lengths.now ticks.now) array.old rows.old output.old answers.old done.old).done }
 {
     let mut none = [0u8; 0];
     let ran = script::run(
@@ -57,14 +57,14 @@ pub extern "C" fn yawlspar_script_map(
     done: &mut [u16],
     map: &mut [u8],
 ) -> u64
-    ensures answer { result ≡ scriptAnswer (heldMapScripted (recordIn bytes.old) wp (scriptOf wp input.now lengths.now ticks.now) array.old rows.old output.old answers.old done.old map.old).run }
-    ensures bytes { bytes.new ≡ boardBytes (recordIn bytes.old) (heldMapScripted (recordIn bytes.old) wp (scriptOf wp input.now lengths.now ticks.now) array.old rows.old output.old answers.old done.old map.old).run.board bytes.old }
-    ensures array { array.new ≡ (heldMapScripted (recordIn bytes.old) wp (scriptOf wp input.now lengths.now ticks.now) array.old rows.old output.old answers.old done.old map.old).run.board.array }
-    ensures rows { rows.new ≡ (heldMapScripted (recordIn bytes.old) wp (scriptOf wp input.now lengths.now ticks.now) array.old rows.old output.old answers.old done.old map.old).run.board.rows }
-    ensures output { output.new ≡ (heldMapScripted (recordIn bytes.old) wp (scriptOf wp input.now lengths.now ticks.now) array.old rows.old output.old answers.old done.old map.old).run.output }
-    ensures answers { answers.new ≡ (heldMapScripted (recordIn bytes.old) wp (scriptOf wp input.now lengths.now ticks.now) array.old rows.old output.old answers.old done.old map.old).run.answers }
-    ensures done { done.new ≡ (heldMapScripted (recordIn bytes.old) wp (scriptOf wp input.now lengths.now ticks.now) array.old rows.old output.old answers.old done.old map.old).run.done }
-    ensures map { map.new ≡ (heldMapScripted (recordIn bytes.old) wp (scriptOf wp input.now lengths.now ticks.now) array.old rows.old output.old answers.old done.old map.old).map }
+    ensures answer { result ≡ script_answer (held_map_scripted (record_in bytes.old) wp (script_of wp input.now lengths.now ticks.now) array.old rows.old output.old answers.old done.old map.old).run }
+    ensures bytes { bytes.new ≡ board_bytes (record_in bytes.old) (held_map_scripted (record_in bytes.old) wp (script_of wp input.now lengths.now ticks.now) array.old rows.old output.old answers.old done.old map.old).run.board bytes.old }
+    ensures array { array.new ≡ (held_map_scripted (record_in bytes.old) wp (script_of wp input.now lengths.now ticks.now) array.old rows.old output.old answers.old done.old map.old).run.board.array }
+    ensures rows { rows.new ≡ (held_map_scripted (record_in bytes.old) wp (script_of wp input.now lengths.now ticks.now) array.old rows.old output.old answers.old done.old map.old).run.board.rows }
+    ensures output { output.new ≡ (held_map_scripted (record_in bytes.old) wp (script_of wp input.now lengths.now ticks.now) array.old rows.old output.old answers.old done.old map.old).run.output }
+    ensures answers { answers.new ≡ (held_map_scripted (record_in bytes.old) wp (script_of wp input.now lengths.now ticks.now) array.old rows.old output.old answers.old done.old map.old).run.answers }
+    ensures done { done.new ≡ (held_map_scripted (record_in bytes.old) wp (script_of wp input.now lengths.now ticks.now) array.old rows.old output.old answers.old done.old map.old).run.done }
+    ensures map { map.new ≡ (held_map_scripted (record_in bytes.old) wp (script_of wp input.now lengths.now ticks.now) array.old rows.old output.old answers.old done.old map.old).map }
 {
     let kept = mapped::script(
         bytes, array, rows, wp, input, lengths, ticks, output, answers, done, map,
@@ -85,7 +85,7 @@ fn pack(said: u64, place: usize) -> u64
 
 // The verdict in one number.
 fn answer(verdict: Verdict) -> u64
-    ensures { result ≡ checkAnswer verdict }
+    ensures { result ≡ check_answer verdict }
 {
     match verdict {
         Verdict::Yes => 0,
@@ -112,13 +112,13 @@ pub extern "C" fn yawlspar_check(
     done: &mut [u16],
     image: &[u8],
 ) -> u64
-    ensures answer { result ≡ checkAnswer (heldCheck (recordIn bytes.old) wp (scriptOf wp input.now lengths.now ticks.now) array.old rows.old output.old answers.old done.old image.now).verdict }
-    ensures bytes { bytes.new ≡ scriptBytes (recordIn bytes.old) (heldCheck (recordIn bytes.old) wp (scriptOf wp input.now lengths.now ticks.now) array.old rows.old output.old answers.old done.old image.now).run bytes.old }
-    ensures array { array.new ≡ (heldCheck (recordIn bytes.old) wp (scriptOf wp input.now lengths.now ticks.now) array.old rows.old output.old answers.old done.old image.now).run.board.array }
-    ensures rows { rows.new ≡ (heldCheck (recordIn bytes.old) wp (scriptOf wp input.now lengths.now ticks.now) array.old rows.old output.old answers.old done.old image.now).run.board.rows }
-    ensures output { output.new ≡ (heldCheck (recordIn bytes.old) wp (scriptOf wp input.now lengths.now ticks.now) array.old rows.old output.old answers.old done.old image.now).run.output }
-    ensures answers { answers.new ≡ (heldCheck (recordIn bytes.old) wp (scriptOf wp input.now lengths.now ticks.now) array.old rows.old output.old answers.old done.old image.now).run.answers }
-    ensures done { done.new ≡ (heldCheck (recordIn bytes.old) wp (scriptOf wp input.now lengths.now ticks.now) array.old rows.old output.old answers.old done.old image.now).run.done }
+    ensures answer { result ≡ check_answer (held_check (record_in bytes.old) wp (script_of wp input.now lengths.now ticks.now) array.old rows.old output.old answers.old done.old image.now).verdict }
+    ensures bytes { bytes.new ≡ script_bytes (record_in bytes.old) (held_check (record_in bytes.old) wp (script_of wp input.now lengths.now ticks.now) array.old rows.old output.old answers.old done.old image.now).run bytes.old }
+    ensures array { array.new ≡ (held_check (record_in bytes.old) wp (script_of wp input.now lengths.now ticks.now) array.old rows.old output.old answers.old done.old image.now).run.board.array }
+    ensures rows { rows.new ≡ (held_check (record_in bytes.old) wp (script_of wp input.now lengths.now ticks.now) array.old rows.old output.old answers.old done.old image.now).run.board.rows }
+    ensures output { output.new ≡ (held_check (record_in bytes.old) wp (script_of wp input.now lengths.now ticks.now) array.old rows.old output.old answers.old done.old image.now).run.output }
+    ensures answers { answers.new ≡ (held_check (record_in bytes.old) wp (script_of wp input.now lengths.now ticks.now) array.old rows.old output.old answers.old done.old image.now).run.answers }
+    ensures done { done.new ≡ (held_check (record_in bytes.old) wp (script_of wp input.now lengths.now ticks.now) array.old rows.old output.old answers.old done.old image.now).run.done }
 {
     let verdict = checker::check(
         bytes, array, rows, wp, input, lengths, ticks, output, answers, done, image,

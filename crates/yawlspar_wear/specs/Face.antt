@@ -5,9 +5,9 @@ use Rattle.paper.specs.WearText.{Written}
 use Rattle.yawlspar.specs.Face.{packed}
 
 -- ticks: their number, and how many did work
-abbrev pub wearTickAnswer : WearTicked → ℕ
-wearTickAnswer w = packed w.number w.done
+abbrev pub wear_tick_answer : WearTicked → ℕ
+wear_tick_answer w = packed w.number w.done
 
 -- a text: its number, and how many bytes were written
-abbrev pub textAnswer : Written → ℕ
-textAnswer w = packed w.number w.bytes
+abbrev pub text_answer : Written → ℕ
+text_answer w = packed w.number w.bytes

@@ -2,13 +2,13 @@
 // its own, for the speed of calls without them (docs/SPEED.md), and a part of the archive that C links.
 ghost use Rattle.std.specs.Prelude.{◌≡◌, length};
 ghost use Rattle.paper.specs.Wear.{worn};
-ghost use Rattle.paper.specs.WearText.{wearWritten};
-ghost use Rattle.record_bytes.specs.Read.{recordIn};
-ghost use Rattle.beside.specs.Beside.{boardBytes};
-ghost use Rattle.counted.specs.InBytes.{heldWearTicked};
-ghost use Rattle.script.specs.InBytes.{scriptOf, scriptBytes, heldWearScripted};
-ghost use Rattle.yawlspar_script.specs.Face.{scriptAnswer};
-ghost use Rattle.yawlspar_wear.specs.Face.{wearTickAnswer, textAnswer};
+ghost use Rattle.paper.specs.WearText.{wear_written};
+ghost use Rattle.record_bytes.specs.Read.{record_in};
+ghost use Rattle.beside.specs.Beside.{board_bytes};
+ghost use Rattle.counted.specs.InBytes.{held_wear_ticked};
+ghost use Rattle.script.specs.InBytes.{script_of, script_bytes, held_wear_scripted};
+ghost use Rattle.yawlspar_script.specs.Face.{script_answer};
+ghost use Rattle.yawlspar_wear.specs.Face.{wear_tick_answer, text_answer};
 
 use types::Wear;
 
@@ -22,11 +22,11 @@ pub extern "C" fn yawlspar_tick_wear<'a>(
     count: u64,
     wear: &'a mut [Wear],
 ) -> u64
-    ensures answer { result ≡ wearTickAnswer (heldWearTicked (recordIn bytes.old) array.old rows.old count (length wear.old)) }
-    ensures bytes { bytes.new ≡ boardBytes (recordIn bytes.old) (heldWearTicked (recordIn bytes.old) array.old rows.old count (length wear.old)).board bytes.old }
-    ensures array { array.new ≡ (heldWearTicked (recordIn bytes.old) array.old rows.old count (length wear.old)).board.array }
-    ensures rows { rows.new ≡ (heldWearTicked (recordIn bytes.old) array.old rows.old count (length wear.old)).board.rows }
-    ensures wear { wear.new ≡ worn (heldWearTicked (recordIn bytes.old) array.old rows.old count (length wear.old)).tally wear.old }
+    ensures answer { result ≡ wear_tick_answer (held_wear_ticked (record_in bytes.old) array.old rows.old count (length wear.old)) }
+    ensures bytes { bytes.new ≡ board_bytes (record_in bytes.old) (held_wear_ticked (record_in bytes.old) array.old rows.old count (length wear.old)).board bytes.old }
+    ensures array { array.new ≡ (held_wear_ticked (record_in bytes.old) array.old rows.old count (length wear.old)).board.array }
+    ensures rows { rows.new ≡ (held_wear_ticked (record_in bytes.old) array.old rows.old count (length wear.old)).board.rows }
+    ensures wear { wear.new ≡ worn (held_wear_ticked (record_in bytes.old) array.old rows.old count (length wear.old)).tally wear.old }
 {
     let counted = counted::tick(bytes, array, rows, count, wear.len());
     wear_records::keep(wear, counted.tally);
@@ -50,14 +50,14 @@ pub extern "C" fn yawlspar_script_wear<'b>(
     done: &mut [u16],
     wear: &mut [Wear],
 ) -> u64
-    ensures answer { result ≡ scriptAnswer (heldWearScripted (recordIn bytes.old) wp (scriptOf wp input.now lengths.now ticks.now) array.old rows.old output.old answers.old done.old wear.old).run }
-    ensures bytes { bytes.new ≡ scriptBytes (recordIn bytes.old) (heldWearScripted (recordIn bytes.old) wp (scriptOf wp input.now lengths.now ticks.now) array.old rows.old output.old answers.old done.old wear.old).run bytes.old }
-    ensures array { array.new ≡ (heldWearScripted (recordIn bytes.old) wp (scriptOf wp input.now lengths.now ticks.now) array.old rows.old output.old answers.old done.old wear.old).run.board.array }
-    ensures rows { rows.new ≡ (heldWearScripted (recordIn bytes.old) wp (scriptOf wp input.now lengths.now ticks.now) array.old rows.old output.old answers.old done.old wear.old).run.board.rows }
-    ensures output { output.new ≡ (heldWearScripted (recordIn bytes.old) wp (scriptOf wp input.now lengths.now ticks.now) array.old rows.old output.old answers.old done.old wear.old).run.output }
-    ensures answers { answers.new ≡ (heldWearScripted (recordIn bytes.old) wp (scriptOf wp input.now lengths.now ticks.now) array.old rows.old output.old answers.old done.old wear.old).run.answers }
-    ensures done { done.new ≡ (heldWearScripted (recordIn bytes.old) wp (scriptOf wp input.now lengths.now ticks.now) array.old rows.old output.old answers.old done.old wear.old).run.done }
-    ensures wear { wear.new ≡ (heldWearScripted (recordIn bytes.old) wp (scriptOf wp input.now lengths.now ticks.now) array.old rows.old output.old answers.old done.old wear.old).wear }
+    ensures answer { result ≡ script_answer (held_wear_scripted (record_in bytes.old) wp (script_of wp input.now lengths.now ticks.now) array.old rows.old output.old answers.old done.old wear.old).run }
+    ensures bytes { bytes.new ≡ script_bytes (record_in bytes.old) (held_wear_scripted (record_in bytes.old) wp (script_of wp input.now lengths.now ticks.now) array.old rows.old output.old answers.old done.old wear.old).run bytes.old }
+    ensures array { array.new ≡ (held_wear_scripted (record_in bytes.old) wp (script_of wp input.now lengths.now ticks.now) array.old rows.old output.old answers.old done.old wear.old).run.board.array }
+    ensures rows { rows.new ≡ (held_wear_scripted (record_in bytes.old) wp (script_of wp input.now lengths.now ticks.now) array.old rows.old output.old answers.old done.old wear.old).run.board.rows }
+    ensures output { output.new ≡ (held_wear_scripted (record_in bytes.old) wp (script_of wp input.now lengths.now ticks.now) array.old rows.old output.old answers.old done.old wear.old).run.output }
+    ensures answers { answers.new ≡ (held_wear_scripted (record_in bytes.old) wp (script_of wp input.now lengths.now ticks.now) array.old rows.old output.old answers.old done.old wear.old).run.answers }
+    ensures done { done.new ≡ (held_wear_scripted (record_in bytes.old) wp (script_of wp input.now lengths.now ticks.now) array.old rows.old output.old answers.old done.old wear.old).run.done }
+    ensures wear { wear.new ≡ (held_wear_scripted (record_in bytes.old) wp (script_of wp input.now lengths.now ticks.now) array.old rows.old output.old answers.old done.old wear.old).wear }
 {
     let ran = script::run_wear(
         bytes, array, rows, wp, input, lengths, ticks, output, answers, done, wear,
@@ -69,8 +69,8 @@ pub extern "C" fn yawlspar_script_wear<'b>(
 // were; refused, with 1, 35 or 4, nothing is written.
 #[unsafe(no_mangle)]
 pub extern "C" fn yawlspar_wear_text(blocks: u64, wear: &[Wear], text: &mut [u8]) -> u64
-    ensures answer { result ≡ textAnswer (wearWritten blocks wear.now text.old) }
-    ensures text { text.new ≡ (wearWritten blocks wear.now text.old).text }
+    ensures answer { result ≡ text_answer (wear_written blocks wear.now text.old) }
+    ensures text { text.new ≡ (wear_written blocks wear.now text.old).text }
 {
     let written = wear_text::write(blocks, wear, text);
     yawlspar::pack(written.number, written.bytes)

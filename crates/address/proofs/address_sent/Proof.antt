@@ -5,13 +5,13 @@ use native.Mathlib.Omega.{arith}
 use lib.Seq.{take-nil, take_all, length-take-le}
 use lib.ListN.{length, take, drop, length-drop, drop_of_length-le}
 use borrow.Author.Rules.{rules}
-use Rattle.paper.specs.Address.{highFirst}
+use Rattle.paper.specs.Address.{high_first}
 use Rattle.words.proofs.Lists.{take_min}
 use Rattle.address.proofs.address_sent.Statement.{statement}
 use Rattle.address.proofs.address_sent.Tie as tie
 
 returns : tie.Need-returns
-unfolding highFirst
+unfolding high_first
 returns c =
     let e : length c.before.before.args.input.now ≤ 1 = omega (arith, c.if1.true) in
     rw (drop_of_length-le c.before.before.args.input.now e, take-nil)
@@ -51,8 +51,8 @@ returns-2 c =
     take_all 8 _ (rw (length-take-le (min (min a.count 8) (length (drop 1 xs))) (drop 1 xs) (omega arith)) (omega arith)) in
     c.high-first.ensures ∙ rw (e, t, take_min)
 
-pub address-sent-spec : {M : Type 1} → statement M
-address-sent-spec =
+pub address_sent_spec : {M : Type 1} → statement M
+address_sent_spec =
     tie.close
     (tie.spec
     returns

@@ -2,7 +2,7 @@
 use mathlib.Core.Path.{sym}
 use lib.Seq.{length-take-le}
 use borrow.Author.Rules.{rules}
-use Rattle.printing.proofs.Text.{prints-within}
+use Rattle.printing.proofs.Text.{prints_within}
 use Rattle.bench.proofs.answer.Statement.{statement}
 use Rattle.bench.proofs.answer.Tie as tie
 
@@ -14,7 +14,7 @@ slice-reshare-prefix-write-all c = search rules
 
 slice-aggregate-write-all : tie.Need-slice-aggregate-write-all
 slice-aggregate-write-all c =
-    sym (length-take-le c.before.before.before.before.before.before.before.bench.result.printed _ (prints-within c.before.before.before.before.before.before.before.bench.ensures.1.1.1))
+    sym (length-take-le c.before.before.before.before.before.before.before.bench.result.printed _ (prints_within c.before.before.before.before.before.before.before.bench.ensures.1.1.1))
 
 write-all-requires : tie.Need-write-all-requires
 write-all-requires c κs = search rules
@@ -31,8 +31,8 @@ same-length-3 c = search rules
 returns : tie.Need-returns
 returns c = search rules
 
-pub answer-spec : {M : Type 1} → statement M
-answer-spec =
+pub answer_spec : {M : Type 1} → statement M
+answer_spec =
     tie.close
     (tie.spec
     bench-requires

@@ -1,8 +1,8 @@
 -- `bench_lines::bench` meets its contract: on memory of other lengths it does nothing, else it is `on_part` on what is read.
-use Rattle.bench_lines.proofs.Course.{bench-read}
-use Rattle.bench_lines.proofs.Lent.{lent-lengths}
-use Rattle.printing.proofs.Text.{prints-empty}
-use Rattle.paper.specs.Bench.{inputLimit}
+use Rattle.bench_lines.proofs.Course.{bench_read}
+use Rattle.bench_lines.proofs.Lent.{lent_lengths}
+use Rattle.printing.proofs.Text.{prints_empty}
+use Rattle.paper.specs.Bench.{input_limit}
 use Prim.Native.Nat.{◌-◌, min}
 use lib.ListN.{length}
 use mathlib.Core.Path.{◌≡◌, refl, sym, ◌∙◌}
@@ -19,7 +19,7 @@ returns : tie.Need-returns
 returns c =
     let n = c.before.lent-number.ensures in
     let z = ne_eqb _ _ c.if1.true in
-    (n, (rw (← n, z), (rw (← n, z), rw (← n, z) (prints-empty _ 0 (omega arith)))))
+    (n, (rw (← n, z), (rw (← n, z), rw (← n, z) (prints_empty _ 0 (omega arith)))))
 
 lesser-requires : tie.Need-lesser-requires
 lesser-requires c κs = search rules
@@ -35,7 +35,7 @@ part-on-part-end c = search rules
 
 on-part-requires : tie.Need-on-part-requires
 on-part-requires c κs =
-    let e = lent-lengths _ _ (sym c.before.before.before.before.before.before.lent-number.ensures ∙ c.before.before.before.before.before.if1.false) in
+    let e = lent_lengths _ _ (sym c.before.before.before.before.before.before.lent-number.ensures ∙ c.before.before.before.before.before.if1.false) in
     (e.0, e.1, omega arith)
 
 same_length : tie.Need-same-length
@@ -52,12 +52,12 @@ returns-2 c =
     let input = c.before.before.before.before.before.before.before.before.before.before.before.before.before.before.before.before.before.before.args.input.now in
     let n = c.before.before.before.before.before.before.before.before.before.before.before.before.before.lent-number.ensures in
     let z = eq-eqb _ _ c.before.before.before.before.before.before.before.before.before.before.before.before.if1.false in
-    let k : c.before.before.before.before.before.before.before.before.before.before.before.lesser.result - 0 ≡ min inputLimit (length input) = omega (arith, c.before.before.before.before.before.before.before.before.before.before.before.lesser.ensures) in
-    let l = bench-read _ input _ _ _ _ _ (c.before.before.before.before.before.before.before.before.before.before.before.lesser.result - 0) k refl c.before.before.before.before.before.before.on-part.ensures in
+    let k : c.before.before.before.before.before.before.before.before.before.before.before.lesser.result - 0 ≡ min input_limit (length input) = omega (arith, c.before.before.before.before.before.before.before.before.before.before.before.lesser.ensures) in
+    let l = bench_read _ input _ _ _ _ _ (c.before.before.before.before.before.before.before.before.before.before.before.lesser.result - 0) k refl c.before.before.before.before.before.before.on-part.ensures in
     (sym c.before.before.before.before.before.before.before.before.before.before.before.before.if1.false ∙ n, (rw (← n, z) l.0, (rw (← n, z) l.1.0, rw (← n, z) l.1.1)))
 
-pub bench-spec : {M : Type 1} → statement M
-bench-spec =
+pub bench_spec : {M : Type 1} → statement M
+bench_spec =
     tie.close
     (tie.spec
     lent-number-requires

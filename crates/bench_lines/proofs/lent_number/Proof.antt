@@ -1,5 +1,5 @@
 -- `bench_lines::lent_number` meets its contract: no test follows the two.
-use Rattle.words.proofs.Tests.{orElse-none}
+use Rattle.words.proofs.Tests.{or_else_none}
 use mathlib.Core.Path.{◌∙◌}
 use borrow.Author.Rules.{rules}
 use Rattle.bench_lines.proofs.lent_number.Statement.{statement}
@@ -12,7 +12,7 @@ size-number-or-requires : tie.Need-size-number-or-requires
 size-number-or-requires c κs = search rules
 
 returns : tie.Need-returns
-returns c = rw (c.size-number-or.ensures, c.before.rows-number-or.ensures ∙ orElse-none _)
+returns c = rw (c.size-number-or.ensures, c.before.rows-number-or.ensures ∙ or_else_none _)
 
-pub lent-number-spec : {M : Type 1} → statement M
-lent-number-spec = tie.close (tie.spec rows-number-or-requires size-number-or-requires returns)
+pub lent_number_spec : {M : Type 1} → statement M
+lent_number_spec = tie.close (tie.spec rows-number-or-requires size-number-or-requires returns)

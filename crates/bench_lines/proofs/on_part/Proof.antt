@@ -1,8 +1,8 @@
 -- `bench_lines::on_part` meets its contract: the part is powered up on memory of FFh, and the lines are run.
 use Rattle.types.specs.declared.Stored.{Stored}
-use Rattle.paper.specs.Calls.{poweredUp}
-use Rattle.paper.specs.Bench.{benchIdentity}
-use Rattle.bench_lines.proofs.Course.{bench-board}
+use Rattle.paper.specs.Calls.{powered_up}
+use Rattle.paper.specs.Bench.{bench_identity}
+use Rattle.bench_lines.proofs.Course.{bench_board_lem}
 use Rattle.paper.specs.Board.{Board}
 use Rattle.paper.specs.Reads.{undriven}
 use mathlib.Core.Path.{ap, ◌∙◌}
@@ -38,15 +38,15 @@ returns : tie.Need-returns
 returns c =
     let s = c.before.before.before.before.before.before.before.before.before.before.before.before.before.before.before.before.before.before.before.before.before.before.before.before.before in
     let up = c.before.before.before.before.before.before.before.before.before.before.before.power-up in
-    let n = ap (λ (g : Stored). poweredUp s.args.blocks benchIdentity g) c.before.before.before.before.before.before.before.before.before.before.before.before.no-stored.ensures in
+    let n = ap (λ (g : Stored). powered_up s.args.blocks bench_identity g) c.before.before.before.before.before.before.before.before.before.before.before.before.no-stored.ensures in
     let xs = c.before.before.before.before.before.before.before.before.before.before.before.before.before.before.before.before.before.before.before.blank.ensures ∙ ap undriven s.requires.0 in
     let rs = c.before.before.before.before.before.before.before.before.before.before.before.before.before.before.before.blank2.ensures ∙ ap undriven s.requires.1 in
-    let e = bench-board s.args.blocks up.result _ _ (up.ensures ∙ n) xs rs in
+    let e = bench_board_lem s.args.blocks up.result _ _ (up.ensures ∙ n) xs rs in
     let g = rw e at c.before.before.before.before.before.before.run.ensures in
     (ap (λ (d : Board). d.array) g.0, (ap (λ (d : Board). d.rows) g.0, g.1))
 
-pub on-part-spec : {M : Type 1} → statement M
-on-part-spec =
+pub on_part_spec : {M : Type 1} → statement M
+on_part_spec =
     tie.close
     (tie.spec
     blank-requires

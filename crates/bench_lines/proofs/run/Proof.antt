@@ -1,6 +1,6 @@
 -- `bench_lines::run` meets its contract. The loop's invariant: what the lines that are left leave and print is what all lines do (`Goes`).
-use Rattle.bench_lines.proofs.Course.{Goes, goes-start, goes_on, goes_end, line-end}
-use Rattle.paper.specs.Board.{boardOf}
+use Rattle.bench_lines.proofs.Course.{Goes, goes_start, goes_on, goes_end, line_end}
+use Rattle.paper.specs.Board.{board_of}
 use lib.ListN.{length}
 use mathlib.Core.Path.{◌≡◌, refl, sym, ◌∙◌}
 use Prim.Native.Nat.{◌-◌}
@@ -11,7 +11,7 @@ use Rattle.bench_lines.proofs.run.Tie as tie
 
 abbrev invariant-loop : tie.invariant-loop
 invariant-loop array₀ rows₀ most input output₀ sent₀ back₀ ran₀ n from₀ array rows output sent back ran from =
-    Goes most input (boardOf ran₀.next array₀ rows₀) output₀ from (boardOf ran.next array rows) output ran.printed × (length array ≡ length array₀) × (length rows ≡ length rows₀) × (length sent ≡ 4096) × (length back ≡ 4096)
+    Goes most input (board_of ran₀.next array₀ rows₀) output₀ from (board_of ran.next array rows) output ran.printed × (length array ≡ length array₀) × (length rows ≡ length rows₀) × (length sent ≡ 4096) × (length back ≡ 4096)
 
 abbrev decreases-loop : tie.decreases-loop
 decreases-loop array₀ rows₀ most input output₀ sent₀ back₀ ran₀ n from₀ array rows output sent back ran from =
@@ -24,7 +24,7 @@ room-requires-2 : tie.Need-room-requires-2 invariant-loop decreases-loop
 room-requires-2 c κs = search rules
 
 loop-holds : tie.Need-loop-init invariant-loop decreases-loop
-loop-holds c = (goes-start _ _ _ _, refl, refl, sym c.before.room.ensures, sym c.room2.ensures)
+loop-holds c = (goes_start _ _ _ _, refl, refl, sym c.before.room.ensures, sym c.room2.ensures)
 
 find-requires : tie.Need-find-requires invariant-loop decreases-loop
 find-requires c κs = search rules
@@ -62,7 +62,7 @@ loop-again c =
     let l = c.before.before.before.before.before.before.before.before.before.before.before.before.before.before.before.before.before.before.before.loop in
     let find = c.before.before.before.before.before.before.before.before.before.before.before.before.before.before.before.before.before.find in
     let run-line = c.before.before.before.before.before.before.before.before.before.run-line in
-    let e = line-end c.before.before.before.before.before.before.before.before.before.before.before.before.before.before.before.before.before.before.before.before.before.before.before.before.before.before.args.input.now l.from find.result find.ensures.0 in
+    let e = line_end c.before.before.before.before.before.before.before.before.before.before.before.before.before.before.before.before.before.before.before.before.before.before.before.before.before.before.args.input.now l.from find.result find.ensures.0 in
     (rw c.after.ensures (goes_on _ _ _ _ _ _ _ _ l.invariant.0 find.result _ _ _ c.before.before.before.before.before.before.before.before.before.before.before.before.before.before.before.before.before.before.loop-test.true e run-line.ensures.0 run-line.ensures.1), c.before.before.before.before.before.before.before.before.array.given ∙ l.invariant.1, c.before.before.before.before.before.before.rows.given ∙ l.invariant.2, c.before.before.before.before.sent2.given, c.before.before.before.back2.given)
 
 same_length : tie.Need-same-length invariant-loop decreases-loop

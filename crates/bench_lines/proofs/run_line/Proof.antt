@@ -1,6 +1,6 @@
 -- `bench_lines::run_line` meets its contract, for each thing that a line can say.
-use Rattle.paper.specs.Board.{boardOf}
-use Rattle.bench_lines.proofs.Course.{line-room, sent-board}
+use Rattle.paper.specs.Board.{board_of}
+use Rattle.bench_lines.proofs.Course.{line_room, sent_board}
 use mathlib.Core.Path.{refl, sym, ◌∙◌}
 use borrow.Author.Rules.{rules}
 use Rattle.bench_lines.proofs.run_line.Statement.{statement}
@@ -15,7 +15,7 @@ enum-known-said c = search rules
 sub-n : tie.Need-overflow-sub-n
 sub-n c =
     let s = c.before.before.before.before.before.before.before.before.before.before in
-    (line-room s.args.most s.args.line.now s.args.sent.now s.args.back.now _ (sym c.before.before.before.Line-of.ensures ∙ c.before.said.given.1) s.requires.0 s.requires.1).0
+    (line_room s.args.most s.args.line.now s.args.sent.now s.args.back.now _ (sym c.before.before.before.Line-of.ensures ∙ c.before.said.given.1) s.requires.0 s.requires.1).0
 
 sub-send : tie.Need-overflow-sub-send
 sub-send c = search rules
@@ -26,7 +26,7 @@ part-send-start c = search rules
 part-send-end : tie.Need-slice-bounds-send-end
 part-send-end c =
     let s = c.before.before.before.before.before.before.before.before.before.before.before.before in
-    (line-room s.args.most s.args.line.now s.args.sent.now s.args.back.now _ (sym c.before.before.before.before.before.Line-of.ensures ∙ c.before.before.before.said.given.1) s.requires.0 s.requires.1).1
+    (line_room s.args.most s.args.line.now s.args.sent.now s.args.back.now _ (sym c.before.before.before.before.before.Line-of.ensures ∙ c.before.before.before.said.given.1) s.requires.0 s.requires.1).1
 
 sub-send-2 : tie.Need-overflow-sub-send-2
 sub-send-2 c = search rules
@@ -37,12 +37,12 @@ part-send-start-2 c = search rules
 part-send-end-2 : tie.Need-slice-bounds-send-end-2
 part-send-end-2 c =
     let s = c.before.before.before.before.before.before.before.before.before.before.before.before.before in
-    (line-room s.args.most s.args.line.now s.args.sent.now s.args.back.now _ (sym c.before.before.before.before.before.before.Line-of.ensures ∙ c.before.before.before.before.said.given.1) s.requires.0 s.requires.1).2
+    (line_room s.args.most s.args.line.now s.args.sent.now s.args.back.now _ (sym c.before.before.before.before.before.before.Line-of.ensures ∙ c.before.before.before.before.said.given.1) s.requires.0 s.requires.1).2
 
 send-requires : tie.Need-send-requires
 send-requires c κs =
     let s = c.before.before.before.before.before.before.before.before.before.before.before.before.before.before.before in
-    let r = line-room s.args.most s.args.line.now s.args.sent.now s.args.back.now _ (sym c.before.before.before.before.before.before.before.before.Line-of.ensures ∙ c.before.before.before.before.before.before.said.given.1) s.requires.0 s.requires.1 in
+    let r = line_room s.args.most s.args.line.now s.args.sent.now s.args.back.now _ (sym c.before.before.before.before.before.before.before.before.Line-of.ensures ∙ c.before.before.before.before.before.before.said.given.1) s.requires.0 s.requires.1 in
     (r.3, r.4)
 
 enum-known-said-2 : tie.Need-enum-known-said-2
@@ -76,7 +76,7 @@ returns : tie.Need-returns
 returns c =
     let a = c.before.before.before.before.before.before.before.before.before.before.before.before.before.before.before.before.before.before.before.before.before.before.args in
     let e = sym c.before.before.before.before.before.before.before.before.before.before.before.before.before.before.before.Line-of.ensures ∙ c.before.before.before.before.before.before.before.before.before.before.before.before.before.said.given.1 in
-    rw e (sent-board (boardOf a.state a.array.now a.rows.now) _ _ _ c.before.before.before.before.before.before.send.ensures.0, c.before.before.before.before.before.before.send.ensures.1)
+    rw e (sent_board (board_of a.state a.array.now a.rows.now) _ _ _ c.before.before.before.before.before.before.send.ensures.0, c.before.before.before.before.before.before.send.ensures.1)
 
 same-length-6 : tie.Need-same-length-6
 same-length-6 c = c.before.before.before.before.before.array.given
@@ -100,8 +100,8 @@ returns-3 c =
     let e = sym c.before.before.before.before.before.before.Line-of.ensures ∙ c.before.before.before.before.enum_told.given.1 in
     rw e (refl, c.before.before.put_other.ensures)
 
-pub run-line-spec : {M : Type 1} → statement M
-run-line-spec =
+pub run_line_spec : {M : Type 1} → statement M
+run_line_spec =
     tie.close
     (tie.spec
     line-of-requires

@@ -1,5 +1,5 @@
 -- `bench_lines::send` meets its contract: the call is made with the bytes of the pairs and a buffer of FFh, and its answer is printed.
-use Rattle.bench_lines.proofs.Course.{sent-pairs, sent-as}
+use Rattle.bench_lines.proofs.Course.{sent_pairs, sent_as_lem}
 use Rattle.paper.specs.Bench.{pairs}
 use Rattle.types.specs.declared.Answer.{Answer}
 use mathlib.Core.Path.{ap, ◌∙◌}
@@ -43,11 +43,11 @@ returns : tie.Need-returns
 returns c =
     let s = c.before.before.before.before.before.before.before.before.before.before.before.before.before.before.before.before.before.before.before.before.before.before.before.before.before.before in
     let a = s.args in
-    let r = sent-as a.state a.array.now a.rows.now a.wp (pairs (drop 2 a.line.now)) c.before.before.before.before.before.before.before.before.before.before.before.before.before.before.before.before.before.bytes_of.new.1.0 a.back.now c.before.before.before.before.before.before.before.before.before.before.before.before.before.blank.new.0 c.before.before.before.before.before.before.before.before.transact.new.1.1.1.1.1.0 c.before.before.before.before.before.before.before.before.transact.result (sent-pairs a.line.now a.sent.now _ s.requires.0 c.before.before.before.before.before.before.before.before.before.before.before.before.before.before.before.before.before.bytes_of.ensures) (omega (arith, s.requires, c.before.before.before.before.before.before.before.before.before.before.before.before.before.before.before.before.sent.given, c.before.before.before.before.before.before.before.before.before.before.before.before.back.given)) c.before.before.before.before.before.before.before.before.before.before.before.before.before.blank.ensures c.before.before.before.before.before.before.before.before.transact.ensures.0 c.before.before.before.before.before.before.before.before.transact.ensures.1 in
+    let r = sent_as_lem a.state a.array.now a.rows.now a.wp (pairs (drop 2 a.line.now)) c.before.before.before.before.before.before.before.before.before.before.before.before.before.before.before.before.before.bytes_of.new.1.0 a.back.now c.before.before.before.before.before.before.before.before.before.before.before.before.before.blank.new.0 c.before.before.before.before.before.before.before.before.transact.new.1.1.1.1.1.0 c.before.before.before.before.before.before.before.before.transact.result (sent_pairs a.line.now a.sent.now _ s.requires.0 c.before.before.before.before.before.before.before.before.before.before.before.before.before.before.before.before.before.bytes_of.ensures) (omega (arith, s.requires, c.before.before.before.before.before.before.before.before.before.before.before.before.before.before.before.before.sent.given, c.before.before.before.before.before.before.before.before.before.before.before.before.back.given)) c.before.before.before.before.before.before.before.before.before.before.before.before.before.blank.ensures c.before.before.before.before.before.before.before.before.transact.ensures.0 c.before.before.before.before.before.before.before.before.transact.ensures.1 in
     (ap (λ (x : Answer). x.next) r.0, rw (← r.0, ← r.1) c.before.before.put-answer.ensures)
 
-pub send-spec : {M : Type 1} → statement M
-send-spec =
+pub send_spec : {M : Type 1} → statement M
+send_spec =
     tie.close
     (tie.spec
     sub-bytes-of

@@ -2,13 +2,13 @@
 use mathlib.Core.Path.{sym, ap, ◌∙◌}
 use borrow.Author.Tests.{not-true, not-false}
 use Rattle.record_bytes.specs.declared.Found.{Found}
-use Rattle.beside.proofs.Told.{it-fits, unheld, found-so}
+use Rattle.beside.proofs.Told.{it_fits, unheld, found_so}
 use borrow.Author.Rules.{rules}
 use Rattle.beside.proofs.refusal.Statement.{statement}
 use Rattle.beside.proofs.refusal.Tie as tie
 
 returns : tie.Need-returns
-returns c = it-fits _ _ _ _ c.if1.true
+returns c = it_fits _ _ _ _ c.if1.true
 
 read-requires : tie.Need-read-requires
 read-requires c κs = search rules
@@ -24,8 +24,8 @@ size-number-or-requires c κs = search rules
 returns-3 : tie.Need-returns-3
 returns-3 c =
     let x = c.before.before.before.before.read in
-    found-so c.before.before.before.before.before.before.before.args.bytes.now _ _ _ c.before.before.before.before.before.if1.false x.result x.ensures (ap (λ (f : Found). f.ok) (sym x.ensures) ∙ not-false _ c.before.before.if2.false) _ c.size-number-or.ensures
+    found_so c.before.before.before.before.before.before.before.args.bytes.now _ _ _ c.before.before.before.before.before.if1.false x.result x.ensures (ap (λ (f : Found). f.ok) (sym x.ensures) ∙ not-false _ c.before.before.if2.false) _ c.size-number-or.ensures
 
-pub refusal-spec : {M : Type 1} → statement M
-refusal-spec =
+pub refusal_spec : {M : Type 1} → statement M
+refusal_spec =
     tie.close (tie.spec returns read-requires returns-2 size-number-or-requires returns-3)

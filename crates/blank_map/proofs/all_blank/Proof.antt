@@ -8,7 +8,7 @@ use lib.Dec.{eqb}
 use lib.ListN.{length, get_or}
 use borrow.Author.Rules.{rules}
 use Rattle.words.specs.Lists.{all_below, AreBytes}
-use Rattle.blank_map.proofs.Blank.{blank-more}
+use Rattle.blank_map.proofs.Blank.{blank_more}
 use Rattle.blank_map.proofs.all_blank.Statement.{statement}
 use Rattle.blank_map.proofs.all_blank.Tie as tie
 
@@ -36,7 +36,7 @@ loop-again c =
     let l = c.before.before.loop in
     let xs = c.before.before.before.args.bytes.now in
     let bytes : AreBytes xs = λ j. omega (arith, c.shared-slice-known.given j) in
-    (rw add-one (blank-more xs l.all l.i bytes l.invariant.1 l.invariant.0), omega (arith, and_le_l l.all (get_or xs l.i 0)), omega arith)
+    (rw add-one (blank_more xs l.all l.i bytes l.invariant.1 l.invariant.0), omega (arith, and_le_l l.all (get_or xs l.i 0)), omega arith)
 
 returns : tie.Need-returns invariant-loop decreases-loop
 returns c =
@@ -44,7 +44,7 @@ returns c =
     let e : l.i ≡ length c.before.before.args.bytes.now = omega (arith, l.invariant.2) in
     rw (← e) l.invariant.0
 
-pub all-blank-spec : {M : Type 1} → statement M
-all-blank-spec =
+pub all_blank_spec : {M : Type 1} → statement M
+all_blank_spec =
     tie.close
     (tie.spec invariant-loop decreases-loop loop-holds shared-slice-read-all add-i loop-less loop-again returns)

@@ -9,8 +9,8 @@ use lib.ListN.{get_or}
 use borrow.Author.Rules.{rules}
 use borrow.Author.Tests.{not-true, not-false}
 use Rattle.words.specs.Lists.{all_below}
-use Rattle.paper.specs.Map.{blankPage}
-use Rattle.blank_map.proofs.Blank.{page-out, chunk-full, chunk-not}
+use Rattle.paper.specs.Map.{blank_page}
+use Rattle.blank_map.proofs.Blank.{page_out, chunk_full_lem, chunk_not}
 use Rattle.blank_map.proofs.blank_page.Statement.{statement}
 use Rattle.blank_map.proofs.blank_page.Tie as tie
 
@@ -23,7 +23,7 @@ decreases-loop array page base k₀ k = 4 - k
 returns : tie.Need-returns invariant-loop decreases-loop
 returns c =
     let a = c.before.before.args in
-    sym (page-out a.array.now a.page c.if1.true)
+    sym (page_out a.array.now a.page c.if1.true)
 
 mul-base : tie.Need-overflow-mul-base invariant-loop decreases-loop
 mul-base c = omega arith
@@ -58,7 +58,7 @@ returns-2 c =
     let a = c.before.before.before.before.before.before.before.args in
     let l = c.before.before.before.before.loop in
     let at = a.page * 256 + l.k * 64 in
-    sym (chunk-not a.array.now a.page l.k at (at + 64 - at) refl (omega arith) (omega arith) c.before.before.before.loop-test.true (sym c.before.all-blank.ensures ∙ not-true _ c.if2.true))
+    sym (chunk_not a.array.now a.page l.k at (at + 64 - at) refl (omega arith) (omega arith) c.before.before.before.loop-test.true (sym c.before.all-blank.ensures ∙ not-true _ c.if2.true))
 
 add-k : tie.Need-overflow-add-k invariant-loop decreases-loop
 add-k c = omega arith
@@ -71,18 +71,18 @@ loop-again c =
     let a = c.before.before.before.before.before.before.before.args in
     let l = c.before.before.before.before.loop in
     let at = a.page * 256 + l.k * 64 in
-    (rw add-one (chunk-full a.array.now a.page l.k at (at + 64 - at) refl (omega arith) (omega arith) l.invariant.0 (sym c.before.all-blank.ensures ∙ not-false _ c.if2.false)), omega arith)
+    (rw add-one (chunk_full_lem a.array.now a.page l.k at (at + 64 - at) refl (omega arith) (omega arith) l.invariant.0 (sym c.before.all-blank.ensures ∙ not-false _ c.if2.false)), omega arith)
 
 returns-3 : tie.Need-returns-3 invariant-loop decreases-loop
-unfolding blankPage
+unfolding blank_page
 returns-3 c =
     let l = c.before.loop in
     let a = c.before.before.before.before.args in
     let e : l.k ≡ 4 = omega (arith, l.invariant.1) in
     sym (ap (λ (k : ℕ). all_below (k * 64) (λ (i : ℕ). eqb (get_or a.array.now (a.page * 256 + i) 0) 255)) (sym e) ∙ l.invariant.0)
 
-pub blank-page-spec : {M : Type 1} → statement M
-blank-page-spec =
+pub blank_page_spec : {M : Type 1} → statement M
+blank_page_spec =
     tie.close
     (tie.spec
     invariant-loop

@@ -8,14 +8,14 @@ use lib.ListN.{length, drop, length-set}
 use lib.Seq.{drop-length}
 use borrow.Author.Rules.{rules}
 use Rattle.words.specs.Lists.{up_to}
-use Rattle.words.specs.Bits.{byteOf}
-use Rattle.paper.specs.Map.{blankPage}
+use Rattle.words.specs.Bits.{byte_of}
+use Rattle.paper.specs.Map.{blank_page}
 use Rattle.blank_map.proofs.Blank.{made_more}
 use Rattle.blank_map.proofs.build.Statement.{statement}
 use Rattle.blank_map.proofs.build.Tie as tie
 
 abbrev invariant-loop : tie.invariant-loop
-invariant-loop array map₀ j₀ map j = (map ≡ up_to j (byteOf (blankPage array)) ++ drop j map₀) × (length map ≡ length map₀) × (j ≤ length map₀)
+invariant-loop array map₀ j₀ map j = (map ≡ up_to j (byte_of (blank_page array)) ++ drop j map₀) × (length map ≡ length map₀) × (j ≤ length map₀)
 
 abbrev decreases-loop : tie.decreases-loop
 decreases-loop array map₀ j₀ map j = length map₀ - j
@@ -40,7 +40,7 @@ loop-again c =
     let l = c.before.before.loop in
     let a = c.before.before.before.before.before.args in
     let i<n : l.j < length a.map.now = omega (arith, l.invariant.1, c.before.loop-test.true) in
-    (rw (l.invariant.0, c.byte_of.ensures, add-one) (made_more a.map.now (byteOf (blankPage a.array.now)) l.j i<n), simp length-set l.invariant.1, omega arith)
+    (rw (l.invariant.0, c.byte_of.ensures, add-one) (made_more a.map.now (byte_of (blank_page a.array.now)) l.j i<n), simp length-set l.invariant.1, omega arith)
 
 same_length : tie.Need-same-length invariant-loop decreases-loop
 same_length c = c.before.loop.invariant.1
@@ -51,8 +51,8 @@ returns c =
     let e : l.j ≡ length c.before.before.before.before.args.map.now = omega (arith, l.invariant.1, c.loop-test.false) in
     l.invariant.0 ∙ rw (e, drop-length, append-nil)
 
-pub build-spec : {M : Type 1} → statement M
-build-spec =
+pub build_spec : {M : Type 1} → statement M
+build_spec =
     tie.close
     (tie.spec
     invariant-loop

@@ -4,15 +4,15 @@ use mathlib.Core.Path.{◌≡◌, refl, ap, ◌∙◌}
 use native.Mathlib.Nat.{add-zero}
 use native.Mathlib.Omega.{arith}
 use borrow.Author.Rules.{rules}
-use Rattle.words.specs.Bits.{bitsFrom, byteOf}
+use Rattle.words.specs.Bits.{bits_from, byte_of}
 use Rattle.words.proofs.Tests.{bit_le}
-use Rattle.paper.specs.Map.{blankPage}
+use Rattle.paper.specs.Map.{blank_page}
 use Rattle.blank_map.proofs.Blank.{few_bits, bits_below}
 use Rattle.blank_map.proofs.byte_of.Statement.{statement}
 use Rattle.blank_map.proofs.byte_of.Tie as tie
 
 abbrev invariant-loop : tie.invariant-loop
-invariant-loop array j byte₀ k₀ byte k = (byte ≡ bitsFrom (8 - k) (blankPage array) (j * 8 + k)) × (k ≤ 8)
+invariant-loop array j byte₀ k₀ byte k = (byte ≡ bits_from (8 - k) (blank_page array) (j * 8 + k)) × (k ≤ 8)
 
 abbrev decreases-loop : tie.decreases-loop
 decreases-loop array j byte₀ k₀ byte k = k
@@ -26,7 +26,7 @@ sub-k c = omega arith
 mul-byte : tie.Need-overflow-mul-byte invariant-loop decreases-loop
 mul-byte c =
     let l = c.before.loop in
-    omega (arith, l.invariant.0, few_bits (8 - l.k) (blankPage c.before.before.before.args.array.now) (c.before.before.before.args.j * 8 + l.k) (omega arith))
+    omega (arith, l.invariant.0, few_bits (8 - l.k) (blank_page c.before.before.before.args.array.now) (c.before.before.before.args.j * 8 + l.k) (omega arith))
 
 mul-blank-page : tie.Need-overflow-mul-blank-page invariant-loop decreases-loop
 mul-blank-page c = omega (arith, c.before.before.before.requires)
@@ -44,7 +44,7 @@ add-byte : tie.Need-overflow-add-byte invariant-loop decreases-loop
 add-byte c =
     let l = c.before.before.before.loop in
     let a = c.before.before.before.before.before.args in
-    omega (arith, l.invariant.0, few_bits (8 - l.k) (blankPage a.array.now) (a.j * 8 + l.k) (omega arith), c.bit-of.ensures, bit_le c.before.blank-page.result)
+    omega (arith, l.invariant.0, few_bits (8 - l.k) (blank_page a.array.now) (a.j * 8 + l.k) (omega arith), c.bit-of.ensures, bit_le c.before.blank-page.result)
 
 loop-less : tie.Need-loop-smaller invariant-loop decreases-loop
 loop-less c = omega arith
@@ -53,18 +53,18 @@ loop-again : tie.Need-loop-preserved invariant-loop decreases-loop
 loop-again c =
     let l = c.before.before.before.loop in
     let a = c.before.before.before.before.before.args in
-    (rw (l.invariant.0, c.bit-of.ensures, c.before.blank-page.ensures) (bits_below (blankPage a.array.now) (a.j * 8) l.k c.before.before.loop-test.true l.invariant.1), omega arith)
+    (rw (l.invariant.0, c.bit-of.ensures, c.before.blank-page.ensures) (bits_below (blank_page a.array.now) (a.j * 8) l.k c.before.before.loop-test.true l.invariant.1), omega arith)
 
 returns : tie.Need-returns invariant-loop decreases-loop
-unfolding byteOf
+unfolding byte_of
 returns c =
     let l = c.before.loop in
     let a = c.before.before.before.args in
     let e : l.k ≡ 0 = omega arith in
-    l.invariant.0 ∙ ap (λ (k : ℕ). bitsFrom (8 - k) (blankPage a.array.now) (a.j * 8 + k)) e ∙ ap (bitsFrom 8 (blankPage a.array.now)) (add-zero (a.j * 8))
+    l.invariant.0 ∙ ap (λ (k : ℕ). bits_from (8 - k) (blank_page a.array.now) (a.j * 8 + k)) e ∙ ap (bits_from 8 (blank_page a.array.now)) (add-zero (a.j * 8))
 
-pub byte-of-spec : {M : Type 1} → statement M
-byte-of-spec =
+pub byte_of_spec : {M : Type 1} → statement M
+byte_of_spec =
     tie.close
     (tie.spec
     invariant-loop

@@ -7,7 +7,7 @@ use lib.Count.{trailing_le}
 use borrow.Author.Rules.{rules}
 use borrow.Author.Tests.{eq-eqb, ne_eqb}
 use Rattle.blank_map.specs.Marked.{rest_at}
-use Rattle.blank_map.proofs.Clear.{seen_by, next-seen}
+use Rattle.blank_map.proofs.Clear.{seen_by_lem, next_seen}
 use Rattle.blank_map.proofs.clear_from.Statement.{statement}
 use Rattle.blank_map.proofs.clear_from.Tie as tie
 
@@ -26,7 +26,7 @@ cast-result c = let a = c.before.before.before.args in omega (arith, trailing_le
 returns : tie.Need-returns
 returns c =
     let a = c.before.before.before.args in
-    next-seen a.map.now a.bit (omega (arith, c.before.shared-slice-known2.given (a.bit / 8))) c.if1.true
+    next_seen a.map.now a.bit (omega (arith, c.before.shared-slice-known2.given (a.bit / 8))) c.if1.true
 
 sub-result : tie.Need-overflow-sub-result
 sub-result c = search rules
@@ -34,7 +34,7 @@ sub-result c = search rules
 returns-2 : tie.Need-returns-2
 returns-2 c =
     let a = c.before.before.before.before.args in
-    sym (seen_by a.map.now a.bit true false _ (eq-eqb _ 0 c.before.if1.false) (ne_eqb (a.bit % 8) 0 c.if2.true) refl)
+    sym (seen_by_lem a.map.now a.bit true false _ (eq-eqb _ 0 c.before.if1.false) (ne_eqb (a.bit % 8) 0 c.if2.true) refl)
 
 zero-group-requires : tie.Need-zero-group-requires
 zero-group-requires c κs = search rules
@@ -42,15 +42,15 @@ zero-group-requires c κs = search rules
 returns-3 : tie.Need-returns-3
 returns-3 c =
     let a = c.before.before.before.before.before.before.args in
-    sym (seen_by a.map.now a.bit true true true (eq-eqb _ 0 c.before.before.before.if1.false) (eq-eqb (a.bit % 8) 0 c.before.before.if2.false) (sym c.before.zero-group.ensures ∙ c.if3.true))
+    sym (seen_by_lem a.map.now a.bit true true true (eq-eqb _ 0 c.before.before.before.if1.false) (eq-eqb (a.bit % 8) 0 c.before.before.if2.false) (sym c.before.zero-group.ensures ∙ c.if3.true))
 
 returns-4 : tie.Need-returns-4
 returns-4 c =
     let a = c.before.before.before.before.before.before.args in
-    sym (seen_by a.map.now a.bit true true false (eq-eqb _ 0 c.before.before.before.if1.false) (eq-eqb (a.bit % 8) 0 c.before.before.if2.false) (sym c.before.zero-group.ensures ∙ c.if3.false))
+    sym (seen_by_lem a.map.now a.bit true true false (eq-eqb _ 0 c.before.before.before.if1.false) (eq-eqb (a.bit % 8) 0 c.before.before.if2.false) (sym c.before.zero-group.ensures ∙ c.if3.false))
 
-pub clear-from-spec : {M : Type 1} → statement M
-clear-from-spec =
+pub clear_from_spec : {M : Type 1} → statement M
+clear_from_spec =
     tie.close
     (tie.spec
     shared-slice-read-rest

@@ -21,6 +21,6 @@ returns c = rw c.before.before.before.before.enum_told.given.1 c.before.before.m
 returns-2 : tie.Need-returns-2
 returns-2 c = search rules
 
-pub keep-erase-spec : {M : Type 1} → statement M
-keep-erase-spec =
+pub keep_erase_spec : {M : Type 1} → statement M
+keep_erase_spec =
     tie.close (tie.spec enum_told mark-pages-requires enum-told-2 same_length returns returns-2)

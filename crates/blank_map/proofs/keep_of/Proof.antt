@@ -36,8 +36,8 @@ returns-2 c = rw c.before.before.before.before.before.before.operation2.given.1 
 returns-3 : tie.Need-returns-3
 returns-3 c = search rules
 
-pub keep-of-spec : {M : Type 1} → statement M
-keep-of-spec =
+pub keep_of_spec : {M : Type 1} → statement M
+keep_of_spec =
     tie.close
     (tie.spec
     enum-known-operation

@@ -12,5 +12,5 @@ returns c = rw (← c.before.Size-ok.ensures, c.if1.true)
 returns-2 : tie.Need-returns-2
 returns-2 c = rw (← c.before.Size-ok.ensures, c.if1.false)
 
-pub known-blocks-spec : {M : Type 1} → statement M
-known-blocks-spec = tie.close (tie.spec size-ok-requires returns returns-2)
+pub known_blocks_spec : {M : Type 1} → statement M
+known_blocks_spec = tie.close (tie.spec size-ok-requires returns returns-2)

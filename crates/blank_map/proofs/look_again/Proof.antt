@@ -3,8 +3,8 @@ use Prim.Native.Nat.{◌*◌, ◌/◌, ◌%◌, ◌+◌}
 use mathlib.Core.Path.{◌≡◌, sym, ◌∙◌}
 use native.Mathlib.Omega.{arith}
 use borrow.Author.Rules.{rules}
-use Rattle.words.proofs.BitLists.{put-out}
-use Rattle.paper.specs.Map.{blankPage}
+use Rattle.words.proofs.BitLists.{put_out}
+use Rattle.paper.specs.Map.{blank_page}
 use Rattle.blank_map.proofs.look_again.Statement.{statement}
 use Rattle.blank_map.proofs.look_again.Tie as tie
 
@@ -21,13 +21,13 @@ returns : tie.Need-returns
 returns c =
     let a = c.before.before.before.before.before.before.before.before.args in
     let e : a.page / 8 * 8 + a.page % 8 ≡ a.page = omega arith in
-    c.before.before.put-bit.ensures ∙ rw (c.before.before.before.before.blank-page.ensures, e)
+    c.before.before.put_bit_lem.ensures ∙ rw (c.before.before.before.before.blank-page.ensures, e)
 
 returns-2 : tie.Need-returns-2
 returns-2 c =
     let a = c.before.before.before.args in
-    sym (put-out a.map.now a.page (blankPage a.array.now a.page) (omega (arith, c.if1.false)))
+    sym (put_out a.map.now a.page (blank_page a.array.now a.page) (omega (arith, c.if1.false)))
 
-pub look-again-spec : {M : Type 1} → statement M
-look-again-spec =
+pub look_again_spec : {M : Type 1} → statement M
+look_again_spec =
     tie.close (tie.spec blank-page-requires put-bit-requires same_length returns returns-2)

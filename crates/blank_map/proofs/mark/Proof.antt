@@ -4,14 +4,14 @@ use mathlib.Core.Path.{refl, sym}
 use mathlib.Core.Bool.{true}
 use native.Mathlib.Omega.{arith}
 use borrow.Author.Rules.{rules}
-use Rattle.blank_map.proofs.Marks.{puts-out, in-parts, in-two-parts}
+use Rattle.blank_map.proofs.Marks.{puts_out, in-parts, in-two-parts}
 use Rattle.blank_map.proofs.mark.Statement.{statement}
 use Rattle.blank_map.proofs.mark.Tie as tie
 
 returns : tie.Need-returns
 returns c =
     let a = c.before.before.args in
-    sym (puts-out a.count (a.j * 8 + a.place) (λ (q : ℕ). true) a.map.now (omega (arith, c.if1.true)))
+    sym (puts_out a.count (a.j * 8 + a.place) (λ (q : ℕ). true) a.map.now (omega (arith, c.if1.true)))
 
 sub-lesser : tie.Need-overflow-sub-lesser
 sub-lesser c = search rules

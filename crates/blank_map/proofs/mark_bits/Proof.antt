@@ -4,13 +4,13 @@ use mathlib.Core.Path.{◌≡◌, refl, ◌∙◌}
 use mathlib.Core.Bool.{true}
 use native.Mathlib.Numerals.{add-one}
 use native.Mathlib.Omega.{arith}
-use Rattle.words.specs.Bits.{putBits}
-use Rattle.words.proofs.BitLists.{puts-length}
+use Rattle.words.specs.Bits.{put_bits}
+use Rattle.words.proofs.BitLists.{puts_length}
 use Rattle.blank_map.proofs.mark_bits.Statement.{statement}
 use Rattle.blank_map.proofs.mark_bits.Tie as tie
 
 abbrev invariant-loop : tie.invariant-loop
-invariant-loop map₀ j place count i₀ map i = (map ≡ putBits i (j * 8 + place) (λ (q : ℕ). true) map₀) × (i ≤ count)
+invariant-loop map₀ j place count i₀ map i = (map ≡ put_bits i (j * 8 + place) (λ (q : ℕ). true) map₀) × (i ≤ count)
 
 abbrev decreases-loop : tie.decreases-loop
 decreases-loop map₀ j place count i₀ map i = count - i
@@ -35,13 +35,13 @@ loop-again c =
     let l = c.before.before.before.before.before.loop in
     let a = c.before.before.before.before.before.before.before.args in
     let e : a.j * 8 + (a.place + l.i) ≡ a.j * 8 + a.place + l.i = omega arith in
-    (rw add-one (c.before.before.put-bit.ensures ∙ rw (l.invariant.0, e) refl), omega arith)
+    (rw add-one (c.before.before.put_bit_lem.ensures ∙ rw (l.invariant.0, e) refl), omega arith)
 
 same_length : tie.Need-same-length invariant-loop decreases-loop
 same_length c =
     let a = c.before.before.before.args in
     let l = c.before.loop in
-    rw l.invariant.0 (puts-length (a.j * 8 + a.place) (λ (q : ℕ). true) a.map.now l.i)
+    rw l.invariant.0 (puts_length (a.j * 8 + a.place) (λ (q : ℕ). true) a.map.now l.i)
 
 returns : tie.Need-returns invariant-loop decreases-loop
 returns c =
@@ -50,8 +50,8 @@ returns c =
     let e : l.i ≡ a.count = omega (arith, l.invariant.1) in
     rw (← e) l.invariant.0
 
-pub mark-bits-spec : {M : Type 1} → statement M
-mark-bits-spec =
+pub mark_bits_spec : {M : Type 1} → statement M
+mark_bits_spec =
     tie.close
     (tie.spec
     invariant-loop

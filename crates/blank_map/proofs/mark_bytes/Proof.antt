@@ -5,14 +5,14 @@ use mathlib.Core.Bool.{true}
 use native.Mathlib.Omega.{arith}
 use borrow.Author.Rules.{rules}
 use Rattle.words.specs.Lists.{AreBytes}
-use Rattle.blank_map.proofs.Marks.{puts-out, bytes-put}
+use Rattle.blank_map.proofs.Marks.{puts_out, bytes_put}
 use Rattle.blank_map.proofs.mark_bytes.Statement.{statement}
 use Rattle.blank_map.proofs.mark_bytes.Tie as tie
 
 returns : tie.Need-returns
 returns c =
     let a = c.before.before.args in
-    sym (puts-out (a.count * 8) (a.j * 8) (λ q. true) a.map.now (omega (arith, c.if1.true)))
+    sym (puts_out (a.count * 8) (a.j * 8) (λ q. true) a.map.now (omega (arith, c.if1.true)))
 
 sub-lesser : tie.Need-overflow-sub-lesser
 sub-lesser c = search rules
@@ -43,10 +43,10 @@ returns-2 c =
     let a = c.before.before.before.before.before.before.before.args in
     let k = c.before.before.before.before.lesser in
     let bytes : AreBytes a.map.now = λ i. omega (arith, c.before.before.before.before.before.before.slice-known.given i) in
-    bytes-put a.map.now a.j a.count k.result bytes (omega arith) k.ensures (a.j + k.result - a.j) (omega arith) _ c.before.before.blank.ensures
+    bytes_put a.map.now a.j a.count k.result bytes (omega arith) k.ensures (a.j + k.result - a.j) (omega arith) _ c.before.before.blank.ensures
 
-pub mark-bytes-spec : {M : Type 1} → statement M
-mark-bytes-spec =
+pub mark_bytes_spec : {M : Type 1} → statement M
+mark_bytes_spec =
     tie.close
     (tie.spec
     returns

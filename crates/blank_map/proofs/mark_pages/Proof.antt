@@ -4,7 +4,7 @@ use mathlib.Core.Path.{◌≡◌, ap, ◌∙◌}
 use mathlib.Core.Bool.{true}
 use native.Mathlib.Omega.{arith}
 use borrow.Author.Rules.{rules}
-use Rattle.words.specs.Bits.{putBits}
+use Rattle.words.specs.Bits.{put_bits}
 use Rattle.blank_map.proofs.mark_pages.Statement.{statement}
 use Rattle.blank_map.proofs.mark_pages.Tie as tie
 
@@ -27,8 +27,8 @@ returns : tie.Need-returns
 returns c =
     let a = c.before.before.before.before.before.args in
     let e : (a.page / 8 + a.done / 8 + (a.page % 8 + a.done % 8) / 8) * 8 + (a.page % 8 + a.done % 8) % 8 ≡ a.page + a.done = omega arith in
-    c.before.before.mark.ensures ∙ ap (λ (k : ℕ). putBits a.count k (λ (q : ℕ). true) a.map.now) e
+    c.before.before.mark.ensures ∙ ap (λ (k : ℕ). put_bits a.count k (λ (q : ℕ). true) a.map.now) e
 
-pub mark-pages-spec : {M : Type 1} → statement M
-mark-pages-spec =
+pub mark_pages_spec : {M : Type 1} → statement M
+mark_pages_spec =
     tie.close (tie.spec add_low add-mark add-mark-2 mark-requires same_length returns)

@@ -3,8 +3,8 @@ use Prim.Native.Nat.{◌+◌, ◌*◌}
 use mathlib.Core.Path.{sym}
 use native.Mathlib.Omega.{arith}
 use borrow.Author.Rules.{rules}
-use Rattle.words.proofs.BitLists.{put-out}
-use Rattle.blank_map.proofs.Marks.{with-put}
+use Rattle.words.proofs.BitLists.{put_out}
+use Rattle.blank_map.proofs.Marks.{with_put}
 use Rattle.blank_map.proofs.put_bit.Statement.{statement}
 use Rattle.blank_map.proofs.put_bit.Tie as tie
 
@@ -23,14 +23,14 @@ same_length c = search rules
 returns : tie.Need-returns
 returns c =
     let a = c.before.before.before.before.args in
-    rw c.with-bit.ensures (with-put a.map.now a.j a.place a.value (omega (arith, c.before.slice-known2.given a.j)) c.before.before.before.before.requires)
+    rw c.with-bit.ensures (with_put a.map.now a.j a.place a.value (omega (arith, c.before.slice-known2.given a.j)) c.before.before.before.before.requires)
 
 returns-2 : tie.Need-returns-2
 returns-2 c =
     let a = c.before.before.args in
-    sym (put-out a.map.now (a.j * 8 + a.place) a.value (omega (arith, c.if1.false)))
+    sym (put_out a.map.now (a.j * 8 + a.place) a.value (omega (arith, c.if1.false)))
 
-pub put-bit-spec : {M : Type 1} → statement M
-put-bit-spec =
+pub put_bit_spec : {M : Type 1} → statement M
+put_bit_spec =
     tie.close
     (tie.spec slice-read-with-bit with-bit-requires slice-write-map same_length returns returns-2)

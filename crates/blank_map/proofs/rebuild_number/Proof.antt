@@ -1,7 +1,7 @@
 -- `blank_map::rebuild_number` meets its contract: the tests are the definition's, by the blocks that are known.
 use native.Mathlib.Omega.{arith}
 use borrow.Author.Rules.{rules}
-use Rattle.blank_map.proofs.Taken.{few-blocks, rebuild-as}
+use Rattle.blank_map.proofs.Taken.{few_blocks, rebuild_as}
 use Rattle.blank_map.proofs.rebuild_number.Statement.{statement}
 use Rattle.blank_map.proofs.rebuild_number.Tie as tie
 
@@ -12,13 +12,13 @@ known-blocks-requires : tie.Need-known-blocks-requires
 known-blocks-requires c κs = search rules
 
 mul-both : tie.Need-overflow-mul-both
-mul-both c = omega (arith, c.known-blocks.ensures, few-blocks c.before.before.args.blocks)
+mul-both c = omega (arith, c.known-blocks.ensures, few_blocks c.before.before.args.blocks)
 
 both-requires : tie.Need-both-requires
 both-requires c κs = search rules
 
 mul-fits : tie.Need-overflow-mul-fits
-mul-fits c = omega (arith, c.before.known-blocks.ensures, few-blocks c.before.before.before.args.blocks)
+mul-fits c = omega (arith, c.before.known-blocks.ensures, few_blocks c.before.before.before.args.blocks)
 
 number-or-requires : tie.Need-number-or-requires
 number-or-requires c κs = search rules
@@ -29,10 +29,10 @@ number-or-requires-2 c κs = search rules
 returns : tie.Need-returns
 returns c =
     let a = c.before.before.before.before.before.args in
-    rw (c.number-or2.ensures, c.before.number-or.ensures, c.before.before.both.ensures, c.before.before.before.known-blocks.ensures, c.before.before.before.before.Size-ok.ensures) (rebuild-as a.blocks a.array a.map)
+    rw (c.number-or2.ensures, c.before.number-or.ensures, c.before.before.both.ensures, c.before.before.before.known-blocks.ensures, c.before.before.before.before.Size-ok.ensures) (rebuild_as a.blocks a.array a.map)
 
-pub rebuild-number-spec : {M : Type 1} → statement M
-rebuild-number-spec =
+pub rebuild_number_spec : {M : Type 1} → statement M
+rebuild_number_spec =
     tie.close
     (tie.spec
     size-ok-requires

@@ -2,7 +2,7 @@
 use native.Mathlib.Omega.{arith}
 use borrow.Author.Rules.{rules}
 use Rattle.words.proofs.Tests.{bit_le}
-use Rattle.blank_map.proofs.Marks.{weight_is, room, holds, bit-set, bit-cleared, bit_kept}
+use Rattle.blank_map.proofs.Marks.{weight_is, room, holds, bit_set, bit_cleared, bit_kept}
 use Rattle.blank_map.proofs.with_bit.Statement.{statement}
 use Rattle.blank_map.proofs.with_bit.Tie as tie
 
@@ -30,7 +30,7 @@ add-result c =
 returns : tie.Need-returns
 returns c =
     let a = c.before.before.args in
-    bit-set a.byte a.place (omega arith) c.before.before.requires a.value (rw (← c.before.bit-of.ensures) c.if1.true)
+    bit_set a.byte a.place (omega arith) c.before.before.requires a.value (rw (← c.before.bit-of.ensures) c.if1.true)
 
 sub-result : tie.Need-overflow-sub-result
 sub-result c =
@@ -41,7 +41,7 @@ sub-result c =
 returns-2 : tie.Need-returns-2
 returns-2 c =
     let a = c.before.before.before.args in
-    bit-cleared a.byte a.place (omega arith) c.before.before.before.requires a.value (rw (← c.before.before.bit-of.ensures) c.if2.true)
+    bit_cleared a.byte a.place (omega arith) c.before.before.before.requires a.value (rw (← c.before.before.bit-of.ensures) c.if2.true)
 
 returns-3 : tie.Need-returns-3
 returns-3 c =
@@ -49,8 +49,8 @@ returns-3 c =
     let e = c.before.before.bit-of.ensures in
     bit_kept a.byte a.place (omega arith) c.before.before.before.requires a.value (rw (← e) c.before.if1.false) (rw (← e) c.if2.false)
 
-pub with-bit-spec : {M : Type 1} → statement M
-with-bit-spec =
+pub with_bit_spec : {M : Type 1} → statement M
+with_bit_spec =
     tie.close
     (tie.spec
     cast-weight

@@ -3,7 +3,7 @@ use Prim.Native.Nat.{◌+◌, ◌-◌}
 use mathlib.Core.Path.{sym, ◌∙◌}
 use native.Mathlib.Omega.{arith}
 use borrow.Author.Rules.{rules}
-use Rattle.blank_map.proofs.Clear.{no-group, group-lent}
+use Rattle.blank_map.proofs.Clear.{no_group, group_lent}
 use Rattle.blank_map.proofs.zero_group.Statement.{statement}
 use Rattle.blank_map.proofs.zero_group.Tie as tie
 
@@ -13,7 +13,7 @@ sub-if1 c = omega (arith, c.before.requires)
 returns : tie.Need-returns
 returns c =
     let a = c.before.before.args in
-    sym (no-group a.map.now a.j (omega (arith, c.if1.true, c.before.before.requires)))
+    sym (no_group a.map.now a.j (omega (arith, c.if1.true, c.before.before.requires)))
 
 add-zero-from : tie.Need-overflow-add-zero-from
 add-zero-from c = search rules
@@ -33,10 +33,10 @@ zero-from-requires c κs = search rules
 returns-2 : tie.Need-returns-2
 returns-2 c =
     let a = c.before.before.before.before.args in
-    c.zero-from.ensures ∙ group-lent a.map.now a.j (a.j + 8 - a.j) (omega arith) (omega (arith, c.before.before.if1.false, c.before.before.before.before.requires))
+    c.zero-from.ensures ∙ group_lent a.map.now a.j (a.j + 8 - a.j) (omega arith) (omega (arith, c.before.before.if1.false, c.before.before.before.before.requires))
 
-pub zero-group-spec : {M : Type 1} → statement M
-zero-group-spec =
+pub zero_group_spec : {M : Type 1} → statement M
+zero_group_spec =
     tie.close
     (tie.spec
     sub-if1

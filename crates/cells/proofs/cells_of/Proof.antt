@@ -30,8 +30,8 @@ returns-2 c = rw (c.before.before.op2.given.1, c.erase-kind.ensures)
 returns-3 : tie.Need-returns-3
 returns-3 c = rw (c.before.before.op3.given.1, c.write-kind.ensures)
 
-pub cells-of-spec : {M : Type 1} → statement M
-cells-of-spec =
+pub cells_of_spec : {M : Type 1} → statement M
+cells_of_spec =
     tie.close
     (tie.spec
     enum-known-op

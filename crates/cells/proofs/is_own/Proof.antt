@@ -4,7 +4,7 @@ use mathlib.Core.Path.{sym, ap, ◌∙◌}
 use mathlib.Core.Bool.{Bool}
 use lib.Dec.{eqb}
 use Rattle.words.specs.Logic.{◌and◌}
-use Rattle.cells.proofs.Own.{programs-own, erases-own, writes-own, below-own, above-own}
+use Rattle.cells.proofs.Own.{programs_own, erases_own, writes_own, below_own, above_own}
 use Rattle.cells.proofs.is_own.Statement.{statement}
 use Rattle.cells.proofs.is_own.Tie as tie
 
@@ -18,24 +18,24 @@ both-requires-3 : tie.Need-both-requires-3
 both-requires-3 c κs = search rules
 
 returns : tie.Need-returns
-returns c = sym (programs-own _ c.before.if1.false c.if2.true)
+returns c = sym (programs_own _ c.before.if1.false c.if2.true)
 
 returns-2 : tie.Need-returns-2
-returns-2 c = c.both.ensures ∙ sym (erases-own _ c.before.before.if2.false c.before.if3.true)
+returns-2 c = c.both.ensures ∙ sym (erases_own _ c.before.before.if2.false c.before.if3.true)
 
 returns-3 : tie.Need-returns-3
 returns-3 c =
     let s = c.before.before.before.before.before.before.before.before.before.before.args.cells in
-    c.both3.ensures ∙ ap (λ (t : Bool). eqb s.base 0 and t) c.before.both2.ensures ∙ sym (writes-own s c.before.before.before.if3.false c.before.before.if4.true)
+    c.both3.ensures ∙ ap (λ (t : Bool). eqb s.base 0 and t) c.before.both2.ensures ∙ sym (writes_own s c.before.before.before.if3.false c.before.before.if4.true)
 
 returns-4 : tie.Need-returns-4
-returns-4 c = sym (below-own _ c.if1.true)
+returns-4 c = sym (below_own _ c.if1.true)
 
 returns-5 : tie.Need-returns-5
-returns-5 c = sym (above-own _ c.if4.false)
+returns-5 c = sym (above_own _ c.if4.false)
 
-pub is-own-spec : {M : Type 1} → statement M
-is-own-spec =
+pub is_own_spec : {M : Type 1} → statement M
+is_own_spec =
     tie.close
     (tie.spec
     both-requires

@@ -1,6 +1,6 @@
 -- `cells::operation_of` meets its contract: an arm of one kind rewrites the kind and the definition computes; in the last the kind is none of those before.
 use borrow.Author.Tests.{ne_eqb}
-use Rattle.cells.specs.Operations.{operationOf}
+use Rattle.cells.specs.Operations.{operation_of}
 use borrow.Author.Rules.{rules}
 use Rattle.cells.proofs.operation_of.Statement.{statement}
 use Rattle.cells.proofs.operation_of.Tie as tie
@@ -36,48 +36,48 @@ write-in-requires-3 : tie.Need-write-in-requires-3
 write-in-requires-3 c κs = search rules
 
 returns : tie.Need-returns
-unfolding operationOf
+unfolding operation_of
 returns c = rw c.before.match.keys1 c.program-in.ensures
 
 returns-2 : tie.Need-returns-2
-unfolding operationOf
+unfolding operation_of
 returns-2 c = rw c.before.match.keys2 c.program-in2.ensures
 
 returns-3 : tie.Need-returns-3
-unfolding operationOf
+unfolding operation_of
 returns-3 c = rw c.before.match.keys3 c.erase-in.ensures
 
 returns-4 : tie.Need-returns-4
-unfolding operationOf
+unfolding operation_of
 returns-4 c = rw c.before.match.keys4 c.erase-in2.ensures
 
 returns-5 : tie.Need-returns-5
-unfolding operationOf
+unfolding operation_of
 returns-5 c = rw c.before.match.keys5 c.erase-in3.ensures
 
 returns-6 : tie.Need-returns-6
-unfolding operationOf
+unfolding operation_of
 returns-6 c = rw c.before.match.keys6 c.erase-in4.ensures
 
 returns-7 : tie.Need-returns-7
-unfolding operationOf
+unfolding operation_of
 returns-7 c = rw c.before.match.keys7 c.erase-in5.ensures
 
 returns-8 : tie.Need-returns-8
-unfolding operationOf
+unfolding operation_of
 returns-8 c = rw c.before.match.keys8 c.write-in.ensures
 
 returns-9 : tie.Need-returns-9
-unfolding operationOf
+unfolding operation_of
 returns-9 c = rw c.before.match.keys9 c.write-in2.ensures
 
 returns-10 : tie.Need-returns-10
-unfolding operationOf
+unfolding operation_of
 returns-10 c = let r = c.before.match.rest in
     rw (ne_eqb _ _ r.0.0.0.0.0.0.0.0.1, ne_eqb _ _ r.0.0.0.0.0.0.0.1, ne_eqb _ _ r.0.0.0.0.0.0.1, ne_eqb _ _ r.0.0.0.0.0.1, ne_eqb _ _ r.0.0.0.0.1, ne_eqb _ _ r.0.0.0.1, ne_eqb _ _ r.0.0.1, ne_eqb _ _ r.0.1, ne_eqb _ _ r.1) c.write-in3.ensures
 
-pub operation-of-spec : {M : Type 1} → statement M
-operation-of-spec =
+pub operation_of_spec : {M : Type 1} → statement M
+operation_of_spec =
     tie.close
     (tie.spec
     program-in-requires

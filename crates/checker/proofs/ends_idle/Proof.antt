@@ -12,5 +12,5 @@ is-idle-requires c κs = search rules
 returns : tie.Need-returns
 returns c = cc
 
-pub ends-idle-spec : {M : Type 1} → statement M
-ends-idle-spec = tie.close (tie.spec phase-again-requires is-idle-requires returns)
+pub ends_idle_spec : {M : Type 1} → statement M
+ends_idle_spec = tie.close (tie.spec phase-again-requires is-idle-requires returns)

@@ -8,13 +8,13 @@ use lib.ListN.{length}
 use borrow.Author.Rules.{rules}
 use borrow.Author.Tests.{ne_eqb, eq-eqb}
 use Rattle.words.specs.Lists.{first_of}
-use Rattle.words.proofs.Search.{first_next, none-next}
-use Rattle.checker.specs.InBytes.{nonZero}
+use Rattle.words.proofs.Search.{first_next, none_next}
+use Rattle.checker.specs.InBytes.{non_zero}
 use Rattle.checker.proofs.first_failing.Statement.{statement}
 use Rattle.checker.proofs.first_failing.Tie as tie
 
 abbrev invariant-loop : tie.invariant-loop
-invariant-loop answers k₀ k = (first_of k (nonZero answers) ≡ k) × (k ≤ length answers)
+invariant-loop answers k₀ k = (first_of k (non_zero answers) ≡ k) × (k ≤ length answers)
 
 abbrev decreases-loop : tie.decreases-loop
 decreases-loop answers k₀ k = length answers - k
@@ -30,7 +30,7 @@ returns : tie.Need-returns invariant-loop decreases-loop
 returns c =
     let l = c.before.before.before.loop in
     let n = c.before.before.before.before.args.answers.now in
-    sym (first_next (nonZero n) l.k l.invariant.0 (length n) c.before.before.loop-test.true (ap not (ne_eqb _ _ c.if1.true)))
+    sym (first_next (non_zero n) l.k l.invariant.0 (length n) c.before.before.loop-test.true (ap not (ne_eqb _ _ c.if1.true)))
 
 add-k : tie.Need-overflow-add-k invariant-loop decreases-loop
 add-k c = omega arith
@@ -42,7 +42,7 @@ loop-again : tie.Need-loop-preserved invariant-loop decreases-loop
 loop-again c =
     let l = c.before.before.before.loop in
     let n = c.before.before.before.before.args.answers.now in
-    (rw add-one (none-next (nonZero n) l.k l.invariant.0 (ap not (eq-eqb _ _ c.if1.false))), omega arith)
+    (rw add-one (none_next (non_zero n) l.k l.invariant.0 (ap not (eq-eqb _ _ c.if1.false))), omega arith)
 
 returns-2 : tie.Need-returns-2 invariant-loop decreases-loop
 returns-2 c =
@@ -50,8 +50,8 @@ returns-2 c =
     let e : l.k ≡ length c.before.before.args.answers.now = omega (arith, l.invariant.1) in
     rw (← e) (sym l.invariant.0)
 
-pub first-failing-spec : {M : Type 1} → statement M
-first-failing-spec =
+pub first_failing_spec : {M : Type 1} → statement M
+first_failing_spec =
     tie.close
     (tie.spec
     invariant-loop

@@ -18,5 +18,5 @@ returns c = rw (eq-eqb _ _ c.before.if1.true) c.tally.ensures
 returns-2 : tie.Need-returns-2
 returns-2 c = rw (ne_eqb _ _ c.before.if1.false) c.nothing.ensures
 
-pub tally-unless-spec : {M : Type 1} → statement M
-tally-unless-spec = tie.close (tie.spec tally-requires nothing-requires returns returns-2)
+pub tally_unless_spec : {M : Type 1} → statement M
+tally_unless_spec = tie.close (tie.spec tally-requires nothing-requires returns returns-2)

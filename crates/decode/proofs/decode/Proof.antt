@@ -194,8 +194,8 @@ arms =
 returns-40 : tie.Need-returns-40
 returns-40 c = at_none arms _ _ _ c.match.rest tt tt tt
 
-pub decode-spec : {M : Type 1} → statement M
-decode-spec =
+pub decode_spec : {M : Type 1} → statement M
+decode_spec =
     tie.close
     (tie.spec
     is-large-requires

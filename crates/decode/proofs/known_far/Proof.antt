@@ -8,5 +8,5 @@ returns c = rw c.if1.true
 returns-2 : tie.Need-returns-2
 returns-2 c = rw c.if1.false
 
-pub known-far-spec : {M : Type 1} → statement M
-known-far-spec = tie.close (tie.spec returns returns-2)
+pub known_far_spec : {M : Type 1} → statement M
+known_far_spec = tie.close (tie.spec returns returns-2)

@@ -8,5 +8,5 @@ returns c = rw c.if1.true
 returns-2 : tie.Need-returns-2
 returns-2 c = rw c.if1.false
 
-pub known-if-spec : {M : Type 1} → statement M
-known-if-spec = tie.close (tie.spec returns returns-2)
+pub known_if_spec : {M : Type 1} → statement M
+known_if_spec = tie.close (tie.spec returns returns-2)

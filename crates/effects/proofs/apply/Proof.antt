@@ -16,10 +16,10 @@ page-after-requires : tie.Need-page-after-requires
 page-after-requires c κs = search rules
 
 returns : tie.Need-returns
-returns c = rw (c.page-after.ensures, c.before.data-after.ensures, c.before.before.phase-after.ensures, c.before.before.before.part-after.ensures)
+returns c = rw (c.page_after_lem.ensures, c.before.data-after.ensures, c.before.before.phase-after.ensures, c.before.before.before.part-after.ensures)
 
-pub apply-spec : {M : Type 1} → statement M
-apply-spec =
+pub apply_spec : {M : Type 1} → statement M
+apply_spec =
     tie.close
     (tie.spec
     part-after-requires

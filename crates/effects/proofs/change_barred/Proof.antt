@@ -9,5 +9,5 @@ errors-of-requires c κs = search rules
 returns : tie.Need-returns
 returns c = rw c.before.errors-of.ensures
 
-pub change-barred-spec : {M : Type 1} → statement M
-change-barred-spec = tie.close (tie.spec errors-of-requires returns)
+pub change_barred_spec : {M : Type 1} → statement M
+change_barred_spec = tie.close (tie.spec errors-of-requires returns)

@@ -186,8 +186,8 @@ returns-15 c = rw (c.before.before.before.before.enum-told15.given.1, c.unarm7.e
 returns-16 : tie.Need-returns-16
 returns-16 c = rw (c.before.before.before.before.effect.given.1, c.unarm8.ensures, c.before.set-bank2.ensures, c.before.before.turn-bank2.ensures)
 
-pub change-by-spec : {M : Type 1} → statement M
-change-by-spec =
+pub change_by_spec : {M : Type 1} → statement M
+change_by_spec =
     tie.close
     (tie.spec
     enum_told

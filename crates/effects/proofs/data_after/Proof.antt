@@ -51,8 +51,8 @@ returns-7 c = search rules
 returns-8 : tie.Need-returns-8
 returns-8 c = search rules
 
-pub data-after-spec : {M : Type 1} → statement M
-data-after-spec =
+pub data_after_spec : {M : Type 1} → statement M
+data_after_spec =
     tie.close
     (tie.spec
     enum_told

@@ -22,13 +22,13 @@ returns : tie.Need-returns
 returns c = rw c.enum_told.given.1
 
 returns-2 : tie.Need-returns-2
-returns-2 c = rw c.before.before.becomes.given.1 c.page-data.ensures
+returns-2 c = rw c.before.before.becomes.given.1 c.page_data_lem.ensures
 
 returns-3 : tie.Need-returns-3
 returns-3 c = rw c.before.enum-told2.given.1 c.no-data.ensures
 
-pub page-after-spec : {M : Type 1} → statement M
-page-after-spec =
+pub page_after_spec : {M : Type 1} → statement M
+page_after_spec =
     tie.close
     (tie.spec
     enum_told

@@ -60,8 +60,8 @@ returns-7 c = rw c.before.change6.given.1
 returns-8 : tie.Need-returns-8
 returns-8 c = rw c.before.change7.given.1
 
-pub part-after-spec : {M : Type 1} → statement M
-part-after-spec =
+pub part_after_spec : {M : Type 1} → statement M
+part_after_spec =
     tie.close
     (tie.spec
     enum_told

@@ -60,8 +60,8 @@ returns-7 c = search rules
 returns-8 : tie.Need-returns-8
 returns-8 c = search rules
 
-pub phase-after-spec : {M : Type 1} → statement M
-phase-after-spec =
+pub phase_after_spec : {M : Type 1} → statement M
+phase_after_spec =
     tie.close
     (tie.spec
     enum_told

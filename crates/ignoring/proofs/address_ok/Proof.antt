@@ -30,7 +30,7 @@ returns-3 c = rw c.enum-told3.given.1
 returns-4 : tie.Need-returns-4
 returns-4 c = rw c.before.enum-told4.given.1 c.row_ok.ensures
 
-pub address-ok-spec : {M : Type 1} → statement M
-address-ok-spec =
+pub address_ok_spec : {M : Type 1} → statement M
+address_ok_spec =
     tie.close
     (tie.spec enum_told enum-told-2 enum-told-3 enum-told-4 row-ok-requires returns returns-2 returns-3 returns-4)

@@ -1,6 +1,6 @@
 -- `ignoring::command_number` meets its contract: it joins the eight tests in the paper's order.
-use Rattle.paper.specs.Numbers.{commandNumber}
-use Rattle.words.proofs.Tests.{orElse-none}
+use Rattle.paper.specs.Numbers.{command_number}
+use Rattle.words.proofs.Tests.{or_else_none}
 use mathlib.Core.Path.{◌∙◌}
 use borrow.Author.Rules.{rules}
 use Rattle.ignoring.proofs.command_number.Statement.{statement}
@@ -64,7 +64,7 @@ number-or-requires-8 : tie.Need-number-or-requires-8
 number-or-requires-8 c κs = search rules
 
 returns : tie.Need-returns
-unfolding commandNumber
+unfolding command_number
 returns c =
     rw (
       c.number-or8.ensures,
@@ -74,22 +74,22 @@ returns c =
       c.before.before.before.before.number-or4.ensures,
       c.before.before.before.before.before.number-or3.ensures,
       c.before.before.before.before.before.before.number-or2.ensures,
-      c.before.before.before.before.before.before.before.number-or.ensures ∙ orElse-none _,
-      c.before.before.before.before.before.before.before.before.free-ok.ensures,
+      c.before.before.before.before.before.before.before.number-or.ensures ∙ or_else_none _,
+      c.before.before.before.before.before.before.before.before.free_ok_lem.ensures,
       c.before.before.before.before.before.before.before.before.before.either3.ensures,
-      c.before.before.before.before.before.before.before.before.before.before.before.state-ok.ensures,
-      c.before.before.before.before.before.before.before.before.before.before.before.before.length-ok.ensures,
+      c.before.before.before.before.before.before.before.before.before.before.before.state_ok_lem.ensures,
+      c.before.before.before.before.before.before.before.before.before.before.before.before.length_ok_lem.ensures,
       c.before.before.before.before.before.before.before.before.before.before.before.before.before.suspended-ok.ensures,
       c.before.before.before.before.before.before.before.before.before.before.before.before.before.before.either2.ensures,
       c.before.before.before.before.before.before.before.before.before.before.before.before.before.before.before.is-busy.ensures,
-      c.before.before.before.before.before.before.before.before.before.before.before.before.before.before.before.before.taken-busy.ensures,
+      c.before.before.before.before.before.before.before.before.before.before.before.before.before.before.before.before.taken_busy_lem.ensures,
       c.before.before.before.before.before.before.before.before.before.before.before.before.before.before.before.before.before.either.ensures,
-      c.before.before.before.before.before.before.before.before.before.before.before.before.before.before.before.before.before.before.before.taken-asleep.ensures,
-      c.before.before.before.before.before.before.before.before.before.before.before.before.before.before.before.before.before.before.before.before.address-ok.ensures,
+      c.before.before.before.before.before.before.before.before.before.before.before.before.before.before.before.before.before.before.before.taken_asleep_lem.ensures,
+      c.before.before.before.before.before.before.before.before.before.before.before.before.before.before.before.before.before.before.before.before.address_ok_lem.ensures,
     )
 
-pub command-number-spec : {M : Type 1} → statement M
-command-number-spec =
+pub command_number_spec : {M : Type 1} → statement M
+command_number_spec =
     tie.close
     (tie.spec
     address-ok-requires

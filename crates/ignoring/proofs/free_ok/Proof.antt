@@ -31,10 +31,10 @@ returns : tie.Need-returns
 returns c = rw c.enum_told.given.1
 
 returns-2 : tie.Need-returns-2
-returns-2 c = rw (c.before.before.before.before.before.before.before.work.given.1, c.both2.ensures, c.before.both.ensures, c.before.before.write-ok.ensures, c.before.before.before.Outside-of.ensures, c.before.before.before.before.halted.ensures, c.before.before.before.before.before.target_free.ensures)
+returns-2 c = rw (c.before.before.before.before.before.before.before.work.given.1, c.both2.ensures, c.before.both.ensures, c.before.before.write_ok_lem.ensures, c.before.before.before.Outside-of.ensures, c.before.before.before.before.halted.ensures, c.before.before.before.before.before.target_free.ensures)
 
-pub free-ok-spec : {M : Type 1} → statement M
-free-ok-spec =
+pub free_ok_spec : {M : Type 1} → statement M
+free_ok_spec =
     tie.close
     (tie.spec
     enum_told

@@ -24,7 +24,7 @@ returns-2 c = search rules
 returns-3 : tie.Need-returns-3
 returns-3 c = search rules
 
-pub pin-ok-spec : {M : Type 1} → statement M
-pin-ok-spec =
+pub pin_ok_spec : {M : Type 1} → statement M
+pin_ok_spec =
     tie.close
     (tie.spec enum_told is-barred-requires enum-told-2 enum-told-3 returns returns-2 returns-3)

@@ -33,8 +33,8 @@ returns-3 c = rw (c.before.enum-told3.given.1, c.is-suspended.ensures)
 returns-4 : tie.Need-returns-4
 returns-4 c = rw c.enum-told4.given.1
 
-pub state-ok-spec : {M : Type 1} → statement M
-state-ok-spec =
+pub state_ok_spec : {M : Type 1} → statement M
+state_ok_spec =
     tie.close
     (tie.spec
     enum_told

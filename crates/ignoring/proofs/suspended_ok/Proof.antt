@@ -1,5 +1,5 @@
 -- `ignoring::suspended_ok` meets its contract: it goes by whether the part is suspended, and then by the definition's test.
-use Rattle.words.proofs.Tests.{or-true, or-false}
+use Rattle.words.proofs.Tests.{or_true, or_false}
 use borrow.Author.Tests.{not-true, not-false}
 use mathlib.Core.Path.{sym, ◌∙◌}
 use borrow.Author.Rules.{rules}
@@ -10,7 +10,7 @@ is-suspended-requires : tie.Need-is-suspended-requires
 is-suspended-requires c κs = search rules
 
 returns : tie.Need-returns
-returns c = rw (sym c.before.is-suspended.ensures ∙ not-true _ c.if1.true) (sym (or-true _))
+returns c = rw (sym c.before.is-suspended.ensures ∙ not-true _ c.if1.true) (sym (or_true _))
 
 erase-halted-requires : tie.Need-erase-halted-requires
 erase-halted-requires c κs = search rules
@@ -19,10 +19,10 @@ taken-suspended-requires : tie.Need-taken-suspended-requires
 taken-suspended-requires c κs = search rules
 
 returns-2 : tie.Need-returns-2
-returns-2 c = rw (sym c.before.before.before.is-suspended.ensures ∙ not-false _ c.before.before.if1.false, or-false, ← c.before.erase-halted.ensures) c.taken-suspended.ensures
+returns-2 c = rw (sym c.before.before.before.is-suspended.ensures ∙ not-false _ c.before.before.if1.false, or_false, ← c.before.erase-halted.ensures) c.taken_suspended_lem.ensures
 
-pub suspended-ok-spec : {M : Type 1} → statement M
-suspended-ok-spec =
+pub suspended_ok_spec : {M : Type 1} → statement M
+suspended_ok_spec =
     tie.close
     (tie.spec
     is-suspended-requires

@@ -24,7 +24,7 @@ returns-2 c = search rules
 returns-3 : tie.Need-returns-3
 returns-3 c = rw c.before.before.op.given.1 c.pin-ok.ensures
 
-pub write-ok-spec : {M : Type 1} → statement M
-write-ok-spec =
+pub write_ok_spec : {M : Type 1} → statement M
+write_ok_spec =
     tie.close
     (tie.spec enum_told enum-told-2 enum-known-op pin-ok-requires returns returns-2 returns-3)

@@ -1,6 +1,6 @@
 -- `lines::all_figures` meets its contract. The loop's invariant: what was looked at and what is left passes the test where all does.
-use Rattle.lines.proofs.Characters.{every-start, every_more, every-end}
-use Rattle.lines.specs.Characters.{isFigure}
+use Rattle.lines.proofs.Characters.{every_start, every_more, every_end}
+use Rattle.lines.specs.Characters.{is_figure}
 use Rattle.words.specs.Logic.{◌and◌}
 use Rattle.words.specs.Lists.{every}
 use lib.ListN.{length, drop}
@@ -13,13 +13,13 @@ use Rattle.lines.proofs.all_figures.Statement.{statement}
 use Rattle.lines.proofs.all_figures.Tie as tie
 
 abbrev invariant-loop : tie.invariant-loop
-invariant-loop hex text all₀ i₀ all i = (all and every (isFigure hex) (drop i text)) ≡ every (isFigure hex) text
+invariant-loop hex text all₀ i₀ all i = (all and every (is_figure hex) (drop i text)) ≡ every (is_figure hex) text
 
 abbrev decreases-loop : tie.decreases-loop
 decreases-loop hex text all₀ i₀ all i = length text - i
 
 loop-holds : tie.Need-loop-init invariant-loop decreases-loop
-loop-holds c = every-start (isFigure c.before.args.hex) c.before.args.text.now
+loop-holds c = every_start (is_figure c.before.args.hex) c.before.args.text.now
 
 shared-slice-read-is-figure : tie.Need-shared-slice-read-is-figure invariant-loop decreases-loop
 shared-slice-read-is-figure c = search rules
@@ -40,16 +40,16 @@ loop-again : tie.Need-loop-preserved invariant-loop decreases-loop
 loop-again c =
     let l = c.before.before.before.before.loop in
     let a = c.before.before.before.before.before.before.args in
-    rw (c.both.ensures, c.before.is-figure.ensures, add-one) (sym (every_more (isFigure a.hex) a.text.now l.all l.i c.before.before.before.loop-test.true) ∙ l.invariant)
+    rw (c.both.ensures, c.before.is-figure.ensures, add-one) (sym (every_more (is_figure a.hex) a.text.now l.all l.i c.before.before.before.loop-test.true) ∙ l.invariant)
 
 returns : tie.Need-returns invariant-loop decreases-loop
 returns c =
     let l = c.before.loop in
     let a = c.before.before.before.args in
-    sym (every-end (isFigure a.hex) a.text.now l.all l.i (omega arith)) ∙ l.invariant
+    sym (every_end (is_figure a.hex) a.text.now l.all l.i (omega arith)) ∙ l.invariant
 
-pub all-figures-spec : {M : Type 1} → statement M
-all-figures-spec =
+pub all_figures_spec : {M : Type 1} → statement M
+all_figures_spec =
     tie.close
     (tie.spec
     invariant-loop

@@ -1,5 +1,5 @@
 -- `lines::bytes_of` meets its contract. The loop's invariant: the bytes so far, with those of the pairs that are left put behind them, are the bytes of all pairs.
-use Rattle.lines.proofs.Numerals.{pairs-more, pairs_end}
+use Rattle.lines.proofs.Numerals.{pairs_more, pairs_end}
 use Rattle.paper.specs.Bench.{pairs}
 use lib.ListN.{length, drop, length-set}
 use lib.Seq.{sets}
@@ -64,7 +64,7 @@ loop-again c =
     let l = c.before.before.before.before.before.loop in
     let n = c.before.before.before.before.before.before.lesser.ensures in
     let text = c.before.before.before.before.before.before.before.before.before.args.text.now in
-    (rw (c.before.before.hex-value.ensures.0, c.hex-value2.ensures.0, add-one l.i) (sym (pairs-more text l.bytes l.i (omega (arith, n))) ∙ l.invariant.0), rw length-set l.invariant.1)
+    (rw (c.before.before.hex-value.ensures.0, c.hex-value2.ensures.0, add-one l.i) (sym (pairs_more text l.bytes l.i (omega (arith, n))) ∙ l.invariant.0), rw length-set l.invariant.1)
 
 same_length : tie.Need-same-length invariant-loop decreases-loop
 same_length c = search rules
@@ -75,8 +75,8 @@ returns c =
     let text = c.before.before.before.before.before.args.text.now in
     sym (pairs_end text l.bytes l.i (omega (arith, l.invariant.1, c.before.before.lesser.ensures))) ∙ l.invariant.0
 
-pub bytes-of-spec : {M : Type 1} → statement M
-bytes-of-spec =
+pub bytes_of_spec : {M : Type 1} → statement M
+bytes_of_spec =
     tie.close
     (tie.spec
     invariant-loop

@@ -1,6 +1,6 @@
 -- `lines::hex_value` meets its contract: a digit, and a letter, lie in their ranges.
-use Rattle.lines.proofs.Characters.{digit-range, letter-range}
-use Rattle.paper.specs.Bench.{hexValue}
+use Rattle.lines.proofs.Characters.{digit_range, letter_range}
+use Rattle.paper.specs.Bench.{hex_value}
 use mathlib.Core.Path.{sym, ◌∙◌}
 use borrow.Author.Rules.{rules}
 use native.Mathlib.Omega.{arith}
@@ -12,13 +12,13 @@ is-digit-requires c κs = search rules
 
 sub-result : tie.Need-overflow-sub-result
 sub-result c =
-    let d = digit-range c.before.before.args.x (sym c.before.is_digit.ensures ∙ c.if1.true) in
+    let d = digit_range c.before.before.args.x (sym c.before.is_digit.ensures ∙ c.if1.true) in
     omega (arith, d)
 
 returns : tie.Need-returns
-unfolding hexValue
+unfolding hex_value
 returns c =
-    let d = digit-range c.before.before.args.x (sym c.before.is_digit.ensures ∙ c.if1.true) in
+    let d = digit_range c.before.before.args.x (sym c.before.is_digit.ensures ∙ c.if1.true) in
     (rw (sym c.before.is_digit.ensures ∙ c.if1.true), omega (arith, d))
 
 is-hex-requires : tie.Need-is-hex-requires
@@ -27,24 +27,24 @@ is-hex-requires c κs = search rules
 sub-result-2 : tie.Need-overflow-sub-result-2
 sub-result-2 c =
     let s = c.before.before in
-    let d = letter-range s.before.before.args.x (sym s.before.is_digit.ensures ∙ s.if1.false) (sym c.before.is-hex.ensures ∙ c.if2.true) in
+    let d = letter_range s.before.before.args.x (sym s.before.is_digit.ensures ∙ s.if1.false) (sym c.before.is-hex.ensures ∙ c.if2.true) in
     omega (arith, d)
 
 returns-2 : tie.Need-returns-2
-unfolding hexValue
+unfolding hex_value
 returns-2 c =
     let s = c.before.before in
-    let d = letter-range s.before.before.args.x (sym s.before.is_digit.ensures ∙ s.if1.false) (sym c.before.is-hex.ensures ∙ c.if2.true) in
+    let d = letter_range s.before.before.args.x (sym s.before.is_digit.ensures ∙ s.if1.false) (sym c.before.is-hex.ensures ∙ c.if2.true) in
     (rw (sym s.before.is_digit.ensures ∙ s.if1.false, sym c.before.is-hex.ensures ∙ c.if2.true), omega (arith, d))
 
 returns-3 : tie.Need-returns-3
-unfolding hexValue
+unfolding hex_value
 returns-3 c =
     let s = c.before.before in
     (rw (sym s.before.is_digit.ensures ∙ s.if1.false, sym c.before.is-hex.ensures ∙ c.if2.false), omega arith)
 
-pub hex-value-spec : {M : Type 1} → statement M
-hex-value-spec =
+pub hex_value_spec : {M : Type 1} → statement M
+hex_value_spec =
     tie.close
     (tie.spec
     is-digit-requires

@@ -15,5 +15,5 @@ returns c = rw c.before.if1.true c.is-hex.ensures
 returns-2 : tie.Need-returns-2
 returns-2 c = rw c.before.if1.false c.is_digit.ensures
 
-pub is-figure-spec : {M : Type 1} → statement M
-is-figure-spec = tie.close (tie.spec is-hex-requires is-digit-requires returns returns-2)
+pub is_figure_spec : {M : Type 1} → statement M
+is_figure_spec = tie.close (tie.spec is-hex-requires is-digit-requires returns returns-2)

@@ -1,6 +1,6 @@
 -- `lines::number_of` meets its contract. The loop's invariant: the number so far, and the digits that are left, are the numeral; and it has as many digits as were read.
-use Rattle.lines.proofs.Numerals.{tens, tens-most, numeral-more, numeral-end}
-use Rattle.paper.specs.Bench.{numeralFrom}
+use Rattle.lines.proofs.Numerals.{tens, tens_most, numeral_more, numeral_end}
+use Rattle.paper.specs.Bench.{numeral_from}
 use lib.ListN.{length, drop}
 use mathlib.Core.Path.{◌≡◌, refl, sym, ◌∙◌}
 use Prim.Native.Nat.{◌-◌, ◌<◌}
@@ -11,7 +11,7 @@ use Rattle.lines.proofs.number_of.Statement.{statement}
 use Rattle.lines.proofs.number_of.Tie as tie
 
 abbrev invariant-loop : tie.invariant-loop
-invariant-loop text n₀ i₀ n i = (numeralFrom n (drop i text) ≡ numeralFrom 0 text) × (n < tens i)
+invariant-loop text n₀ i₀ n i = (numeral_from n (drop i text) ≡ numeral_from 0 text) × (n < tens i)
 
 abbrev decreases-loop : tie.decreases-loop
 decreases-loop text n₀ i₀ n i = length text - i
@@ -32,14 +32,14 @@ mul-n : tie.Need-overflow-mul-n invariant-loop decreases-loop
 mul-n c =
     let l = c.before.before.before.loop in
     let s = c.before.before.before.before.before in
-    let m = tens-most l.i (omega (arith, s.requires)) in
+    let m = tens_most l.i (omega (arith, s.requires)) in
     omega (arith, m, l.invariant)
 
 add-n : tie.Need-overflow-add-n invariant-loop decreases-loop
 add-n c =
     let l = c.before.before.before.loop in
     let s = c.before.before.before.before.before in
-    let m = tens-most l.i (omega (arith, s.requires)) in
+    let m = tens_most l.i (omega (arith, s.requires)) in
     omega (arith, m, l.invariant, c.digit_value.ensures)
 
 add-i : tie.Need-overflow-add-i invariant-loop decreases-loop
@@ -52,15 +52,15 @@ loop-again : tie.Need-loop-preserved invariant-loop decreases-loop
 loop-again c =
     let l = c.before.before.before.loop in
     let xs = c.before.before.before.before.before.args.text.now in
-    (rw (c.digit_value.ensures.0, add-one) (sym (numeral-more xs l.n l.i c.before.before.loop-test.true) ∙ l.invariant.0), rw add-one (omega (arith, l.invariant, c.digit_value.ensures)))
+    (rw (c.digit_value.ensures.0, add-one) (sym (numeral_more xs l.n l.i c.before.before.loop-test.true) ∙ l.invariant.0), rw add-one (omega (arith, l.invariant, c.digit_value.ensures)))
 
 returns : tie.Need-returns invariant-loop decreases-loop
 returns c =
     let l = c.before.loop in
-    sym (numeral-end c.before.before.before.args.text.now l.n l.i (omega arith)) ∙ l.invariant.0
+    sym (numeral_end c.before.before.before.args.text.now l.n l.i (omega arith)) ∙ l.invariant.0
 
-pub number-of-spec : {M : Type 1} → statement M
-number-of-spec =
+pub number_of_spec : {M : Type 1} → statement M
+number_of_spec =
     tie.close
     (tie.spec
     invariant-loop

@@ -1,11 +1,11 @@
 -- `mapped::script` meets its contract: a map of another length leaves all as it was, and else the plain script is run and the map is kept.
 use mathlib.Core.Path.{sym, ap, ◌∙◌}
 use Rattle.paper.specs.Map.{MapScripted}
-use Rattle.record_bytes.specs.Read.{recordIn}
-use Rattle.script.specs.InBytes.{scriptOf, ranOf}
-use Rattle.beside.specs.Beside.{boardBytes}
+use Rattle.record_bytes.specs.Read.{record_in}
+use Rattle.script.specs.InBytes.{script_of, ran_of}
+use Rattle.beside.specs.Beside.{board_bytes}
 use Rattle.beside.proofs.Told.{same_bytes}
-use Rattle.mapped.proofs.InBytes.{refused-script, passed-script}
+use Rattle.mapped.proofs.InBytes.{refused_script, passed_script}
 use borrow.Author.Rules.{rules}
 use Rattle.mapped.proofs.script.Statement.{statement}
 use Rattle.mapped.proofs.script.Tie as tie
@@ -23,8 +23,8 @@ returns c =
     let xs = a.array.now in
     let rs = a.rows.now in
     let k = c.before.map-refusal in
-    let g = sym (refused-script bs xs rs a.map.now k.result k.ensures c.if1.true a.wp (scriptOf a.wp a.input.now a.lengths.now a.ticks.now) a.output.now a.answers.now a.done.now) in
-    (ap (λ (w : MapScripted). ranOf w.run) g, (same_bytes bs xs rs ∙ ap (λ (w : MapScripted). boardBytes (recordIn bs) w.run.board bs) g, (ap (λ (w : MapScripted). w.run.board.array) g, (ap (λ (w : MapScripted). w.run.board.rows) g, (ap (λ (w : MapScripted). w.run.output) g, (ap (λ (w : MapScripted). w.run.answers) g, (ap (λ (w : MapScripted). w.run.done) g, ap (λ (w : MapScripted). w.map) g)))))))
+    let g = sym (refused_script bs xs rs a.map.now k.result k.ensures c.if1.true a.wp (script_of a.wp a.input.now a.lengths.now a.ticks.now) a.output.now a.answers.now a.done.now) in
+    (ap (λ (w : MapScripted). ran_of w.run) g, (same_bytes bs xs rs ∙ ap (λ (w : MapScripted). board_bytes (record_in bs) w.run.board bs) g, (ap (λ (w : MapScripted). w.run.board.array) g, (ap (λ (w : MapScripted). w.run.board.rows) g, (ap (λ (w : MapScripted). w.run.output) g, (ap (λ (w : MapScripted). w.run.answers) g, (ap (λ (w : MapScripted). w.run.done) g, ap (λ (w : MapScripted). w.map) g)))))))
 
 run-requires : tie.Need-run-requires
 run-requires c κs = search rules
@@ -56,11 +56,11 @@ returns-2 c =
     let bs = a.bytes.now in
     let k = c.before.before.before.before.before.before.before.before.before.before.before.before.before.before.before.before.before.before.before.before.before.before.before.map-refusal in
     let w = c.before.before.before.before.before.before.before.before.before.before.before.before.before.before.run.ensures in
-    let g = sym (passed-script bs a.array.now a.rows.now a.map.now k.result k.ensures c.before.before.before.before.before.before.before.before.before.before.before.before.before.before.before.before.before.before.before.before.before.before.if1.false a.wp (scriptOf a.wp a.input.now a.lengths.now a.ticks.now) a.output.now a.answers.now a.done.now) in
-    (w.0 ∙ ap (λ (v : MapScripted). ranOf v.run) g, (w.1.0 ∙ ap (λ (v : MapScripted). boardBytes (recordIn bs) v.run.board bs) g, (w.1.1.0 ∙ ap (λ (v : MapScripted). v.run.board.array) g, (w.1.1.1.0 ∙ ap (λ (v : MapScripted). v.run.board.rows) g, (w.1.1.1.1.0 ∙ ap (λ (v : MapScripted). v.run.output) g, (w.1.1.1.1.1.0 ∙ ap (λ (v : MapScripted). v.run.answers) g, (w.1.1.1.1.1.1.0 ∙ ap (λ (v : MapScripted). v.run.done) g, w.1.1.1.1.1.1.1 ∙ ap (λ (v : MapScripted). v.map) g)))))))
+    let g = sym (passed_script bs a.array.now a.rows.now a.map.now k.result k.ensures c.before.before.before.before.before.before.before.before.before.before.before.before.before.before.before.before.before.before.before.before.before.before.if1.false a.wp (script_of a.wp a.input.now a.lengths.now a.ticks.now) a.output.now a.answers.now a.done.now) in
+    (w.0 ∙ ap (λ (v : MapScripted). ran_of v.run) g, (w.1.0 ∙ ap (λ (v : MapScripted). board_bytes (record_in bs) v.run.board bs) g, (w.1.1.0 ∙ ap (λ (v : MapScripted). v.run.board.array) g, (w.1.1.1.0 ∙ ap (λ (v : MapScripted). v.run.board.rows) g, (w.1.1.1.1.0 ∙ ap (λ (v : MapScripted). v.run.output) g, (w.1.1.1.1.1.0 ∙ ap (λ (v : MapScripted). v.run.answers) g, (w.1.1.1.1.1.1.0 ∙ ap (λ (v : MapScripted). v.run.done) g, w.1.1.1.1.1.1.1 ∙ ap (λ (v : MapScripted). v.map) g)))))))
 
-pub script-spec : {M : Type 1} → statement M
-script-spec =
+pub script_spec : {M : Type 1} → statement M
+script_spec =
     tie.close
     (tie.spec
     map-refusal-requires

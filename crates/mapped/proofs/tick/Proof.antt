@@ -1,11 +1,11 @@
 -- `mapped::tick` meets its contract: a map of another length leaves all as it was, and else the plain ticks are made and the map is kept.
 use mathlib.Core.Path.{sym, ap, ◌∙◌}
 use Rattle.paper.specs.Map.{MapTicked}
-use Rattle.mapped.specs.InBytes.{keptOf}
-use Rattle.beside.specs.Beside.{boardBytes}
-use Rattle.record_bytes.specs.Read.{recordIn}
+use Rattle.mapped.specs.InBytes.{kept_of}
+use Rattle.beside.specs.Beside.{board_bytes}
+use Rattle.record_bytes.specs.Read.{record_in}
 use Rattle.beside.proofs.Told.{same_bytes}
-use Rattle.mapped.proofs.InBytes.{refused-ticks, worked_kept, passed-ticks, passed-bytes, marked-so}
+use Rattle.mapped.proofs.InBytes.{refused_ticks, worked_kept, passed_ticks, passed_bytes, marked_so}
 use borrow.Author.Rules.{rules}
 use Rattle.mapped.proofs.tick.Statement.{statement}
 use Rattle.mapped.proofs.tick.Tie as tie
@@ -24,8 +24,8 @@ returns c =
     let rs = a.rows.now in
     let m = a.map.now in
     let k = c.before.map-refusal in
-    let g = sym (refused-ticks bs xs rs m k.result k.ensures c.if1.true a.ticks) in
-    (ap keptOf g, (same_bytes bs xs rs ∙ ap (λ (w : MapTicked). boardBytes (recordIn bs) w.board bs) g, (ap (λ (w : MapTicked). w.board.array) g, (ap (λ (w : MapTicked). w.board.rows) g, ap (λ (w : MapTicked). w.map) g))))
+    let g = sym (refused_ticks bs xs rs m k.result k.ensures c.if1.true a.ticks) in
+    (ap kept_of g, (same_bytes bs xs rs ∙ ap (λ (w : MapTicked). board_bytes (record_in bs) w.board bs) g, (ap (λ (w : MapTicked). w.board.array) g, (ap (λ (w : MapTicked). w.board.rows) g, ap (λ (w : MapTicked). w.map) g))))
 
 tick-bytes-requires : tie.Need-tick-bytes-requires
 tick-bytes-requires c κs = search rules
@@ -55,22 +55,22 @@ returns-2 c =
     let k = c.before.before.before.before.before.before.before.before.before.before.before.before.before.before.before.before.before.map-refusal in
     let pass = c.before.before.before.before.before.before.before.before.before.before.before.before.before.before.before.before.if1.false in
     let w = c.before.before.before.before.before.before.before.before.before.before.before.before.tick-bytes in
-    let g = sym (passed-ticks bs xs rs m k.result k.ensures pass a.ticks) in (
-      worked_kept (recordIn bs) _ _ _ w.result w.ensures.0 ∙ ap keptOf g,
+    let g = sym (passed_ticks bs xs rs m k.result k.ensures pass a.ticks) in (
+      worked_kept (record_in bs) _ _ _ w.result w.ensures.0 ∙ ap kept_of g,
       (
-        w.ensures.1.0 ∙ passed-bytes bs xs rs m k.result k.ensures pass a.ticks ∙ ap (λ (v : MapTicked). boardBytes (recordIn bs) v.board bs) g,
+        w.ensures.1.0 ∙ passed_bytes bs xs rs m k.result k.ensures pass a.ticks ∙ ap (λ (v : MapTicked). board_bytes (record_in bs) v.board bs) g,
         (
           w.ensures.1.1.0 ∙ ap (λ (v : MapTicked). v.board.array) g,
           (
             w.ensures.1.1.1 ∙ ap (λ (v : MapTicked). v.board.rows) g,
-            c.before.before.keep.ensures ∙ marked-so (recordIn bs) _ _ _ w.result w.ensures.0 _ _ m w.ensures.1.1.0 ∙ ap (λ (v : MapTicked). v.map) g,
+            c.before.before.keep.ensures ∙ marked_so (record_in bs) _ _ _ w.result w.ensures.0 _ _ m w.ensures.1.1.0 ∙ ap (λ (v : MapTicked). v.map) g,
           ),
         ),
       ),
     )
 
-pub tick-spec : {M : Type 1} → statement M
-tick-spec =
+pub tick_spec : {M : Type 1} → statement M
+tick_spec =
     tie.close
     (tie.spec
     map-refusal-requires

@@ -27,8 +27,8 @@ returns-2 c = rw c.before.before.op2.given.1 c.unit-suspends.ensures
 returns-3 : tie.Need-returns-3
 returns-3 c = search rules
 
-pub can-suspend-spec : {M : Type 1} → statement M
-can-suspend-spec =
+pub can_suspend_spec : {M : Type 1} → statement M
+can_suspend_spec =
     tie.close
     (tie.spec
     enum-known-op

@@ -3,7 +3,7 @@ use Prim.Native.Nat.{◌+◌, ◌-◌, ◌<◌}
 use mathlib.Core.Path.{sym}
 use native.Mathlib.Omega.{arith}
 use borrow.Author.Tests.{lt-leb}
-use Rattle.words.proofs.Tests.{same-leb}
+use Rattle.words.proofs.Tests.{same_leb}
 use Rattle.operations.proofs.ends_within.Statement.{statement}
 use Rattle.operations.proofs.ends_within.Tie as tie
 
@@ -16,7 +16,7 @@ returns c =
 returns-2 : tie.Need-returns-2
 returns-2 c =
     let a = c.before.args in
-    same-leb a.base (a.all - a.size) (a.base + a.size) a.all (λ h. omega arith) (λ h. omega arith)
+    same_leb a.base (a.all - a.size) (a.base + a.size) a.all (λ h. omega arith) (λ h. omega arith)
 
-pub ends-within-spec : {M : Type 1} → statement M
-ends-within-spec = tie.close (tie.spec returns returns-2)
+pub ends_within_spec : {M : Type 1} → statement M
+ends_within_spec = tie.close (tie.spec returns returns-2)

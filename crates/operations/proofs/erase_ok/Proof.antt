@@ -1,6 +1,6 @@
 -- `operations::erase_ok` meets its contract: it joins the tests of an erase, and a unit's size fits.
-use Rattle.operations.proofs.InOrder.{erase-as}
-use Rattle.paper.proofs.Pages.{unit-pages-le}
+use Rattle.operations.proofs.InOrder.{erase_as}
+use Rattle.paper.proofs.Pages.{unit_pages_le}
 use mathlib.Core.Path.{sym}
 use borrow.Author.Rules.{rules}
 use native.Mathlib.Omega.{arith}
@@ -16,7 +16,7 @@ unit-base-requires c κs = search rules
 mul-ends-within : tie.Need-overflow-mul-ends-within
 mul-ends-within c =
     let a = c.before.before.args in
-    omega (arith, c.before.unit-pages.ensures, unit-pages-le a.unit a.blocks (omega arith))
+    omega (arith, c.before.unit-pages.ensures, unit_pages_le a.unit a.blocks (omega arith))
 
 unit-memory-requires : tie.Need-unit-memory-requires
 unit-memory-requires c κs = search rules
@@ -42,10 +42,10 @@ both-requires-3 c κs = search rules
 returns : tie.Need-returns
 returns c =
     let a = c.before.before.before.before.before.before.before.before.before.args in
-    rw (c.both3.ensures, c.before.both2.ensures, c.before.before.both.ensures, c.before.before.before.is-unit-free.ensures, c.before.before.before.before.ends-within.ensures, c.before.before.before.before.before.memory-bytes.ensures, c.before.before.before.before.before.before.unit-memory.ensures, c.before.before.before.before.before.before.before.unit-base.ensures, c.before.before.before.before.before.before.before.before.unit-pages.ensures) (sym (erase-as a.unit a.base a.done a.blocks a.stored))
+    rw (c.both3.ensures, c.before.both2.ensures, c.before.before.both.ensures, c.before.before.before.is-unit-free.ensures, c.before.before.before.before.ends-within.ensures, c.before.before.before.before.before.memory-bytes.ensures, c.before.before.before.before.before.before.unit-memory.ensures, c.before.before.before.before.before.before.before.unit-base.ensures, c.before.before.before.before.before.before.before.before.unit-pages.ensures) (sym (erase_as a.unit a.base a.done a.blocks a.stored))
 
-pub erase-ok-spec : {M : Type 1} → statement M
-erase-ok-spec =
+pub erase_ok_spec : {M : Type 1} → statement M
+erase_ok_spec =
     tie.close
     (tie.spec
     unit-pages-requires

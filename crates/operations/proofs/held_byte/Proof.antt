@@ -30,8 +30,8 @@ returns-2 c = rw c.enum-told2.given.1
 returns-3 : tie.Need-returns-3
 returns-3 c = rw c.enum-told3.given.1
 
-pub held-byte-spec : {M : Type 1} → statement M
-held-byte-spec =
+pub held_byte_spec : {M : Type 1} → statement M
+held_byte_spec =
     tie.close
     (tie.spec
     enum_told

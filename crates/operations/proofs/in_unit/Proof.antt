@@ -1,5 +1,5 @@
 -- `operations::in_unit` meets its contract: each arm is a clause of the definition, and a unit's size fits.
-use Rattle.paper.proofs.Pages.{unit-pages-le}
+use Rattle.paper.proofs.Pages.{unit_pages_le}
 use borrow.Author.Rules.{rules}
 use native.Mathlib.Omega.{arith}
 use Rattle.operations.proofs.in_unit.Statement.{statement}
@@ -18,7 +18,7 @@ mul-size : tie.Need-overflow-mul-size
 mul-size c =
     let u = c.before.before.op.given.0.0 in
     let a = c.before.before.before.before.args in
-    omega (arith, c.unit-pages.ensures, unit-pages-le u a.blocks (omega arith))
+    omega (arith, c.unit-pages.ensures, unit_pages_le u a.blocks (omega arith))
 
 unit-memory-requires : tie.Need-unit-memory-requires
 unit-memory-requires c κs = search rules

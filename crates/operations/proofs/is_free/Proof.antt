@@ -31,8 +31,8 @@ returns c =
 returns-2 : tie.Need-returns-2
 returns-2 c = rw (c.before.enum-told2.given.1, c.is-locked.ensures)
 
-pub is-free-spec : {M : Type 1} → statement M
-is-free-spec =
+pub is_free_spec : {M : Type 1} → statement M
+is_free_spec =
     tie.close
     (tie.spec
     enum_told

@@ -24,7 +24,7 @@ returns-2 c = search rules
 returns-3 : tie.Need-returns-3
 returns-3 c = search rules
 
-pub is-outside-spec : {M : Type 1} → statement M
-is-outside-spec =
+pub is_outside_spec : {M : Type 1} → statement M
+is_outside_spec =
     tie.close
     (tie.spec enum-known-op in-unit-requires enum_told enum-told-2 returns returns-2 returns-3)

@@ -48,8 +48,8 @@ returns-4 c = rw (c.before.enum-told4.given.1, c.code_of_lem.ensures)
 returns-5 : tie.Need-returns-5
 returns-5 c = rw c.before.enum-told5.given.1 c.is-free4.ensures
 
-pub is-unit-free-spec : {M : Type 1} → statement M
-is-unit-free-spec =
+pub is_unit_free_spec : {M : Type 1} → statement M
+is_unit_free_spec =
     tie.close
     (tie.spec
     enum_told

@@ -21,5 +21,5 @@ returns-2 c = search rules
 returns-3 : tie.Need-returns-3
 returns-3 c = search rules
 
-pub kept-by-spec : {M : Type 1} → statement M
-kept-by-spec = tie.close (tie.spec enum-known-op enum_told enum-told-2 returns returns-2 returns-3)
+pub kept_by_spec : {M : Type 1} → statement M
+kept_by_spec = tie.close (tie.spec enum-known-op enum_told enum-told-2 returns returns-2 returns-3)

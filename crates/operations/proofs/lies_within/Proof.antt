@@ -1,5 +1,5 @@
 -- `operations::lies_within` meets its contract: the difference is tested where the sum could wrap.
-use Rattle.words.proofs.Tests.{same-leb}
+use Rattle.words.proofs.Tests.{same_leb}
 use Rattle.words.specs.Logic.{◌and◌}
 use borrow.Author.Tests.{le-leb, lt-leb}
 use Prim.Native.Nat.{suc, ◌+◌, ◌-◌, ◌≤◌, ◌<◌}
@@ -20,7 +20,7 @@ returns-2 c =
     let a = c.before.args in
     let h : a.base ≤ a.place = omega arith in
     rw (le-leb _ _ h)
-    (same-leb (suc (a.place - a.base)) a.size (suc a.place) (a.base + a.size) (λ l. omega arith) (λ l. omega arith))
+    (same_leb (suc (a.place - a.base)) a.size (suc a.place) (a.base + a.size) (λ l. omega arith) (λ l. omega arith))
 
-pub lies-within-spec : {M : Type 1} → statement M
-lies-within-spec = tie.close (tie.spec returns returns-2)
+pub lies_within_spec : {M : Type 1} → statement M
+lies_within_spec = tie.close (tie.spec returns returns-2)

@@ -18,5 +18,5 @@ returns c = rw c.enum_told.given.1
 returns-2 : tie.Need-returns-2
 returns-2 c = search rules
 
-pub memory-bytes-spec : {M : Type 1} → statement M
-memory-bytes-spec = tie.close (tie.spec enum_told mul-result enum-told-2 returns returns-2)
+pub memory_bytes_spec : {M : Type 1} → statement M
+memory_bytes_spec = tie.close (tie.spec enum_told mul-result enum-told-2 returns returns-2)

@@ -1,5 +1,5 @@
 -- `operations::operation_ok` meets its contract: each arm joins the tests of what the operation is.
-use Rattle.operations.proofs.InOrder.{program-as, write_as}
+use Rattle.operations.proofs.InOrder.{program_as, write_as}
 use mathlib.Core.Path.{sym}
 use borrow.Author.Rules.{rules}
 use Rattle.operations.proofs.operation_ok.Statement.{statement}
@@ -47,18 +47,18 @@ held-byte-requires c κs = search rules
 returns : tie.Need-returns
 returns c =
     let a = c.before.before.before.before.before.before.before.before.before.before.args in
-    rw (c.before.before.before.before.before.before.before.before.op.given.1, c.both4.ensures, c.before.both3.ensures, c.before.before.both2.ensures, c.before.before.before.both.ensures, c.before.before.before.before.is_free.ensures, c.before.before.before.before.before.ends-within.ensures, c.before.before.before.before.before.before.memory-bytes.ensures) (sym (program-as _ _ _ _ _ a.blocks a.stored (search rules)))
+    rw (c.before.before.before.before.before.before.before.before.op.given.1, c.both4.ensures, c.before.both3.ensures, c.before.before.both2.ensures, c.before.before.before.both.ensures, c.before.before.before.before.is_free.ensures, c.before.before.before.before.before.ends-within.ensures, c.before.before.before.before.before.before.memory-bytes.ensures) (sym (program_as _ _ _ _ _ a.blocks a.stored (search rules)))
 
 returns-2 : tie.Need-returns-2
-returns-2 c = rw c.before.before.op2.given.1 c.erase-ok.ensures
+returns-2 c = rw c.before.before.op2.given.1 c.erase_ok.ensures
 
 returns-3 : tie.Need-returns-3
 returns-3 c =
     let a = c.before.before.before.before.args in
     rw (c.before.before.op3.given.1, c.held-byte.ensures) (sym (write_as _ _ a.blocks a.stored))
 
-pub operation-ok-spec : {M : Type 1} → statement M
-operation-ok-spec =
+pub operation_ok_spec : {M : Type 1} → statement M
+operation_ok_spec =
     tie.close
     (tie.spec
     enum-known-op

@@ -18,6 +18,6 @@ returns c = search rules
 returns-2 : tie.Need-returns-2
 returns-2 c = rw c.before.before.halted.given.1 c.is-outside.ensures
 
-pub outside-of-spec : {M : Type 1} → statement M
-outside-of-spec =
+pub outside_of_spec : {M : Type 1} → statement M
+outside_of_spec =
     tie.close (tie.spec enum_told enum-known-halted is-outside-requires returns returns-2)

@@ -27,8 +27,8 @@ returns-2 c = rw c.before.before.op2.given.1 c.is-unit-free.ensures
 returns-3 : tie.Need-returns-3
 returns-3 c = search rules
 
-pub target-free-spec : {M : Type 1} → statement M
-target-free-spec =
+pub target_free_spec : {M : Type 1} → statement M
+target_free_spec =
     tie.close
     (tie.spec
     enum-known-op

@@ -21,6 +21,6 @@ returns-2 c = search rules
 returns-3 : tie.Need-returns-3
 returns-3 c = search rules
 
-pub ticks-done-spec : {M : Type 1} → statement M
-ticks-done-spec =
+pub ticks_done_spec : {M : Type 1} → statement M
+ticks_done_spec =
     tie.close (tie.spec enum-known-op enum-known-op-2 enum_told returns returns-2 returns-3)

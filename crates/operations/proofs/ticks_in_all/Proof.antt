@@ -24,8 +24,8 @@ returns-2 c = rw c.before.before.op2.given.1 c.unit-pages.ensures
 returns-3 : tie.Need-returns-3
 returns-3 c = search rules
 
-pub ticks-in-all-spec : {M : Type 1} → statement M
-ticks-in-all-spec =
+pub ticks_in_all_spec : {M : Type 1} → statement M
+ticks_in_all_spec =
     tie.close
     (tie.spec
     enum-known-op

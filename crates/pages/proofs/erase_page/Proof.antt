@@ -1,18 +1,18 @@
 -- `pages::erase_page` meets its contract: the page is lent on from its base, and comes back as FFh.
 use Rattle.std.proofs.Common.{◌+◌, ◌-◌, sym, arith, rules}
-use Rattle.paper.proofs.Pages.{erased-out, erased-back}
+use Rattle.paper.proofs.Pages.{erased_out, erased_back}
 use Rattle.pages.proofs.erase_page.Statement.{statement}
 use Rattle.pages.proofs.erase_page.Tie as tie
 
 returns : tie.Need-returns
 returns c =
     let a = c.before.before.args in
-    sym (erased-out a.memory.now a.base (omega arith))
+    sym (erased_out a.memory.now a.base (omega arith))
 
 returns-2 : tie.Need-returns-2
 returns-2 c =
     let a = c.before.before.before.args in
-    sym (erased-out a.memory.now a.base (omega arith))
+    sym (erased_out a.memory.now a.base (omega arith))
 
 add-end : tie.Need-overflow-add-end
 add-end c = search rules
@@ -35,10 +35,10 @@ same_length c = search rules
 returns-3 : tie.Need-returns-3
 returns-3 c =
     let a = c.before.before.before.before.before.before.before.args in
-    erased-back a.memory.now a.base (omega arith) (a.base + 256 - a.base) (omega arith) _ c.before.before.blank.ensures
+    erased_back a.memory.now a.base (omega arith) (a.base + 256 - a.base) (omega arith) _ c.before.before.blank.ensures
 
-pub erase-page-spec : {M : Type 1} → statement M
-erase-page-spec =
+pub erase_page_spec : {M : Type 1} → statement M
+erase_page_spec =
     tie.close
     (tie.spec
     returns

@@ -36,8 +36,8 @@ returns-4 c = rw c.enum-told4.given.1
 returns-5 : tie.Need-returns-5
 returns-5 c = search rules
 
-pub unit-pages-spec : {M : Type 1} → statement M
-unit-pages-spec =
+pub unit_pages_spec : {M : Type 1} → statement M
+unit_pages_spec =
     tie.close
     (tie.spec
     enum_told

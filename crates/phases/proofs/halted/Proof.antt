@@ -27,8 +27,8 @@ returns-3 c = rw c.before.phase.given.1
 returns-4 : tie.Need-returns-4
 returns-4 c = rw c.before.phase2.given.1
 
-pub halted-spec : {M : Type 1} → statement M
-halted-spec =
+pub halted_spec : {M : Type 1} → statement M
+halted_spec =
     tie.close
     (tie.spec
     enum_told

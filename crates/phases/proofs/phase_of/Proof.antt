@@ -33,8 +33,8 @@ returns-3 c = rw (c.before.before.before.halted.given.1, c.enum-told3.given.1)
 returns-4 : tie.Need-returns-4
 returns-4 c = rw (c.before.before.before.before.halted.given.1, c.before.runs2.given.1)
 
-pub phase-of-spec : {M : Type 1} → statement M
-phase-of-spec =
+pub phase_of_spec : {M : Type 1} → statement M
+phase_of_spec =
     tie.close
     (tie.spec
     enum_told

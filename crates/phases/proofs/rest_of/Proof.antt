@@ -27,8 +27,8 @@ returns-3 c = rw c.before.phase.given.1
 returns-4 : tie.Need-returns-4
 returns-4 c = rw c.before.phase2.given.1
 
-pub rest-of-spec : {M : Type 1} → statement M
-rest-of-spec =
+pub rest_of_spec : {M : Type 1} → statement M
+rest_of_spec =
     tie.close
     (tie.spec
     enum_told

@@ -27,8 +27,8 @@ returns-3 c = search rules
 returns-4 : tie.Need-returns-4
 returns-4 c = rw c.before.phase2.given.1
 
-pub running-spec : {M : Type 1} → statement M
-running-spec =
+pub running_spec : {M : Type 1} → statement M
+running_spec =
     tie.close
     (tie.spec
     enum_told

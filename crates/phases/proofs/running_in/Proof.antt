@@ -12,5 +12,5 @@ phase-of-requires c κs = search rules
 returns : tie.Need-returns
 returns c = rw (c.phase-of.ensures, c.before.halted.ensures)
 
-pub running-in-spec : {M : Type 1} → statement M
-running-in-spec = tie.close (tie.spec halted-requires phase-of-requires returns)
+pub running_in_spec : {M : Type 1} → statement M
+running_in_spec = tie.close (tie.spec halted-requires phase-of-requires returns)

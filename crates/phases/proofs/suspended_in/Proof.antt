@@ -12,5 +12,5 @@ phase-of-requires c κs = search rules
 returns : tie.Need-returns
 returns c = rw (c.phase-of.ensures, c.before.running.ensures)
 
-pub suspended-in-spec : {M : Type 1} → statement M
-suspended-in-spec = tie.close (tie.spec running-requires phase-of-requires returns)
+pub suspended_in_spec : {M : Type 1} → statement M
+suspended_in_spec = tie.close (tie.spec running-requires phase-of-requires returns)

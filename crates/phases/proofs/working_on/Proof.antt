@@ -27,8 +27,8 @@ returns-3 c = rw c.before.phase.given.1
 returns-4 : tie.Need-returns-4
 returns-4 c = rw c.before.phase2.given.1
 
-pub working-on-spec : {M : Type 1} → statement M
-working-on-spec =
+pub working_on_spec : {M : Type 1} → statement M
+working_on_spec =
     tie.close
     (tie.spec
     enum_told

@@ -1,6 +1,6 @@
 -- `printing::put_answer` meets its contract: the pieces of the line are printed one after another.
-use Rattle.printing.proofs.Text.{prints-then, prints-join}
-use Rattle.paper.specs.Bench.{space, placeText, answerText}
+use Rattle.printing.proofs.Text.{prints_then, prints_join}
+use Rattle.paper.specs.Bench.{space, place_text, answer_text}
 use mathlib.Core.List.{[], ◌∷◌}
 use lib.ListN.{length}
 use borrow.Author.Rules.{rules}
@@ -23,13 +23,13 @@ same_length : tie.Need-same-length
 same_length c = search rules
 
 returns : tie.Need-returns
-unfolding answerText
+unfolding answer_text
 returns c =
     let a = c.before.before.before.before.before.before.before.before.before.before.before.before.before.before.before.before.before.before.args in
-    prints-then (prints-then (prints-join (placeText a.first (length a.bytes.now)) (space ∷ []) c.before.before.before.before.before.before.before.before.before.before.before.before.before.before.put-decimal.ensures c.before.before.before.before.before.before.before.before.before.before.put-place.ensures) c.before.before.before.before.before.before.put-pairs.ensures) c.before.before.put.ensures
+    prints_then (prints_then (prints_join (place_text a.first (length a.bytes.now)) (space ∷ []) c.before.before.before.before.before.before.before.before.before.before.before.before.before.before.put-decimal.ensures c.before.before.before.before.before.before.before.before.before.before.put-place.ensures) c.before.before.before.before.before.before.put-pairs.ensures) c.before.before.put.ensures
 
-pub put-answer-spec : {M : Type 1} → statement M
-put-answer-spec =
+pub put_answer_spec : {M : Type 1} → statement M
+put_answer_spec =
     tie.close
     (tie.spec
     put-decimal-requires

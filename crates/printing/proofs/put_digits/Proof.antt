@@ -1,5 +1,5 @@
 -- `printing::put_digits` meets its contract: the digits are printed one after another.
-use Rattle.printing.proofs.Text.{prints-then}
+use Rattle.printing.proofs.Text.{prints_then}
 use Rattle.paper.specs.Bench.{decimal}
 use borrow.Author.Rules.{rules}
 use Rattle.printing.proofs.put_digits.Statement.{statement}
@@ -29,10 +29,10 @@ same_length c = search rules
 returns : tie.Need-returns
 unfolding decimal
 returns c =
-    rw (← c.before.before.before.digit.ensures) (prints-then (prints-then (prints-then (prints-then c.before.before.before.before.before.before.before.before.before.before.before.before.before.before.before.before.before.before.before.put-leading.ensures c.before.before.before.before.before.before.before.before.before.before.before.before.before.before.before.put-leading2.ensures) c.before.before.before.before.before.before.before.before.before.before.before.put-leading3.ensures) c.before.before.before.before.before.before.before.put-leading4.ensures) c.before.before.put.ensures)
+    rw (← c.before.before.before.digit.ensures) (prints_then (prints_then (prints_then (prints_then c.before.before.before.before.before.before.before.before.before.before.before.before.before.before.before.before.before.before.before.put-leading.ensures c.before.before.before.before.before.before.before.before.before.before.before.before.before.before.before.put-leading2.ensures) c.before.before.before.before.before.before.before.before.before.before.before.put-leading3.ensures) c.before.before.before.before.before.before.before.put-leading4.ensures) c.before.before.put.ensures)
 
-pub put-digits-spec : {M : Type 1} → statement M
-put-digits-spec =
+pub put_digits_spec : {M : Type 1} → statement M
+put_digits_spec =
     tie.close
     (tie.spec
     put-leading-requires

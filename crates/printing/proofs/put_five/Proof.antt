@@ -1,6 +1,6 @@
 -- `printing::put_five` meets its contract: the digits are printed one after another.
-use Rattle.printing.proofs.Text.{prints-then}
-use Rattle.paper.specs.WearText.{fiveDigits}
+use Rattle.printing.proofs.Text.{prints_then}
+use Rattle.paper.specs.WearText.{five_digits}
 use borrow.Author.Rules.{rules}
 use Rattle.printing.proofs.put_five.Statement.{statement}
 use Rattle.printing.proofs.put_five.Tie as tie
@@ -33,12 +33,12 @@ same_length : tie.Need-same-length
 same_length c = search rules
 
 returns : tie.Need-returns
-unfolding fiveDigits
+unfolding five_digits
 returns c =
-    rw (← c.before.before.before.before.before.before.before.before.before.before.before.before.before.before.before.digit.ensures, ← c.before.before.before.before.before.before.before.before.before.before.before.before.before.before.digit2.ensures, ← c.before.before.before.before.before.before.before.before.before.digit3.ensures, ← c.before.before.before.before.before.before.before.before.digit4.ensures, ← c.before.before.before.digit5.ensures) (prints-then (prints-then c.before.before.before.before.before.before.before.before.before.before.before.before.before.put_two.ensures c.before.before.before.before.before.before.before.put-two2.ensures) c.before.before.put.ensures)
+    rw (← c.before.before.before.before.before.before.before.before.before.before.before.before.before.before.before.digit.ensures, ← c.before.before.before.before.before.before.before.before.before.before.before.before.before.before.digit2.ensures, ← c.before.before.before.before.before.before.before.before.before.digit3.ensures, ← c.before.before.before.before.before.before.before.before.digit4.ensures, ← c.before.before.before.digit5.ensures) (prints_then (prints_then c.before.before.before.before.before.before.before.before.before.before.before.before.before.put_two.ensures c.before.before.before.before.before.before.before.put-two2.ensures) c.before.before.put.ensures)
 
-pub put-five-spec : {M : Type 1} → statement M
-put-five-spec =
+pub put_five_spec : {M : Type 1} → statement M
+put_five_spec =
     tie.close
     (tie.spec
     digit-requires

@@ -1,5 +1,5 @@
 -- `printing::put_leading` meets its contract: there is a digit where the number reaches it.
-use Rattle.printing.proofs.Text.{prints-none}
+use Rattle.printing.proofs.Text.{prints_none}
 use borrow.Author.Tests.{le-leb, lt-leb}
 use Rattle.paper.specs.Bench.{leading}
 use borrow.Author.Rules.{rules}
@@ -32,9 +32,9 @@ returns-2 : tie.Need-returns-2
 unfolding leading
 returns-2 c =
     let a = c.before.before.before.args in
-    rw (lt-leb a.d a.n (omega arith), c.lesser.ensures) (prints-none a.output.now a.at)
+    rw (lt-leb a.d a.n (omega arith), c.lesser.ensures) (prints_none a.output.now a.at)
 
-pub put-leading-spec : {M : Type 1} → statement M
-put-leading-spec =
+pub put_leading_spec : {M : Type 1} → statement M
+put_leading_spec =
     tie.close
     (tie.spec div-digit digit-requires put-requires same_length returns lesser-requires returns-2)

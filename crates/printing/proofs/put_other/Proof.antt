@@ -1,5 +1,5 @@
 -- `printing::put_other` meets its contract: the line is its two characters.
-use Rattle.paper.specs.Bench.{otherText}
+use Rattle.paper.specs.Bench.{other_text}
 use borrow.Author.Rules.{rules}
 use Rattle.printing.proofs.put_other.Statement.{statement}
 use Rattle.printing.proofs.put_other.Tie as tie
@@ -11,8 +11,8 @@ same_length : tie.Need-same-length
 same_length c = search rules
 
 returns : tie.Need-returns
-unfolding otherText
+unfolding other_text
 returns c = c.before.before.put_two.ensures
 
-pub put-other-spec : {M : Type 1} → statement M
-put-other-spec = tie.close (tie.spec put-two-requires same_length returns)
+pub put_other_spec : {M : Type 1} → statement M
+put_other_spec = tie.close (tie.spec put-two-requires same_length returns)

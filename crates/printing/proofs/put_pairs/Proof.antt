@@ -1,7 +1,7 @@
 -- `printing::put_pairs` meets its contract. The loop's invariant: the pairs of the bytes so far are printed.
-use Rattle.printing.proofs.Text.{prints-none, prints-then, prints-length, pair-more}
+use Rattle.printing.proofs.Text.{prints_none, prints_then, prints_length, pair_more}
 use Rattle.printing.specs.Printed.{Prints}
-use Rattle.paper.specs.Bench.{hexPairs}
+use Rattle.paper.specs.Bench.{hex_pairs}
 use lib.Seq.{take_all}
 use lib.ListN.{length, take}
 use native.Mathlib.Numerals.{add-one}
@@ -12,7 +12,7 @@ use Rattle.printing.proofs.put_pairs.Statement.{statement}
 use Rattle.printing.proofs.put_pairs.Tie as tie
 
 abbrev invariant-loop : tie.invariant-loop
-invariant-loop output₀ at bytes place₀ i₀ output place i = Prints output₀ at (hexPairs (take i bytes)) output place
+invariant-loop output₀ at bytes place₀ i₀ output place i = Prints output₀ at (hex_pairs (take i bytes)) output place
 
 abbrev decreases-loop : tie.decreases-loop
 decreases-loop output₀ at bytes place₀ i₀ output place i = length bytes - i
@@ -21,7 +21,7 @@ lesser-requires : tie.Need-lesser-requires invariant-loop decreases-loop
 lesser-requires c κs = search rules
 
 loop-holds : tie.Need-loop-init invariant-loop decreases-loop
-loop-holds c = rw c.lesser.ensures (prints-none c.before.before.before.args.output.now c.before.before.before.args.at)
+loop-holds c = rw c.lesser.ensures (prints_none c.before.before.before.args.output.now c.before.before.before.args.at)
 
 shared-slice-read-hex-digit : tie.Need-shared-slice-read-hex-digit invariant-loop decreases-loop
 shared-slice-read-hex-digit c = search rules
@@ -48,10 +48,10 @@ loop-again : tie.Need-loop-preserved invariant-loop decreases-loop
 loop-again c =
     let l = c.before.before.before.before.before.before.before.before.before.loop in
     let xs = c.before.before.before.before.before.before.before.before.before.before.before.before.before.args.bytes.now in
-    rw (add-one, ← pair-more xs l.i c.before.before.before.before.before.before.before.before.loop-test.true, ← c.before.before.before.before.before.before.hex-digit.ensures, ← c.before.before.before.before.hex-digit2.ensures) (prints-then l.invariant c.before.before.put_two.ensures)
+    rw (add-one, ← pair_more xs l.i c.before.before.before.before.before.before.before.before.loop-test.true, ← c.before.before.before.before.before.before.hex-digit.ensures, ← c.before.before.before.before.hex-digit2.ensures) (prints_then l.invariant c.before.before.put_two.ensures)
 
 same_length : tie.Need-same-length invariant-loop decreases-loop
-same_length c = prints-length c.before.loop.invariant
+same_length c = prints_length c.before.loop.invariant
 
 returns : tie.Need-returns invariant-loop decreases-loop
 returns c =
@@ -59,8 +59,8 @@ returns c =
     let xs = c.before.before.before.before.before.args.bytes.now in
     rw (← take_all l.i xs (omega arith)) l.invariant
 
-pub put-pairs-spec : {M : Type 1} → statement M
-put-pairs-spec =
+pub put_pairs_spec : {M : Type 1} → statement M
+put_pairs_spec =
     tie.close
     (tie.spec
     invariant-loop

@@ -1,6 +1,6 @@
 -- `printing::put_place` meets its contract, with a place and with none.
 use borrow.Author.Tests.{eq-eqb, ne_eqb}
-use Rattle.paper.specs.Bench.{placeText}
+use Rattle.paper.specs.Bench.{place_text}
 use borrow.Author.Rules.{rules}
 use native.Mathlib.Omega.{arith}
 use Rattle.printing.proofs.put_place.Statement.{statement}
@@ -13,7 +13,7 @@ same_length : tie.Need-same-length
 same_length c = search rules
 
 returns : tie.Need-returns
-unfolding placeText
+unfolding place_text
 returns c =
     let a = c.before.before.before.before.before.before.args in
     rw (eq-eqb a.first a.n (omega arith)) c.before.before.put_two.ensures
@@ -25,12 +25,12 @@ same-length-2 : tie.Need-same-length-2
 same-length-2 c = search rules
 
 returns-2 : tie.Need-returns-2
-unfolding placeText
+unfolding place_text
 returns-2 c =
     let a = c.before.before.before.before.before.before.args in
     rw (ne_eqb a.first a.n c.before.before.before.before.if1.false) c.before.before.put-decimal.ensures
 
-pub put-place-spec : {M : Type 1} → statement M
-put-place-spec =
+pub put_place_spec : {M : Type 1} → statement M
+put_place_spec =
     tie.close
     (tie.spec put-two-requires same_length returns put-decimal-requires same-length-2 returns-2)

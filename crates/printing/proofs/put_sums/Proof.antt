@@ -1,7 +1,7 @@
 -- `printing::put_sums` meets its contract: the pieces of the two lines are printed one after another.
 use mathlib.Core.List.{[], ◌∷◌}
-use Rattle.printing.proofs.Text.{prints-then, prints-join}
-use Rattle.paper.specs.WearText.{countsText, sumsText}
+use Rattle.printing.proofs.Text.{prints_then, prints_join}
+use Rattle.paper.specs.WearText.{counts_text, sums_text}
 use Rattle.paper.specs.Bench.{LF}
 use borrow.Author.Rules.{rules}
 use Rattle.printing.proofs.put_sums.Statement.{statement}
@@ -29,13 +29,13 @@ same_length : tie.Need-same-length
 same_length c = search rules
 
 returns : tie.Need-returns
-unfolding sumsText
+unfolding sums_text
 returns c =
     let a = c.before.before.before.before.before.before.before.before.before.before.before.before.before.before.before.before.before.before.before.args in
-    prints-join (countsText a.te a.tp) (LF ∷ []) (prints-then (prints-join (countsText a.le a.lp) (LF ∷ []) c.before.before.before.before.before.before.before.before.before.before.before.before.before.before.before.put-text.ensures c.before.before.before.before.before.before.before.before.before.before.before.put-counts.ensures) c.before.before.before.before.before.before.put-text2.ensures) c.before.before.put-counts2.ensures
+    prints_join (counts_text a.te a.tp) (LF ∷ []) (prints_then (prints_join (counts_text a.le a.lp) (LF ∷ []) c.before.before.before.before.before.before.before.before.before.before.before.before.before.before.before.put-text.ensures c.before.before.before.before.before.before.before.before.before.before.before.put-counts.ensures) c.before.before.before.before.before.before.put-text2.ensures) c.before.before.put-counts2.ensures
 
-pub put-sums-spec : {M : Type 1} → statement M
-put-sums-spec =
+pub put_sums_spec : {M : Type 1} → statement M
+put_sums_spec =
     tie.close
     (tie.spec
     slice-aggregate-put-text

@@ -3,7 +3,7 @@ use Prim.Native.Nat.{◌-◌}
 use native.Mathlib.Numerals.{add-one}
 use lib.ListN.{length, take}
 use lib.Seq.{take-suc, take_all}
-use Rattle.printing.proofs.Text.{prints-none, prints-then, prints-length}
+use Rattle.printing.proofs.Text.{prints_none, prints_then, prints_length}
 use Rattle.printing.specs.Printed.{Prints}
 use borrow.Author.Rules.{rules}
 use native.Mathlib.Omega.{arith}
@@ -20,7 +20,7 @@ lesser-requires : tie.Need-lesser-requires invariant-loop decreases-loop
 lesser-requires c κs = search rules
 
 loop-holds : tie.Need-loop-init invariant-loop decreases-loop
-loop-holds c = rw c.lesser.ensures (prints-none c.before.before.before.args.output.now c.before.before.before.args.at)
+loop-holds c = rw c.lesser.ensures (prints_none c.before.before.before.args.output.now c.before.before.before.args.at)
 
 shared-slice-read-put : tie.Need-shared-slice-read-put invariant-loop decreases-loop
 shared-slice-read-put c = search rules
@@ -37,10 +37,10 @@ loop-less c = search rules
 loop-again : tie.Need-loop-preserved invariant-loop decreases-loop
 loop-again c =
     let l = c.before.before.before.before.before.before.loop in
-    rw (add-one, take-suc c.before.before.before.before.before.before.before.before.before.before.args.text.now l.i 0 c.before.before.before.before.before.loop-test.true) (prints-then l.invariant c.before.before.put.ensures)
+    rw (add-one, take-suc c.before.before.before.before.before.before.before.before.before.before.args.text.now l.i 0 c.before.before.before.before.before.loop-test.true) (prints_then l.invariant c.before.before.put.ensures)
 
 same_length : tie.Need-same-length invariant-loop decreases-loop
-same_length c = prints-length c.before.loop.invariant
+same_length c = prints_length c.before.loop.invariant
 
 returns : tie.Need-returns invariant-loop decreases-loop
 returns c =
@@ -48,8 +48,8 @@ returns c =
     let xs = c.before.before.before.before.before.args.text.now in
     rw (← take_all l.i xs (omega arith)) l.invariant
 
-pub put-text-spec : {M : Type 1} → statement M
-put-text-spec =
+pub put_text_spec : {M : Type 1} → statement M
+put_text_spec =
     tie.close
     (tie.spec
     invariant-loop

@@ -1,7 +1,7 @@
 -- `printing::put_wide_digits` meets its contract, for up to five digits, up to ten, and more: the parts are printed one after another.
-use Rattle.printing.proofs.Text.{prints-then}
+use Rattle.printing.proofs.Text.{prints_then}
 use borrow.Author.Tests.{lt-ltb, le-ltb}
-use Rattle.paper.specs.WearText.{wideDecimal}
+use Rattle.paper.specs.WearText.{wide_decimal}
 use borrow.Author.Rules.{rules}
 use native.Mathlib.Omega.{arith}
 use Rattle.printing.proofs.put_wide_digits.Statement.{statement}
@@ -14,7 +14,7 @@ same_length : tie.Need-same-length
 same_length c = search rules
 
 returns : tie.Need-returns
-unfolding wideDecimal
+unfolding wide_decimal
 returns c =
     rw (lt-ltb c.before.before.before.before.before.before.args.n 100000 (omega arith)) c.before.before.put-digits.ensures
 
@@ -28,10 +28,10 @@ same-length-2 : tie.Need-same-length-2
 same-length-2 c = search rules
 
 returns-2 : tie.Need-returns-2
-unfolding wideDecimal
+unfolding wide_decimal
 returns-2 c =
     let n = c.before.before.before.before.before.before.before.before.before.before.before.args.n in
-    rw (le-ltb n 100000 (omega arith), lt-ltb n 10000000000 (omega arith)) (prints-then c.before.before.before.before.before.before.put-digits2.ensures c.before.before.put_five.ensures)
+    rw (le-ltb n 100000 (omega arith), lt-ltb n 10000000000 (omega arith)) (prints_then c.before.before.before.before.before.before.put-digits2.ensures c.before.before.put_five.ensures)
 
 put-digits-requires-3 : tie.Need-put-digits-requires-3
 put-digits-requires-3 c κs = search rules
@@ -46,13 +46,13 @@ same-length-3 : tie.Need-same-length-3
 same-length-3 c = search rules
 
 returns-3 : tie.Need-returns-3
-unfolding wideDecimal
+unfolding wide_decimal
 returns-3 c =
     let n = c.before.before.before.before.before.before.before.before.before.before.before.before.before.before.before.args.n in
-    rw (le-ltb n 100000 (omega arith), le-ltb n 10000000000 (omega arith)) (prints-then (prints-then c.before.before.before.before.before.before.before.before.before.before.put-digits3.ensures c.before.before.before.before.before.before.put-five2.ensures) c.before.before.put-five3.ensures)
+    rw (le-ltb n 100000 (omega arith), le-ltb n 10000000000 (omega arith)) (prints_then (prints_then c.before.before.before.before.before.before.before.before.before.before.put-digits3.ensures c.before.before.before.before.before.before.put-five2.ensures) c.before.before.put-five3.ensures)
 
-pub put-wide-digits-spec : {M : Type 1} → statement M
-put-wide-digits-spec =
+pub put_wide_digits_spec : {M : Type 1} → statement M
+put_wide_digits_spec =
     tie.close
     (tie.spec
     put-digits-requires

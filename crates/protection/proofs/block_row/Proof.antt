@@ -90,5 +90,5 @@ returns-17 c =
       ne_eqb _ _ c.match.rest.1,
     )
 
-pub block-row-spec : {M : Type 1} → statement M
-block-row-spec = tie.close (tie.spec returns returns-2 returns-3 returns-4 returns-5 returns-6 returns-7 returns-8 returns-9 returns-10 returns-11 returns-12 returns-13 returns-14 returns-15 returns-16 returns-17)
+pub block_row_spec : {M : Type 1} → statement M
+block_row_spec = tie.close (tie.spec returns returns-2 returns-3 returns-4 returns-5 returns-6 returns-7 returns-8 returns-9 returns-10 returns-11 returns-12 returns-13 returns-14 returns-15 returns-16 returns-17)

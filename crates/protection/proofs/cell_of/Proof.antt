@@ -27,5 +27,5 @@ returns-5 c =
     let r = c.match.rest in
     rw (ne_eqb n 16 r.0.0.0.1, ne_eqb n 8 r.0.0.1, ne_eqb n 4 r.0.1, ne_eqb n 1 r.1)
 
-pub cell-of-spec : {M : Type 1} → statement M
-cell-of-spec = tie.close (tie.spec returns returns-2 returns-3 returns-4 returns-5)
+pub cell_of_spec : {M : Type 1} → statement M
+cell_of_spec = tie.close (tie.spec returns returns-2 returns-3 returns-4 returns-5)

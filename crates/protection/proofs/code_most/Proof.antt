@@ -13,5 +13,5 @@ returns c = rw (sym c.before.is-large.ensures ∙ c.if1.true)
 returns-2 : tie.Need-returns-2
 returns-2 c = rw (sym c.before.is-large.ensures ∙ c.if1.false)
 
-pub code-most-spec : {M : Type 1} → statement M
-code-most-spec = tie.close (tie.spec is-large-requires returns returns-2)
+pub code_most_spec : {M : Type 1} → statement M
+code_most_spec = tie.close (tie.spec is-large-requires returns returns-2)

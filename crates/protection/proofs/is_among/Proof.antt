@@ -20,5 +20,5 @@ returns : tie.Need-returns
 unfolding among
 returns c = rw c.both.ensures
 
-pub is-among-spec : {M : Type 1} → statement M
-is-among-spec = tie.close (tie.spec cast-first cast-before add-before both-requires returns)
+pub is_among_spec : {M : Type 1} → statement M
+is_among_spec = tie.close (tie.spec cast-first cast-before add-before both-requires returns)

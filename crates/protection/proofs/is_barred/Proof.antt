@@ -14,5 +14,5 @@ returns : tie.Need-returns
 unfolding barred
 returns c = cc
 
-pub is-barred-spec : {M : Type 1} → statement M
-is-barred-spec = tie.close (tie.spec both-requires both-requires-2 returns)
+pub is_barred_spec : {M : Type 1} → statement M
+is_barred_spec = tie.close (tie.spec both-requires both-requires-2 returns)

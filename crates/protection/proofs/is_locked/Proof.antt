@@ -9,8 +9,8 @@ use Rattle.protection.proofs.is_locked.Statement.{statement}
 use Rattle.protection.proofs.is_locked.Tie as tie
 
 -- a byte has no bit above its eighth
-no-bit : (x k : ℕ) → x < 256 → 4 ≤ k → x / 2 ^ (4 + k) ≡ 0
-no-bit x k h l =
+no_bit : (x k : ℕ) → x < 256 → 4 ≤ k → x / 2 ^ (4 + k) ≡ 0
+no_bit x k h l =
     let p : 2 ^ 8 ≤ 2 ^ (4 + k) = pow_mono {i = 8} {j = 4 + k} (omega arith) in
     div-eq_of_lt (omega arith)
 
@@ -32,7 +32,7 @@ returns-4 c = rw c.match.keys4
 
 returns-5 : tie.Need-returns-5
 unfolding locked
-returns-5 c = rw (no-bit c.before.args.function c.before.args.row (omega arith) (omega (arith, c.match.rest)))
+returns-5 c = rw (no_bit c.before.args.function c.before.args.row (omega arith) (omega (arith, c.match.rest)))
 
-pub is-locked-spec : {M : Type 1} → statement M
-is-locked-spec = tie.close (tie.spec returns returns-2 returns-3 returns-4 returns-5)
+pub is_locked_spec : {M : Type 1} → statement M
+is_locked_spec = tie.close (tie.spec returns returns-2 returns-3 returns-4 returns-5)

@@ -13,5 +13,5 @@ returns c = rw (le-leb 16 c.before.before.before.args.code c.before.if1.true, c.
 returns-2 : tie.Need-returns-2
 returns-2 c = rw (lt-leb 16 c.before.before.before.args.code c.before.if1.false, c.before.before.large-row.ensures)
 
-pub large-cell-spec : {M : Type 1} → statement M
-large-cell-spec = tie.close (tie.spec large-row-requires returns returns-2)
+pub large_cell_spec : {M : Type 1} → statement M
+large_cell_spec = tie.close (tie.spec large-row-requires returns returns-2)

@@ -3,7 +3,7 @@ use mathlib.Core.Bool.{true, false}
 use mathlib.Core.Path.{sym, ◌∙◌}
 use borrow.Author.Rules.{rules}
 use native.Mathlib.Omega.{arith}
-use Rattle.paper.proofs.Protected.{table-looked-up, table_none}
+use Rattle.paper.proofs.Protected.{table_looked_up, table_none}
 use Rattle.protection.proofs.protected_blocks.Statement.{statement}
 use Rattle.protection.proofs.protected_blocks.Tie as tie
 
@@ -27,7 +27,7 @@ blocks-of-requires c κs = search rules
 returns-2 : tie.Need-returns-2
 returns-2 c =
     let a = c.before.before.before.before.before.args in
-    rw (table-looked-up a.code a.blocks true (sym c.before.before.before.before.is-large.ensures ∙ c.before.before.before.if1.true) (omega (arith, c.before.before.if2.false)), c.blocks-of.ensures, c.before.large-cell.ensures)
+    rw (table_looked_up a.code a.blocks true (sym c.before.before.before.before.is-large.ensures ∙ c.before.before.before.if1.true) (omega (arith, c.before.before.if2.false)), c.blocks-of.ensures, c.before.large-cell.ensures)
 
 returns-3 : tie.Need-returns-3
 returns-3 c =
@@ -49,10 +49,10 @@ blocks-of-requires-2 c κs = search rules
 returns-4 : tie.Need-returns-4
 returns-4 c =
     let a = c.before.before.before.before.before.before.args in
-    rw (table-looked-up a.code a.blocks false (sym c.before.before.before.before.before.is-large.ensures ∙ c.before.before.before.before.if1.false) (omega (arith, c.before.before.before.if3.false)), c.blocks-of2.ensures, c.before.cell-of.ensures, c.before.before.block_row.ensures)
+    rw (table_looked_up a.code a.blocks false (sym c.before.before.before.before.before.is-large.ensures ∙ c.before.before.before.before.if1.false) (omega (arith, c.before.before.before.if3.false)), c.blocks-of2.ensures, c.before.cell-of.ensures, c.before.before.block_row.ensures)
 
-pub protected-blocks-spec : {M : Type 1} → statement M
-protected-blocks-spec =
+pub protected_blocks_spec : {M : Type 1} → statement M
+protected_blocks_spec =
     tie.close
     (tie.spec
     is-large-requires

@@ -1,5 +1,5 @@
 -- `record::bits_ok` meets its contract: its tests on remainders are those of the bits.
-use Rattle.paper.proofs.Bits.{bits-as}
+use Rattle.paper.proofs.Bits.{bits_as}
 use borrow.Author.Rules.{rules}
 use Rattle.record.proofs.bits_ok.Statement.{statement}
 use Rattle.record.proofs.bits_ok.Tie as tie
@@ -25,10 +25,10 @@ both-requires-2 c κs = search rules
 returns : tie.Need-returns
 returns c =
     let a = c.before.before.before.before.before.before.before.before.args in
-    rw (bits-as a.phase a.wel a.stored, c.both2.ensures, c.before.both.ensures, c.before.before.before.function-low.ensures, c.before.before.before.before.before.before.status-low.ensures)
+    rw (bits_as a.phase a.wel a.stored, c.both2.ensures, c.before.both.ensures, c.before.before.before.function-low.ensures, c.before.before.before.before.before.before.status-low.ensures)
 
-pub bits-ok-spec : {M : Type 1} → statement M
-bits-ok-spec =
+pub bits_ok_spec : {M : Type 1} → statement M
+bits_ok_spec =
     tie.close
     (tie.spec
     status-low-requires

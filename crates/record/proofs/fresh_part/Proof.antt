@@ -9,5 +9,5 @@ registers-in-requires c κs = search rules
 returns : tie.Need-returns
 returns c = rw c.registers-in.ensures
 
-pub fresh-part-spec : {M : Type 1} → statement M
-fresh-part-spec = tie.close (tie.spec registers-in-requires returns)
+pub fresh_part_spec : {M : Type 1} → statement M
+fresh_part_spec = tie.close (tie.spec registers-in-requires returns)

@@ -21,8 +21,8 @@ returns c = rw (← c.before.before.halted.ensures, c.enum_told.given.1)
 returns-2 : tie.Need-returns-2
 returns-2 c = rw (← c.before.before.before.before.halted.ensures, c.before.before.halted2.given.1) c.suspended-bits.ensures
 
-pub function-low-spec : {M : Type 1} → statement M
-function-low-spec =
+pub function_low_spec : {M : Type 1} → statement M
+function_low_spec =
     tie.close
     (tie.spec
     halted-requires

@@ -1,6 +1,6 @@
 -- `record::large_ok` meets its contract: it goes by whether the part is the large one.
 use mathlib.Core.Path.{sym, ◌∙◌}
-use Rattle.paper.proofs.Bits.{large-as}
+use Rattle.paper.proofs.Bits.{large_as}
 use borrow.Author.Rules.{rules}
 use Rattle.record.proofs.large_ok.Statement.{statement}
 use Rattle.record.proofs.large_ok.Tie as tie
@@ -11,7 +11,7 @@ is-large-requires c κs = search rules
 returns : tie.Need-returns
 returns c =
     let a = c.before.before.args in
-    rw (large-as a.blocks a.function a.bank, sym c.before.is-large.ensures ∙ c.if1.true)
+    rw (large_as a.blocks a.function a.bank, sym c.before.is-large.ensures ∙ c.if1.true)
 
 both-requires : tie.Need-both-requires
 both-requires c κs = search rules
@@ -19,7 +19,7 @@ both-requires c κs = search rules
 returns-2 : tie.Need-returns-2
 returns-2 c =
     let a = c.before.before.before.args in
-    rw (large-as a.blocks a.function a.bank, c.both.ensures, sym c.before.before.is-large.ensures ∙ c.before.if1.false)
+    rw (large_as a.blocks a.function a.bank, c.both.ensures, sym c.before.before.is-large.ensures ∙ c.before.if1.false)
 
-pub large-ok-spec : {M : Type 1} → statement M
-large-ok-spec = tie.close (tie.spec is-large-requires returns both-requires returns-2)
+pub large_ok_spec : {M : Type 1} → statement M
+large_ok_spec = tie.close (tie.spec is-large-requires returns both-requires returns-2)

@@ -12,5 +12,5 @@ no-data-requires c κs = search rules
 returns : tie.Need-returns
 returns c = rw (c.no-data.ensures, c.before.fresh-part.ensures)
 
-pub make-fresh-spec : {M : Type 1} → statement M
-make-fresh-spec = tie.close (tie.spec fresh-part-requires no-data-requires returns)
+pub make_fresh_spec : {M : Type 1} → statement M
+make_fresh_spec = tie.close (tie.spec fresh-part-requires no-data-requires returns)

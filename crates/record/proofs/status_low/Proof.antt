@@ -23,7 +23,7 @@ add-result c = omega (arith, c.before.before.bit-of.ensures, bit_le c.before.bef
 returns : tie.Need-returns
 returns c = rw (c.before.before.bit-of.ensures, c.bit-of2.ensures, c.before.is-busy.ensures)
 
-pub status-low-spec : {M : Type 1} → statement M
-status-low-spec =
+pub status_low_spec : {M : Type 1} → statement M
+status_low_spec =
     tie.close
     (tie.spec bit-of-requires mul-result is-busy-requires bit-of-requires-2 add-result returns)

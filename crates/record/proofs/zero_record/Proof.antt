@@ -12,5 +12,5 @@ make-fresh-requires c κs = search rules
 returns : tie.Need-returns
 returns c = rw (c.make-fresh.ensures, c.before.no-stored.ensures)
 
-pub zero-record-spec : {M : Type 1} → statement M
-zero-record-spec = tie.close (tie.spec no-stored-requires make-fresh-requires returns)
+pub zero_record_spec : {M : Type 1} → statement M
+zero_record_spec = tie.close (tie.spec no-stored-requires make-fresh-requires returns)

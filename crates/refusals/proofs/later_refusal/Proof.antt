@@ -1,6 +1,6 @@
 -- `refusals::later_refusal` meets its contract: it joins the four tests in the paper's order.
-use Rattle.paper.specs.Numbers.{lengthNumber, outputNumber, soundNumber}
-use Rattle.words.proofs.Tests.{orElse-none}
+use Rattle.paper.specs.Numbers.{length_number, output_number, sound_number}
+use Rattle.words.proofs.Tests.{or_else_none}
 use mathlib.Core.Path.{◌∙◌}
 use borrow.Author.Rules.{rules}
 use native.Mathlib.Omega.{arith}
@@ -23,11 +23,11 @@ rows-number-or-requires : tie.Need-rows-number-or-requires
 rows-number-or-requires c κs = search rules
 
 returns : tie.Need-returns
-unfolding lengthNumber outputNumber soundNumber
-returns c = rw (c.rows-number-or.ensures, c.before.number-or3.ensures, c.before.before.number-or2.ensures, c.before.before.before.number-or.ensures ∙ orElse-none _, c.before.before.before.before.both.ensures)
+unfolding length_number output_number sound_number
+returns c = rw (c.rows-number-or.ensures, c.before.number-or3.ensures, c.before.before.number-or2.ensures, c.before.before.before.number-or.ensures ∙ or_else_none _, c.before.before.before.before.both.ensures)
 
-pub later-refusal-spec : {M : Type 1} → statement M
-later-refusal-spec =
+pub later_refusal_spec : {M : Type 1} → statement M
+later_refusal_spec =
     tie.close
     (tie.spec
     both-requires

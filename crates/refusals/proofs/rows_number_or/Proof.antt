@@ -1,5 +1,5 @@
 -- `refusals::rows_number_or` meets its contract.
-use Rattle.paper.specs.Numbers.{rowsNumber}
+use Rattle.paper.specs.Numbers.{rows_number}
 use borrow.Author.Rules.{rules}
 use native.Mathlib.Omega.{arith}
 use Rattle.refusals.proofs.rows_number_or.Statement.{statement}
@@ -9,8 +9,8 @@ number-or-requires : tie.Need-number-or-requires
 number-or-requires c κs = search rules
 
 returns : tie.Need-returns
-unfolding rowsNumber
+unfolding rows_number
 returns c = c.number-or.ensures
 
-pub rows-number-or-spec : {M : Type 1} → statement M
-rows-number-or-spec = tie.close (tie.spec number-or-requires returns)
+pub rows_number_or_spec : {M : Type 1} → statement M
+rows_number_or_spec = tie.close (tie.spec number-or-requires returns)

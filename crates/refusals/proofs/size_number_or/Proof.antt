@@ -1,5 +1,5 @@
 -- `refusals::size_number_or` meets its contract: size and array are one test.
-use Rattle.paper.specs.Numbers.{sizeNumber}
+use Rattle.paper.specs.Numbers.{size_number}
 use borrow.Author.Rules.{rules}
 use native.Mathlib.Omega.{arith}
 use Rattle.refusals.proofs.size_number_or.Statement.{statement}
@@ -18,9 +18,9 @@ number-or-requires : tie.Need-number-or-requires
 number-or-requires c κs = search rules
 
 returns : tie.Need-returns
-unfolding sizeNumber
+unfolding size_number
 returns c = rw (c.number-or.ensures, c.before.both.ensures, c.before.before.Size-ok.ensures)
 
-pub size-number-or-spec : {M : Type 1} → statement M
-size-number-or-spec =
+pub size_number_or_spec : {M : Type 1} → statement M
+size_number_or_spec =
     tie.close (tie.spec size-ok-requires mul-same both-requires number-or-requires returns)

@@ -13,5 +13,5 @@ returns c = rw (sym c.before.is-large.ensures ∙ c.if1.true)
 returns-2 : tie.Need-returns-2
 returns-2 c = rw (sym c.before.is-large.ensures ∙ c.if1.false)
 
-pub tick-limit-spec : {M : Type 1} → statement M
-tick-limit-spec = tie.close (tie.spec is-large-requires returns returns-2)
+pub tick_limit_spec : {M : Type 1} → statement M
+tick_limit_spec = tie.close (tie.spec is-large-requires returns returns-2)

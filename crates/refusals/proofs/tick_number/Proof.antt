@@ -1,8 +1,8 @@
 -- `refusals::tick_number` meets its contract: it joins the four tests in the paper's order.
 use mathlib.Core.Path.{◌∙◌}
 use borrow.Author.Rules.{rules}
-use Rattle.words.proofs.Tests.{orElse-none}
-use Rattle.paper.specs.Numbers.{soundNumber, ticksNumber, tickNumber}
+use Rattle.words.proofs.Tests.{or_else_none}
+use Rattle.paper.specs.Numbers.{sound_number, ticks_number, tick_number}
 use Rattle.refusals.proofs.tick_number.Statement.{statement}
 use Rattle.refusals.proofs.tick_number.Tie as tie
 
@@ -22,11 +22,11 @@ size-number-or-requires : tie.Need-size-number-or-requires
 size-number-or-requires c κs = search rules
 
 returns : tie.Need-returns
-unfolding soundNumber ticksNumber tickNumber
+unfolding sound_number ticks_number tick_number
 returns c =
-    rw (c.size-number-or.ensures, c.before.rows-number-or.ensures, c.before.before.number-or2.ensures, c.before.before.before.number-or.ensures ∙ orElse-none _, c.before.before.before.before.tick-limit.ensures)
+    rw (c.size-number-or.ensures, c.before.rows-number-or.ensures, c.before.before.number-or2.ensures, c.before.before.before.number-or.ensures ∙ or_else_none _, c.before.before.before.before.tick-limit.ensures)
 
-pub tick-number-spec : {M : Type 1} → statement M
-tick-number-spec =
+pub tick_number_spec : {M : Type 1} → statement M
+tick_number_spec =
     tie.close
     (tie.spec tick-limit-requires number-or-requires number-or-requires-2 rows-number-or-requires size-number-or-requires returns)

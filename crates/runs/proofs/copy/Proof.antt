@@ -4,7 +4,7 @@ use mathlib.Core.Path.{◌≡◌, refl, sym, ap, ◌∙◌}
 use mathlib.Core.List.{◌++◌}
 use native.Mathlib.Omega.{arith}
 use lib.ListN.{length, take, drop, length-take, length-drop}
-use Rattle.runs.proofs.Copied.{more-over, all-over, over-length}
+use Rattle.runs.proofs.Copied.{more_over, all_over, over_length}
 use borrow.Author.Rules.{rules}
 use Rattle.runs.proofs.copy.Statement.{statement}
 use Rattle.runs.proofs.copy.Tie as tie
@@ -69,8 +69,8 @@ loop-again c =
     let k = c.before.before.before.before.before.lesser in
     let m : l.i + k.result - l.i ≡ k.result = omega arith in
     let r : l.i + k.result ≤ length a.source.now = omega (arith, k.ensures) in
-    let e = more-over a.source.now a.output.now p l.output _ l.i k.result _ _ m m r l.invariant.0 c.before.before.copy-chunk.ensures in
-    (e, r, ap length e ∙ over-length a.source.now a.output.now p (l.i + k.result) r)
+    let e = more_over a.source.now a.output.now p l.output _ l.i k.result _ _ m m r l.invariant.0 c.before.before.copy-chunk.ensures in
+    (e, r, ap length e ∙ over_length a.source.now a.output.now p (l.i + k.result) r)
 
 same_length : tie.Need-same-length invariant-loop decreases-loop
 same_length c = c.before.loop.invariant.2 ∙ sym c.before.before.before.before.requires
@@ -79,7 +79,7 @@ returns : tie.Need-returns invariant-loop decreases-loop
 returns c =
     let l = c.before.loop in
     let a = c.before.before.before.before.args in
-    l.invariant.0 ∙ all-over a.source.now a.output.now c.before.before.before.before.requires l.i (omega (arith, l.invariant.1))
+    l.invariant.0 ∙ all_over a.source.now a.output.now c.before.before.before.before.requires l.i (omega (arith, l.invariant.1))
 
 pub copy_spec : {M : Type 1} → statement M
 copy_spec =

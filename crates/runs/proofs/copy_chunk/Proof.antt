@@ -3,7 +3,7 @@ use Prim.Native.Nat.{◌-◌}
 use mathlib.Core.Path.{ap, ◌∙◌}
 use lib.ListN.{length, take}
 use native.Mathlib.Omega.{arith}
-use Rattle.runs.proofs.Copied.{copied-whole, taken_back}
+use Rattle.runs.proofs.Copied.{copied_whole, taken_back}
 use borrow.Author.Rules.{rules}
 use Rattle.runs.proofs.copy_chunk.Statement.{statement}
 use Rattle.runs.proofs.copy_chunk.Tie as tie
@@ -33,10 +33,10 @@ returns : tie.Need-returns
 returns c =
     let s = c.before.before.before.before.before.before.before.before.before.before.before.args.source.now in
     let h = ap (take (length s - 0)) c.before.before.before.before.before.before.before.copy.ensures.1 ∙ taken_back s _ (length s - 0) (omega arith) in
-    c.before.before.copy2.ensures.1 ∙ copied-whole _ _ (omega (arith, c.before.before.before.before.before.before.before.before.before.before.before.requires.1, ap length h)) ∙ h
+    c.before.before.copy2.ensures.1 ∙ copied_whole _ _ (omega (arith, c.before.before.before.before.before.before.before.before.before.before.before.requires.1, ap length h)) ∙ h
 
-pub copy-chunk-spec : {M : Type 1} → statement M
-copy-chunk-spec =
+pub copy_chunk_spec : {M : Type 1} → statement M
+copy_chunk_spec =
     tie.close
     (tie.spec
     slice-aggregate-copy

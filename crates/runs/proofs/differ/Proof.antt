@@ -7,13 +7,13 @@ use native.Mathlib.Omega.{arith}
 use lib.Dec.{eqb, ltb}
 use lib.ListN.{length}
 use borrow.Author.Rules.{rules}
-use Rattle.words.specs.Lists.{first_of, differAt}
-use Rattle.runs.proofs.Differing.{differ-more}
+use Rattle.words.specs.Lists.{first_of, differ_at}
+use Rattle.runs.proofs.Differing.{differ_more}
 use Rattle.runs.proofs.differ.Statement.{statement}
 use Rattle.runs.proofs.differ.Tie as tie
 
 abbrev invariant-loop : tie.invariant-loop
-invariant-loop a b any₀ i₀ any i = (not (eqb any 0) ≡ ltb (first_of i (differAt a b)) i) × (i ≤ length a)
+invariant-loop a b any₀ i₀ any i = (not (eqb any 0) ≡ ltb (first_of i (differ_at a b)) i) × (i ≤ length a)
 
 abbrev decreases-loop : tie.decreases-loop
 decreases-loop a b any₀ i₀ any i = length a - i
@@ -38,7 +38,7 @@ loop-again : tie.Need-loop-preserved invariant-loop decreases-loop
 loop-again c =
     let l = c.before.before.before.loop in
     let a = c.before.before.before.before.args in
-    (rw add-one (differ-more a.a.now a.b.now l.any l.i l.invariant.0), omega arith)
+    (rw add-one (differ_more a.a.now a.b.now l.any l.i l.invariant.0), omega arith)
 
 returns : tie.Need-returns invariant-loop decreases-loop
 returns c =
@@ -47,8 +47,8 @@ returns c =
     let e : l.i ≡ length a.a.now = omega (arith, l.invariant.1) in
     rw (← e) l.invariant.0
 
-pub differ-spec : {M : Type 1} → statement M
-differ-spec =
+pub differ_spec : {M : Type 1} → statement M
+differ_spec =
     tie.close
     (tie.spec
     invariant-loop

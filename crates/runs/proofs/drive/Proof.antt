@@ -5,7 +5,7 @@ use native.Mathlib.Nat.{mod-lt, add-zero}
 use native.Mathlib.Omega.{arith}
 use lib.ListN.{length, take, drop, length-take, length-drop}
 use borrow.Rule.Slice.PartMut.{put_mid}
-use Rattle.words.proofs.Lists.{driven-empty, driven-past, driven-laid, laid, laid_none, length-laid, round-more, begins-again}
+use Rattle.words.proofs.Lists.{driven_empty, driven_past, driven_laid, laid, laid_none, length_laid, round_more, begins_again}
 use Rattle.words.specs.Lists.{round}
 use Rattle.runs.proofs.Copied.{run}
 use Rattle.runs.proofs.drive.Statement.{statement}
@@ -23,10 +23,10 @@ abbrev decreases-loop : tie.decreases-loop
 decreases-loop source at output₀ from n end room here₀ done₀ output here done = length output₀ - from - done
 
 returns : tie.Need-returns invariant-loop decreases-loop
-returns c = sym (driven-empty _ _ _ _ c.if1.true)
+returns c = sym (driven_empty _ _ _ _ c.if1.true)
 
 returns-2 : tie.Need-returns-2 invariant-loop decreases-loop
-returns-2 c = sym (driven-past _ _ _ _ c.before.if1.false c.if2.true)
+returns-2 c = sym (driven_past _ _ _ _ c.before.if1.false c.if2.true)
 
 sub-room : tie.Need-overflow-sub-room invariant-loop decreases-loop
 sub-room c = omega arith
@@ -107,12 +107,12 @@ loop-again c =
     let n : a.from + l.done + r - (a.from + l.done) ≡ r = omega arith in
     let came = c.before.before.copy.ensures ∙ ap (λ (k : ℕ). take k (drop l.here s)) m in
     let more : put_mid (a.from + l.done) (a.from + l.done + r - (a.from + l.done)) l.output c.before.before.copy.new.1.0 ≡ laid o a.from (l.done + r) (round s a.at) =
-    rw (came, n, l.invariant.0) (round-more o s a.at a.from l.done l.here r w.room w.inside here) in (
+    rw (came, n, l.invariant.0) (round_more o s a.at a.from l.done l.here r w.room w.inside here) in (
       more,
-      ap length more ∙ length-laid o a.from (l.done + r) (round s a.at) (omega (arith, w.room)),
+      ap length more ∙ length_laid o a.from (l.done + r) (round s a.at) (omega (arith, w.room)),
       omega (arith, w.room),
       omega arith,
-      λ h. begins-again (length s) a.at l.done r l.here here (w.whole (omega arith)),
+      λ h. begins_again (length s) a.at l.done r l.here here (w.whole (omega arith)),
     )
 
 same_length : tie.Need-same-length invariant-loop decreases-loop
@@ -121,10 +121,10 @@ same_length c = c.before.loop.invariant.1
 returns-3 : tie.Need-returns-3 invariant-loop decreases-loop
 returns-3 c =
     let l = c.before.loop in
-    l.invariant.0 ∙ driven-laid _ _ _ _ c.before.before.before.if1.false l.done (omega arith)
+    l.invariant.0 ∙ driven_laid _ _ _ _ c.before.before.before.if1.false l.done (omega arith)
 
-pub drive-spec : {M : Type 1} → statement M
-drive-spec =
+pub drive_spec : {M : Type 1} → statement M
+drive_spec =
     tie.close
     (tie.spec
     invariant-loop

@@ -4,13 +4,13 @@ use mathlib.Core.Path.{◌≡◌, refl, sym, ap, ◌∙◌}
 use native.Mathlib.Omega.{arith}
 use lib.ListN.{length}
 use borrow.Author.Rules.{rules}
-use Rattle.words.specs.Lists.{first_of, differAt}
-use Rattle.runs.proofs.Differing.{same-chunks, within-le, chunk-differs, chunk-same}
+use Rattle.words.specs.Lists.{first_of, differ_at}
+use Rattle.runs.proofs.Differing.{same_chunks, within_le, chunk_differs, chunk_same}
 use Rattle.runs.proofs.first_difference.Statement.{statement}
 use Rattle.runs.proofs.first_difference.Tie as tie
 
 abbrev invariant-loop : tie.invariant-loop
-invariant-loop a b n i₀ i = (first_of i (differAt a b) ≡ i) × (i ≤ n)
+invariant-loop a b n i₀ i = (first_of i (differ_at a b) ≡ i) × (i ≤ n)
 
 abbrev decreases-loop : tie.decreases-loop
 decreases-loop a b n i₀ i = n - i
@@ -60,7 +60,7 @@ differ-requires c κs =
     let n = c.before.before.before.before.before.lesser in
     let m : l.i + k.result - l.i ≡ k.result = omega arith in
     let r : l.i + k.result ≤ n.result = omega (arith, k.ensures) in
-    same-chunks a.a.now a.b.now l.i k.result _ m (omega (arith, n.ensures)) (omega (arith, n.ensures))
+    same_chunks a.a.now a.b.now l.i k.result _ m (omega (arith, n.ensures)) (omega (arith, n.ensures))
 
 first-of-chunk-requires : tie.Need-first-of-chunk-requires invariant-loop decreases-loop
 first-of-chunk-requires c κs =
@@ -70,7 +70,7 @@ first-of-chunk-requires c κs =
     let n = c.before.before.before.before.before.before.before.lesser in
     let m : l.i + k.result - l.i ≡ k.result = omega arith in
     let r : l.i + k.result ≤ n.result = omega (arith, k.ensures) in
-    same-chunks a.a.now a.b.now l.i k.result _ m (omega (arith, n.ensures)) (omega (arith, n.ensures))
+    same_chunks a.a.now a.b.now l.i k.result _ m (omega (arith, n.ensures)) (omega (arith, n.ensures))
 
 add-result : tie.Need-overflow-add-result invariant-loop decreases-loop
 add-result c =
@@ -79,7 +79,7 @@ add-result c =
     let k = c.before.before.before.before.before.lesser2 in
     let m : l.i + k.result - l.i ≡ k.result = omega arith in
     let r : l.i + k.result ≤ length a.a.now = omega (arith, k.ensures, c.before.before.before.before.before.before.before.before.lesser.ensures) in
-    omega (arith, k.ensures, c.first-of-chunk.ensures, within-le a.a.now a.b.now l.i k.result _ m r l.invariant.0)
+    omega (arith, k.ensures, c.first-of-chunk.ensures, within_le a.a.now a.b.now l.i k.result _ m r l.invariant.0)
 
 returns : tie.Need-returns invariant-loop decreases-loop
 returns c =
@@ -89,7 +89,7 @@ returns c =
     let n = c.before.before.before.before.before.before.before.before.lesser in
     let m : l.i + k.result - l.i ≡ k.result = omega arith in
     let r : l.i + k.result ≤ length a.a.now = omega (arith, k.ensures, n.ensures) in
-    rw c.first-of-chunk.ensures (chunk-differs a.a.now a.b.now l.i k.result _ m r l.invariant.0 _ (omega (arith, k.ensures, n.ensures)) (sym c.before.before.differ.ensures ∙ c.before.if1.true))
+    rw c.first-of-chunk.ensures (chunk_differs a.a.now a.b.now l.i k.result _ m r l.invariant.0 _ (omega (arith, k.ensures, n.ensures)) (sym c.before.before.differ.ensures ∙ c.before.if1.true))
 
 add-i : tie.Need-overflow-add-i invariant-loop decreases-loop
 add-i c = omega (arith, c.before.before.before.before.lesser2.ensures)
@@ -105,17 +105,17 @@ loop-again c =
     let n = c.before.before.before.before.before.before.before.lesser in
     let m : l.i + k.result - l.i ≡ k.result = omega arith in
     let r : l.i + k.result ≤ length a.a.now = omega (arith, k.ensures, n.ensures) in
-    (chunk-same a.a.now a.b.now l.i k.result _ m r l.invariant.0 (sym c.before.differ.ensures ∙ c.if1.false), omega (arith, k.ensures))
+    (chunk_same a.a.now a.b.now l.i k.result _ m r l.invariant.0 (sym c.before.differ.ensures ∙ c.if1.false), omega (arith, k.ensures))
 
 returns-2 : tie.Need-returns-2 invariant-loop decreases-loop
 returns-2 c =
     let l = c.before.loop in
     let n = c.before.before.lesser in
     let e : l.i ≡ n.result = omega (arith, l.invariant.1) in
-    sym (ap (λ (k : ℕ). first_of k (differAt c.before.before.before.before.before.args.a.now c.before.before.before.before.before.args.b.now)) (sym n.ensures ∙ sym e) ∙ l.invariant.0)
+    sym (ap (λ (k : ℕ). first_of k (differ_at c.before.before.before.before.before.args.a.now c.before.before.before.before.before.args.b.now)) (sym n.ensures ∙ sym e) ∙ l.invariant.0)
 
-pub first-difference-spec : {M : Type 1} → statement M
-first-difference-spec =
+pub first_difference_spec : {M : Type 1} → statement M
+first_difference_spec =
     tie.close
     (tie.spec
     invariant-loop

@@ -6,21 +6,21 @@ use native.Mathlib.Omega.{arith}
 use lib.ListN.{length, drop}
 use lib.Dec.{eqb}
 use borrow.Author.Rules.{rules}
-use Rattle.words.proofs.Zeros.{zero-start, zero_more, zero-end}
-use Rattle.words.specs.Lists.{allZero}
+use Rattle.words.proofs.Zeros.{zero_start, zero_more, zero_end}
+use Rattle.words.specs.Lists.{all_zero}
 use Rattle.words.specs.Logic.{◌and◌}
 use Rattle.runs.proofs.zero_from.Statement.{statement}
 use Rattle.runs.proofs.zero_from.Tie as tie
 
 abbrev invariant-loop : tie.invariant-loop
 invariant-loop bytes from any₀ i₀ any i =
-    (eqb any 0 and allZero (drop i bytes)) ≡ allZero (drop from bytes)
+    (eqb any 0 and all_zero (drop i bytes)) ≡ all_zero (drop from bytes)
 
 abbrev decreases-loop : tie.decreases-loop
 decreases-loop bytes from any₀ i₀ any i = length bytes - i
 
 loop-holds : tie.Need-loop-init invariant-loop decreases-loop
-loop-holds c = zero-start c.args.bytes.now c.args.from
+loop-holds c = zero_start c.args.bytes.now c.args.from
 
 shared-slice-read-any : tie.Need-shared-slice-read-any invariant-loop decreases-loop
 shared-slice-read-any c = search rules
@@ -41,9 +41,9 @@ returns : tie.Need-returns invariant-loop decreases-loop
 returns c =
     let l = c.before.loop in
     let xs = c.before.before.args.bytes.now in
-    sym (zero-end xs l.any l.i (omega arith)) ∙ l.invariant
+    sym (zero_end xs l.any l.i (omega arith)) ∙ l.invariant
 
-pub zero-from-spec : {M : Type 1} → statement M
-zero-from-spec =
+pub zero_from_spec : {M : Type 1} → statement M
+zero_from_spec =
     tie.close
     (tie.spec invariant-loop decreases-loop loop-holds shared-slice-read-any add-i loop-less loop-again returns)

@@ -3,7 +3,7 @@ use mathlib.Core.Path.{◌≡◌}
 use Prim.Native.Nat.{◌+◌, ◌-◌, ◌≤◌}
 use lib.ListN.{length}
 use Rattle.words.specs.Lists.{sum_to}
-use Rattle.script.proofs.Sums.{too_much, one_less, all-taken}
+use Rattle.script.proofs.Sums.{too_much, one_less, all_taken}
 use borrow.Author.Rules.{rules}
 use native.Mathlib.Omega.{arith}
 use Rattle.script.proofs.add_up.Statement.{statement}
@@ -40,10 +40,10 @@ loop-again : tie.Need-loop-preserved invariant-loop decreases-loop
 loop-again c = let a = c.before.before.before.before.args in (one_less a.lengths.now a.total _ _ c.before.before.before.loop.invariant.0 c.if1.false, omega (arith, c.before.before.loop-test.true))
 
 returns-2 : tie.Need-returns-2 invariant-loop decreases-loop
-returns-2 c = let a = c.before.before.args in all-taken a.lengths.now a.total _ _ c.before.loop.invariant.0 c.before.loop.invariant.1 c.loop-test.false
+returns-2 c = let a = c.before.before.args in all_taken a.lengths.now a.total _ _ c.before.loop.invariant.0 c.before.loop.invariant.1 c.loop-test.false
 
-pub add-up-spec : {M : Type 1} → statement M
-add-up-spec =
+pub add_up_spec : {M : Type 1} → statement M
+add_up_spec =
     tie.close
     (tie.spec
     invariant-loop

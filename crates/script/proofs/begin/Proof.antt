@@ -1,9 +1,9 @@
 -- `script::begin` meets its contract: it joins the tests in the paper's order, 1 and 35 before those that go by no size.
 use mathlib.Core.Path.{◌≡◌, ◌∙◌}
-use Rattle.words.proofs.Tests.{orElse-none}
-use Rattle.record_bytes.specs.Read.{recordIn}
-use Rattle.script.specs.InBytes.{heldWearNumber}
-use Rattle.script.proofs.WearInBytes.{number-begins}
+use Rattle.words.proofs.Tests.{or_else_none}
+use Rattle.record_bytes.specs.Read.{record_in}
+use Rattle.script.specs.InBytes.{held_wear_number}
+use Rattle.script.proofs.WearInBytes.{number_begins}
 use borrow.Author.Rules.{rules}
 use Rattle.script.proofs.begin.Statement.{statement}
 use Rattle.script.proofs.begin.Tie as tie
@@ -37,11 +37,11 @@ steps-where-requires c κs = search rules
 
 returns : tie.Need-returns
 returns c = let a = c.before.before.before.before.before.before.before.before.before.before.before.args in
-    let number : c.before.before.before.number-where.result ≡ heldWearNumber (recordIn a.bytes.now) a.wp a.array a.rows a.wear a.lengths.now a.ticks a.answers a.done a.input a.output = rw (c.before.before.before.number-where.ensures, c.before.before.before.before.first-of2.ensures, c.before.before.before.before.before.first_of.ensures, c.before.before.before.before.before.before.wear-number.ensures, c.before.before.before.before.before.before.before.size-number-or.ensures ∙ orElse-none _) (number-begins (recordIn a.bytes.now) a.wp a.array a.rows a.wear a.lengths.now a.ticks a.answers a.done a.input a.output c.before.before.before.before.before.before.before.before.judge.result c.before.before.before.before.before.before.before.before.judge.ensures) in
+    let number : c.before.before.before.number-where.result ≡ held_wear_number (record_in a.bytes.now) a.wp a.array a.rows a.wear a.lengths.now a.ticks a.answers a.done a.input a.output = rw (c.before.before.before.number-where.ensures, c.before.before.before.before.first-of2.ensures, c.before.before.before.before.before.first_of.ensures, c.before.before.before.before.before.before.wear-number.ensures, c.before.before.before.before.before.before.before.size-number-or.ensures ∙ or_else_none _) (number_begins (record_in a.bytes.now) a.wp a.array a.rows a.wear a.lengths.now a.ticks a.answers a.done a.input a.output c.before.before.before.before.before.before.before.before.judge.result c.before.before.before.before.before.before.before.before.judge.ensures) in
     rw (c.steps-where.ensures, c.before.identity-in.ensures, c.before.before.uncounted.ensures, number)
 
-pub begin-spec : {M : Type 1} → statement M
-begin-spec =
+pub begin_spec : {M : Type 1} → statement M
+begin_spec =
     tie.close
     (tie.spec
     judge-requires

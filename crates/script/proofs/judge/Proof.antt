@@ -15,5 +15,5 @@ later-refusal-requires c κs = search rules
 returns : tie.Need-returns
 returns c = rw (c.later-refusal.ensures, c.before.before.both.ensures, c.before.before.before.read.ensures)
 
-pub judge-spec : {M : Type 1} → statement M
-judge-spec = tie.close (tie.spec read-requires both-requires later-refusal-requires returns)
+pub judge_spec : {M : Type 1} → statement M
+judge_spec = tie.close (tie.spec read-requires both-requires later-refusal-requires returns)

@@ -40,23 +40,23 @@ use denote.Triple.Table.{entered, cited}
 use denote.Triple.Walked.{says, Stays, gave_slice, stay_none, stay_none_slice, walk_of, AllGo, Goes-none, Goes-none_slice, Goes-gave_slice, Walks, ends_at, walked, walk_Meets}
 use denote.Exit.{yes}
 use borrow.Rule.Slice.Reshare.{kept_s}
-use Rattle.lent.proofs.Shared.{shares_out, comes-in}
+use Rattle.lent.proofs.Shared.{shares_out, comes_in}
 use Rattle.lent.proofs.Says.{says8}
 use Rattle.types.specs.declared.Wear.{Wear}
 use Rattle.types.specs.declared.Identity.{Identity}
 use Rattle.types.specs.contracts.Wear as T
 use Rattle.types.specs.contracts.Identity as Id
 use Rattle.types.proofs.Identity.TheLaws as Id'
-use Rattle.paper.specs.Script.{Script, Scripted, afterSteps}
-use Rattle.paper.specs.Wear.{WearScripted, wearSteps}
-use Rattle.record_bytes.specs.Read.{recordIn, identityIn}
+use Rattle.paper.specs.Script.{Script, Scripted, after_steps}
+use Rattle.paper.specs.Wear.{WearScripted, wear_steps}
+use Rattle.record_bytes.specs.Read.{record_in, identity_in}
 use Rattle.script.specs.declared.Counting.{Counting}
 use Rattle.script.specs.declared.Begun.{Begun}
 use Rattle.script.specs.declared.Ran.{Ran}
-use Rattle.script.specs.Steps.{counted, bytesAfter}
-use Rattle.script.specs.InBytes.{scriptOf, scriptBytes, heldWearScripted, begunOf}
+use Rattle.script.specs.Steps.{counted, bytes_after}
+use Rattle.script.specs.InBytes.{script_of, script_bytes, held_wear_scripted, begun_of}
 use Rattle.script.proofs.InBytes.{Gives, gives}
-use Rattle.script.proofs.WearInBytes.{number, begun-begins, ends-run, ends-bytes, ends-wear}
+use Rattle.script.proofs.WearInBytes.{number, begun_begins, ends_run, ends_bytes, ends_wear}
 use Rattle.script.specs.contracts.Counting as Co
 use Rattle.script.proofs.Counting.TheLaws as Co'
 use Rattle.script.specs.contracts.Begun as Be
@@ -123,8 +123,8 @@ s r = slice_val r.ref_ptr (length r.now)
 abbrev ran : Counting → Ran
 ran q = record { number = q.number; step = q.step }
 
-ran-is : (q : Counting) (v : List Val) → Is Co.the_row q v → Is Ra.the_row (ran q) (LL.vals Ra.the_type Ra'.the_laws (ran q))
-ran-is q v is = let o = LL.owed Co.the_type Co'.the_laws q v is in LL.owes Ra.the_type Ra'.the_laws (ran q) (o.0, (o.1.0, tt))
+ran_is : (q : Counting) (v : List Val) → Is Co.the_row q v → Is Ra.the_row (ran q) (LL.vals Ra.the_type Ra'.the_laws (ran q))
+ran_is q v is = let o = LL.owed Co.the_type Co'.the_laws q v is in LL.owes Ra.the_type Ra'.the_laws (ran q) (o.0, (o.1.0, tt))
 
 module _ {M : Type 1} {𝓤 : Ura M} (𝓛 : Logic 𝓤) (mem : Memory → SProp 𝓤) (run : Routine → Fun 𝓤) (κy κa κr κb κo κn κd κw : Lft) (qy qa qr qb qo qn qd qw : Share)
     (bytes array rows : Nums) (wp : ℕ) (input lengths ticks output answers done' : Nums) (wear : Bor (List Wear))
@@ -132,11 +132,11 @@ module _ {M : Type 1} {𝓤 : Ura M} (𝓛 : Logic 𝓤) (mem : Memory → SProp
   open 𝓛 use {H}
 
   abbrev given : WearScripted
-  given = heldWearScripted (recordIn bytes.now) wp (scriptOf wp input.now lengths.now ticks.now) array.now rows.now output.now answers.now done'.now wear.now
+  given = held_wear_scripted (record_in bytes.now) wp (script_of wp input.now lengths.now ticks.now) array.now rows.now output.now answers.now done'.now wear.now
 
   -- what `begin` returns, and what the steps begin with
   abbrev told : Begun
-  told = begunOf (number bytes.now wp (scriptOf wp input.now lengths.now ticks.now) array.now rows.now output.now answers.now done'.now wear.now) (identityIn bytes.now) wp (length lengths.now)
+  told = begun_of (number bytes.now wp (script_of wp input.now lengths.now ticks.now) array.now rows.now output.now answers.now done'.now wear.now) (identity_in bytes.now) wp (length lengths.now)
 
   abbrev script : Begun → Script
   script r = record { wp = r.high; input = input.now; lengths = lengths.now; ticks = ticks.now }
@@ -192,7 +192,7 @@ module _ {M : Type 1} {𝓤 : Ura M} (𝓛 : Logic 𝓤) (mem : Memory → SProp
 
   goes-steps : (r : Begun) → r ≡ told → Is Co.the_row r.start (LL.vals Co.the_type Co'.the_laws r.start) → Is Id.the_row r.identity (LL.vals Id.the_type Id'.the_laws r.identity) → r.steps < 2 ^ 64 → ent 𝓤 (⋆ 𝓛 ((‵ (flft κy qy) ⊛ (‵ (flft κa qa) ⊛ (‵ (flft κr qr) ⊛ (‵ (flft κb qb) ⊛ (‵ (flft κo qo) ⊛ (‵ (flft κn qn) ⊛ (‵ (flft κd qd) ⊛ (‵ (flft κw qw) ⊛ ‵ ftrue)))))))) ∷ ‵ ((MutSlice (named 0) κy u8).own_val bytes (s bytes ∷ [])) ∷ ‵ ((MutSlice (named 1) κa u8).own_val array (s array ∷ [])) ∷ ‵ ((MutSlice (named 2) κr u8).own_val rows (s rows ∷ [])) ∷ ‵ ((MutSlice (named 4) κo u8).own_val output (s output ∷ [])) ∷ ‵ ((MutSlice (named 5) κn u8).own_val answers (s answers ∷ [])) ∷ ‵ ((MutSlice (named 6) κd u16).own_val done' (s done' ∷ [])) ∷ ‵ ((MutSlice (named 7) κw T.the_row).own_val wear (s wear ∷ [])) ∷ ‵ ((ShrSlice (named 3) κb u8).own_val input (s input ∷ [])) ∷ ‵ ((ShrSlice (named 3) κb u16).own_val lengths (s lengths ∷ [])) ∷ ‵ ((ShrSlice (named 3) κb u16).own_val ticks (s ticks ∷ [])) ∷ [])) ((Steps 𝓛 mem run).pre (to-steps r))
   goes-steps r e start_is identity-is fits =
-      qed 𝓛 ((‵ (flft κy qy) ⊛ (‵ (flft κa qa) ⊛ (‵ (flft κr qr) ⊛ (‵ (flft κb qb) ⊛ (‵ (flft κo qo) ⊛ (‵ (flft κn qn) ⊛ (‵ (flft κd qd) ⊛ (‵ (flft κw qw) ⊛ ‵ ftrue)))))))) ∷ ‵ ((MutSlice (named 0) κy u8).own_val bytes (s bytes ∷ [])) ∷ ‵ ((MutSlice (named 1) κa u8).own_val array (s array ∷ [])) ∷ ‵ ((MutSlice (named 2) κr u8).own_val rows (s rows ∷ [])) ∷ ‵ ((MutSlice (named 4) κo u8).own_val output (s output ∷ [])) ∷ ‵ ((MutSlice (named 5) κn u8).own_val answers (s answers ∷ [])) ∷ ‵ ((MutSlice (named 6) κd u16).own_val done' (s done' ∷ [])) ∷ ‵ ((MutSlice (named 7) κw T.the_row).own_val wear (s wear ∷ [])) ∷ ‵ ((ShrSlice (named 3) κb u8).own_val input (s input ∷ [])) ∷ ‵ ((ShrSlice (named 3) κb u16).own_val lengths (s lengths ∷ [])) ∷ ‵ ((ShrSlice (named 3) κb u16).own_val ticks (s ticks ∷ [])) ∷ []) ∵ says ! (begun-begins bytes.now wp input.now lengths.now ticks.now array.now rows.now output.now answers.now done'.now wear.now r e) $ frame ! $ nothing ! $
+      qed 𝓛 ((‵ (flft κy qy) ⊛ (‵ (flft κa qa) ⊛ (‵ (flft κr qr) ⊛ (‵ (flft κb qb) ⊛ (‵ (flft κo qo) ⊛ (‵ (flft κn qn) ⊛ (‵ (flft κd qd) ⊛ (‵ (flft κw qw) ⊛ ‵ ftrue)))))))) ∷ ‵ ((MutSlice (named 0) κy u8).own_val bytes (s bytes ∷ [])) ∷ ‵ ((MutSlice (named 1) κa u8).own_val array (s array ∷ [])) ∷ ‵ ((MutSlice (named 2) κr u8).own_val rows (s rows ∷ [])) ∷ ‵ ((MutSlice (named 4) κo u8).own_val output (s output ∷ [])) ∷ ‵ ((MutSlice (named 5) κn u8).own_val answers (s answers ∷ [])) ∷ ‵ ((MutSlice (named 6) κd u16).own_val done' (s done' ∷ [])) ∷ ‵ ((MutSlice (named 7) κw T.the_row).own_val wear (s wear ∷ [])) ∷ ‵ ((ShrSlice (named 3) κb u8).own_val input (s input ∷ [])) ∷ ‵ ((ShrSlice (named 3) κb u16).own_val lengths (s lengths ∷ [])) ∷ ‵ ((ShrSlice (named 3) κb u16).own_val ticks (s ticks ∷ [])) ∷ []) ∵ says ! (begun_begins bytes.now wp input.now lengths.now ticks.now array.now rows.now output.now answers.now done'.now wear.now r e) $ frame ! $ nothing ! $
       move ! (7 ∷ 0 ∷ []) $
       fjoin ! $ owned ! usize (Is usize) (uint_Makes 𝓛 w64) r.steps _ (refl, fits) $ fjoin ! $
       move ! (6 ∷ 0 ∷ []) $
@@ -216,7 +216,7 @@ module _ {M : Type 1} {𝓤 : Ura M} (𝓛 : Logic 𝓤) (mem : Memory → SProp
       fjoin ! $
       owned ! Id.the_row (Is Id.the_row) ((LL.makes Id.the_type Id'.the_plain) 𝓛) r.identity _ identity-is $ fjoin ! $ owned ! Co.the_row (Is Co.the_row) ((LL.makes Co.the_type Co'.the_plain) 𝓛) r.start _ start_is $ fjoin ! $ done !
 
-  returns : (q : Counting) (v : List Val) (bs xs rs os ns ds : List ℕ) (ws : List Wear) → Is Co.the_row q v → Gives given.run q.number q.step xs rs os ns ds → bs ≡ scriptBytes (recordIn bytes.now) given.run bytes.now → ws ≡ given.wear
+  returns : (q : Counting) (v : List Val) (bs xs rs os ns ds : List ℕ) (ws : List Wear) → Is Co.the_row q v → Gives given.run q.number q.step xs rs os ns ds → bs ≡ script_bytes (record_in bytes.now) given.run bytes.now → ws ≡ given.wear
       → length bs ≡ length bytes.now → length xs ≡ length array.now → length rs ≡ length rows.now → length os ≡ length output.now → length ns ≡ length answers.now → length ds ≡ length done'.now → length ws ≡ length wear.now → ent 𝓤 (⋆ 𝓛 ((‵ (flft κy qy) ⊛ (‵ (flft κa qa) ⊛ (‵ (flft κr qr) ⊛ (‵ (flft κb qb) ⊛ (‵ (flft κo qo) ⊛ (‵ (flft κn qn) ⊛ (‵ (flft κd qd) ⊛ (‵ (flft κw qw) ⊛ ‵ ftrue)))))))) ∷ ‵ (finally u8 bytes.ghost_name bs) ∷ ‵ (finally u8 array.ghost_name xs) ∷ ‵ (finally u8 rows.ghost_name rs) ∷ ‵ (finally u8 output.ghost_name os) ∷ ‵ (finally u8 answers.ghost_name ns) ∷ ‵ (finally u16 done'.ghost_name ds) ∷ ‵ (finally T.the_row wear.ghost_name ws) ∷ ‵ ((ShrSlice (named 3) κb u8).own_val input (s input ∷ [])) ∷ ‵ ((ShrSlice (named 3) κb u16).own_val lengths (s lengths ∷ [])) ∷ ‵ ((ShrSlice (named 3) κb u16).own_val ticks (s ticks ∷ [])) ∷ [])) (Post (only (LL.vals Ra.the_type Ra'.the_laws (ran q))))
   returns q v bs xs rs os ns ds ws is g eb ew len-y len-a len-r len-o len-n len-d len-w =
       qed 𝓛 ((‵ (flft κy qy) ⊛ (‵ (flft κa qa) ⊛ (‵ (flft κr qr) ⊛ (‵ (flft κb qb) ⊛ (‵ (flft κo qo) ⊛ (‵ (flft κn qn) ⊛ (‵ (flft κd qd) ⊛ (‵ (flft κw qw) ⊛ ‵ ftrue)))))))) ∷ ‵ (finally u8 bytes.name bs) ∷ ‵ (finally u8 array.name xs) ∷ ‵ (finally u8 rows.name rs) ∷ ‵ (finally u8 output.name os) ∷ ‵ (finally u8 answers.name ns) ∷ ‵ (finally u16 done'.name ds) ∷ ‵ (finally T.the_row wear.name ws) ∷ ‵ ((ShrSlice (named 3) κb u8).own_val input (s input ∷ [])) ∷ ‵ ((ShrSlice (named 3) κb u16).own_val lengths (s lengths ∷ [])) ∷ ‵ ((ShrSlice (named 3) κb u16).own_val ticks (s ticks ∷ [])) ∷ []) ∵
@@ -243,7 +243,7 @@ module _ {M : Type 1} {𝓤 : Ura M} (𝓛 : Logic 𝓤) (mem : Memory → SProp
       fjoin ! $
       move ! (1 ∷ 0 ∷ []) $
       fjoin ! $
-      frame ! $ owned ! Ra.the_row (Is Ra.the_row) ((LL.makes Ra.the_type Ra'.the_plain) 𝓛) (ran q) _ (ran-is q v is) $ done !
+      frame ! $ owned ! Ra.the_row (Is Ra.the_row) ((LL.makes Ra.the_type Ra'.the_plain) 𝓛) (ran q) _ (ran_is q v is) $ done !
 
   module _ (𝓣 : Tables 𝓤 H) (known-begin : Triple 𝓤 (𝓣.C #script·begin) (Begin 𝓛 mem run)) (known-steps : Triple 𝓤 (𝓣.C #script·steps-wear) (Steps 𝓛 mem run)) (l₀ l₁ l₂ l₃ l₄ l₅ l₆ l₇ l₈ l₉ l₁₀ l₁₁ l₁₂ l₁₃ l₁₄ l₁₅ l₁₆ l₁₇ l₁₈ l₁₉ l₂₀ l₂₁ l₂₂ l₂₃ l₂₄ l₂₅ l₂₆ l₂₇ l₂₈ l₂₉ l₃₀ l₃₁ l₃₂ l₃₃ l₃₄ l₃₅ l₃₆ l₃₇ : ℕ) where
     abbrev C : Calls 𝓤 H
@@ -367,7 +367,7 @@ module _ {M : Type 1} {𝓤 : Ura M} (𝓛 : Logic 𝓤) (mem : Memory → SProp
         move ! (2 ∷ []) $
         lft_end ! tt $
         move ! (0 ∷ 5 ∷ []) $
-        use2 𝓛 (later (‵ ((MutSlice (named 0) κy u8).own_val bytes (s bytes ∷ [])) ⊛ ‵ (flft κy qy))) (comes-in u8 κy (ν ∷ []) qy bytes.ghost_name bytes.ref_ptr.0 bytes.ref_ptr.1 𝓛 (named 0) (named 0) bytes.now bytes-room) $ await ! tt $ split ! $
+        use2 𝓛 (later (‵ ((MutSlice (named 0) κy u8).own_val bytes (s bytes ∷ [])) ⊛ ‵ (flft κy qy))) (comes_in u8 κy (ν ∷ []) qy bytes.ghost_name bytes.ref_ptr.0 bytes.ref_ptr.1 𝓛 (named 0) (named 0) bytes.now bytes-room) $ await ! tt $ split ! $
         -- `steps_wear`, with copies of the three `&`
         assigns ! (addr ! (from ! (fld ! refl (hop ! (look_in ! 91 (sub ! 0 refl (whole !))) (stop !))))) (from ! (stop !)) (init ! 45 refl (tt, tt)) $
         assigns ! (agg ! (and_then ! (load ! (from ! (stop !)) (look ! 45 refl)) (and_then ! (load ! (from ! (fld ! refl (stop !))) (look_in ! 91 (sub ! 1 refl (whole !)))) (no_more !)))) (from ! (stop !)) (init ! 43 refl (tt, (tt, (record { fits = bytes-room.0 }, tt)))) $
@@ -402,9 +402,9 @@ module _ {M : Type 1} {𝓤 : Ura M} (𝓛 : Logic 𝓤) (mem : Memory → SProp
         calls_at ! fm (Steps 𝓛 mem run) known-steps (to-steps r) (and_then ! (load ! (from ! (fld ! refl (stop !))) (look_in ! 58 (sub ! 0 refl (whole !)))) (and_then ! (load ! (from ! (fld ! refl (stop !))) (look_in ! 58 (sub ! 1 refl (whole !)))) (and_then ! (load ! (from ! (stop !)) (look ! 32 refl)) (and_then ! (load ! (from ! (stop !)) (look ! 28 refl)) (and_then ! (load ! (from ! (stop !)) (look ! 24 refl)) (and_then ! (load ! (from ! (fld ! refl (stop !))) (look_in ! 58 (sub ! 2 refl (whole !)))) (and_then ! (load ! (from ! (stop !)) (look ! 72 refl)) (and_then ! (load ! (from ! (stop !)) (look ! 70 refl)) (and_then ! (load ! (from ! (stop !)) (look ! 68 refl)) (and_then ! (load ! (from ! (stop !)) (look ! 20 refl)) (and_then ! (load ! (from ! (stop !)) (look ! 16 refl)) (and_then ! (load ! (from ! (stop !)) (look ! 12 refl)) (and_then ! (load ! (from ! (fld ! refl (stop !))) (look_in ! 58 (sub ! 3 refl (whole !)))) (and_then ! (load ! (from ! (stop !)) (look ! 8 refl)) (no_more !))))))))))))))) (λ w₂.
         use1 𝓛 (later (some (λ (q : Counting). ((‵ (flft κy qy) ⊛ (‵ (flft κa qa) ⊛ (‵ (flft κr qr) ⊛ (‵ (flft κb qb) ⊛ (‵ (flft κo qo) ⊛ (‵ (flft κn qn) ⊛ (‵ (flft κd qd) ⊛ (‵ (flft κw qw) ⊛ ‵ ftrue)))))))) ⊛ ‵ ((Co.the_row).own_val q (w₂ ∷ []))) ⊛ raw (ensured 𝓛 steps.ended (steps.clauses 𝓛 mem run) (κy, (κa, (κr, (κb, (κo, (κn, (κd, (κw, tt)))))))) (sargs r) tt q)))) (id⊢ 𝓤 _) $ await ! tt $ pick ! (λ q. split ! $
         move ! (1 ∷ []) $
-        use1 𝓛 (some (λ (us : Unit {0} × (Unit {0} × (List ℕ × (List ℕ × (List ℕ × (Unit {0} × (Unit {0} × (Unit {0} × (Unit {0} × (List ℕ × (List ℕ × (List ℕ × (Unit {0} × (List Wear × Unit {0})))))))))))))). ‵ (lasts steps.ended (κy, (κa, (κr, (κb, (κo, (κn, (κd, (κw, tt)))))))) (sargs r) us) ⊛ (raw (fact 𝓤 (counted q us.1.1.0 us.1.1.1.0 us.1.1.1.1.0 us.1.1.1.1.1.1.1.1.1.0 us.1.1.1.1.1.1.1.1.1.1.0 us.1.1.1.1.1.1.1.1.1.1.1.0 ≡ afterSteps (script r) r.steps (first r))) ⊛ (raw (fact 𝓤 (us.1.1.0 ≡ bytesAfter r.steps bytes.now (afterSteps (script r) r.steps (first r)))) ⊛ raw (fact 𝓤 (us.1.1.1.1.1.1.1.1.1.1.1.1.1.0 ≡ wearSteps (script r) r.steps (first r) wear.now)))))) (id⊢ 𝓤 _) $ pick ! (λ us. split ! $
+        use1 𝓛 (some (λ (us : Unit {0} × (Unit {0} × (List ℕ × (List ℕ × (List ℕ × (Unit {0} × (Unit {0} × (Unit {0} × (Unit {0} × (List ℕ × (List ℕ × (List ℕ × (Unit {0} × (List Wear × Unit {0})))))))))))))). ‵ (lasts steps.ended (κy, (κa, (κr, (κb, (κo, (κn, (κd, (κw, tt)))))))) (sargs r) us) ⊛ (raw (fact 𝓤 (counted q us.1.1.0 us.1.1.1.0 us.1.1.1.1.0 us.1.1.1.1.1.1.1.1.1.0 us.1.1.1.1.1.1.1.1.1.1.0 us.1.1.1.1.1.1.1.1.1.1.1.0 ≡ after_steps (script r) r.steps (first r))) ⊛ (raw (fact 𝓤 (us.1.1.0 ≡ bytes_after r.steps bytes.now (after_steps (script r) r.steps (first r)))) ⊛ raw (fact 𝓤 (us.1.1.1.1.1.1.1.1.1.1.1.1.1.0 ≡ wear_steps (script r) r.steps (first r) wear.now)))))) (id⊢ 𝓤 _) $ pick ! (λ us. split ! $
         move ! (1 ∷ []) $
-        split ! $ heard ! (counted q us.1.1.0 us.1.1.1.0 us.1.1.1.1.0 us.1.1.1.1.1.1.1.1.1.0 us.1.1.1.1.1.1.1.1.1.1.0 us.1.1.1.1.1.1.1.1.1.1.1.0 ≡ afterSteps (script r) r.steps (first r)) (λ e₁. split ! $ heard ! (us.1.1.0 ≡ bytesAfter r.steps bytes.now (afterSteps (script r) r.steps (first r))) (λ e₂. heard ! (us.1.1.1.1.1.1.1.1.1.1.1.1.1.0 ≡ wearSteps (script r) r.steps (first r) wear.now) (λ e₃. fsplit ! $
+        split ! $ heard ! (counted q us.1.1.0 us.1.1.1.0 us.1.1.1.1.0 us.1.1.1.1.1.1.1.1.1.0 us.1.1.1.1.1.1.1.1.1.1.0 us.1.1.1.1.1.1.1.1.1.1.1.0 ≡ after_steps (script r) r.steps (first r)) (λ e₁. split ! $ heard ! (us.1.1.0 ≡ bytes_after r.steps bytes.now (after_steps (script r) r.steps (first r))) (λ e₂. heard ! (us.1.1.1.1.1.1.1.1.1.1.1.1.1.0 ≡ wear_steps (script r) r.steps (first r) wear.now) (λ e₃. fsplit ! $
         move ! (1 ∷ []) $
         fsplit ! $
         move ! (1 ∷ []) $
@@ -450,12 +450,12 @@ module _ {M : Type 1} {𝓤 : Ura M} (𝓛 : Logic 𝓤) (mem : Memory → SProp
         move ! (1 ∷ []) $
         peeks ! Co.the_row (Is Co.the_row) (shows 𝓛 Co.the_row) q (w₂ ∷ []) (λ is₂. land ! (from ! (stop !)) (init ! 72 refl ((LL.lawful Co.the_type Co'.the_laws 𝓛).typed q _ is₂).0) $
         rewrite ! 72 (λ (u : Val). ‵ (fat full_share Co'.mir l₁₃ 0 u)) (ap only (LL.tells Co.the_type Co'.the_laws q _ is₂)) refl $
-        assigns ! (agg ! (and_then ! (load ! (from ! (fld ! refl (stop !))) (look_in ! 72 (sub ! 0 refl (whole !)))) (and_then ! (load ! (from ! (fld ! refl (stop !))) (look_in ! 72 (sub ! 1 refl (whole !)))) (no_more !)))) (from ! (stop !)) (init ! 98 refl ((LL.lawful Ra.the_type Ra'.the_laws 𝓛).typed (ran q) _ (ran-is q _ is₂)).0) $
+        assigns ! (agg ! (and_then ! (load ! (from ! (fld ! refl (stop !))) (look_in ! 72 (sub ! 0 refl (whole !)))) (and_then ! (load ! (from ! (fld ! refl (stop !))) (look_in ! 72 (sub ! 1 refl (whole !)))) (no_more !)))) (from ! (stop !)) (init ! 98 refl ((LL.lawful Ra.the_type Ra'.the_laws 𝓛).typed (ran q) _ (ran_is q _ is₂)).0) $
         gives_back ! (look ! 98 refl) $
         forget ! 24 refl $ forget ! 26 refl $ forget ! 28 refl $ forget ! 30 refl $ forget ! 32 refl $ forget ! 34 refl $ forget ! 36 refl $ forget ! 38 refl $ forget ! 40 refl $ forget ! 42 refl $ forget ! 44 refl $ forget ! 46 refl $ forget ! 48 refl $ forget ! 50 refl $ forget ! 52 refl $ forget ! 54 refl $ forget ! 56 refl $ forget ! 58 refl $ forget ! 60 refl $ forget ! 62 refl $ forget ! 64 refl $ forget ! 66 refl $ forget ! 68 refl $ forget ! 70 refl $ forget ! 72 refl $ forget ! 74 refl $ forget ! 76 refl $ forget ! 78 refl $ forget ! 80 refl $ forget ! 82 refl $ forget ! 84 refl $ forget ! 86 refl $ forget ! 88 refl $ forget ! 90 refl $ forget ! 92 refl $ forget ! 94 refl $ forget ! 96 refl $ forget ! 98 refl $
         move ! (98 ∷ 99 ∷ []) $ free1 ! $ move ! (96 ∷ 97 ∷ []) $ free1 ! $ move ! (94 ∷ 95 ∷ []) $ free1 ! $ move ! (92 ∷ 93 ∷ []) $ free1 ! $ move ! (90 ∷ 91 ∷ []) $ free1 ! $ move ! (88 ∷ 89 ∷ []) $ free1 ! $ move ! (86 ∷ 87 ∷ []) $ free1 ! $ move ! (84 ∷ 85 ∷ []) $ free1 ! $ move ! (82 ∷ 83 ∷ []) $ free1 ! $ move ! (80 ∷ 81 ∷ []) $ free1 ! $ move ! (78 ∷ 79 ∷ []) $ free1 ! $ move ! (76 ∷ 77 ∷ []) $ free1 ! $ move ! (74 ∷ 75 ∷ []) $ free1 ! $ move ! (72 ∷ 73 ∷ []) $ free1 ! $ move ! (70 ∷ 71 ∷ []) $ free1 ! $ move ! (68 ∷ 69 ∷ []) $ free1 ! $ move ! (66 ∷ 67 ∷ []) $ free1 ! $ move ! (64 ∷ 65 ∷ []) $ free1 ! $ move ! (62 ∷ 63 ∷ []) $ free1 ! $ move ! (60 ∷ 61 ∷ []) $ free1 ! $ move ! (58 ∷ 59 ∷ []) $ free1 ! $ move ! (56 ∷ 57 ∷ []) $ free1 ! $ move ! (54 ∷ 55 ∷ []) $ free1 ! $ move ! (52 ∷ 53 ∷ []) $ free1 ! $ move ! (50 ∷ 51 ∷ []) $ free1 ! $ move ! (48 ∷ 49 ∷ []) $ free1 ! $ move ! (46 ∷ 47 ∷ []) $ free1 ! $ move ! (44 ∷ 45 ∷ []) $ free1 ! $ move ! (42 ∷ 43 ∷ []) $ free1 ! $ move ! (40 ∷ 41 ∷ []) $ free1 ! $ move ! (38 ∷ 39 ∷ []) $ free1 ! $ move ! (36 ∷ 37 ∷ []) $ free1 ! $ move ! (34 ∷ 35 ∷ []) $ free1 ! $ move ! (32 ∷ 33 ∷ []) $ free1 ! $ move ! (30 ∷ 31 ∷ []) $ free1 ! $ move ! (28 ∷ 29 ∷ []) $ free1 ! $ move ! (26 ∷ 27 ∷ []) $ free1 ! $ move ! (24 ∷ 25 ∷ []) $ free1 ! $ free0 ! $
         keep ! (1 ∷ 14 ∷ 13 ∷ 12 ∷ 7 ∷ 6 ∷ 5 ∷ 2 ∷ 19 ∷ 18 ∷ 17 ∷ []) $
-        by ! (returns q (w₂ ∷ []) us.1.1.0 us.1.1.1.0 us.1.1.1.1.0 us.1.1.1.1.1.1.1.1.1.0 us.1.1.1.1.1.1.1.1.1.1.0 us.1.1.1.1.1.1.1.1.1.1.1.0 us.1.1.1.1.1.1.1.1.1.1.1.1.1.0 is₂ (gives _ _ (ends-run bytes.now wp input.now lengths.now ticks.now array.now rows.now output.now answers.now done'.now wear.now r e _ e₁)) (ends-bytes bytes.now wp input.now lengths.now ticks.now array.now rows.now output.now answers.now done'.now wear.now r e _ e₂) (ends-wear bytes.now wp input.now lengths.now ticks.now array.now rows.now output.now answers.now done'.now wear.now r e _ e₃) len-y len-a len-r len-o len-n len-d len-w)))))))))))))))))))))
+        by ! (returns q (w₂ ∷ []) us.1.1.0 us.1.1.1.0 us.1.1.1.1.0 us.1.1.1.1.1.1.1.1.1.0 us.1.1.1.1.1.1.1.1.1.1.0 us.1.1.1.1.1.1.1.1.1.1.1.0 us.1.1.1.1.1.1.1.1.1.1.1.1.1.0 is₂ (gives _ _ (ends_run bytes.now wp input.now lengths.now ticks.now array.now rows.now output.now answers.now done'.now wear.now r e _ e₁)) (ends_bytes bytes.now wp input.now lengths.now ticks.now array.now rows.now output.now answers.now done'.now wear.now r e _ e₂) (ends_wear bytes.now wp input.now lengths.now ticks.now array.now rows.now output.now answers.now done'.now wear.now r e _ e₃) len-y len-a len-r len-o len-n len-d len-w)))))))))))))))))))))
 
     -- the parameters are passed
     passed : Sq 𝓛 (‵ (froom (slice_ty (wref erased)) l₃₇ 0) ∷ ‵ (fdies (slice_ty (wref erased)) l₃₇) ∷ ‵ (froom (wref erased) l₃₆ 0) ∷ ‵ (fdies (wref erased) l₃₆) ∷ ‵ (froom (slice_ty (eref w16)) l₃₅ 0) ∷ ‵ (fdies (slice_ty (eref w16)) l₃₅) ∷ ‵ (froom (eref w16) l₃₄ 0) ∷ ‵ (fdies (eref w16) l₃₄) ∷ ‵ (froom (slice_ty (eref w8)) l₃₃ 0) ∷ ‵ (fdies (slice_ty (eref w8)) l₃₃) ∷ ‵ (froom (eref w8) l₃₂ 0) ∷ ‵ (fdies (eref w8) l₃₂) ∷ ‵ (froom (slice_ty (eref w8)) l₃₁ 0) ∷ ‵ (fdies (slice_ty (eref w8)) l₃₁) ∷ ‵ (froom (eref w8) l₃₀ 0) ∷ ‵ (fdies (eref w8) l₃₀) ∷ ‵ (froom (slice_ty (eref w8)) l₂₉ 0) ∷ ‵ (fdies (slice_ty (eref w8)) l₂₉) ∷ ‵ (froom (eref w8) l₂₈ 0) ∷ ‵ (fdies (eref w8) l₂₈) ∷ ‵ (froom (slice_ty (eref w8)) l₂₇ 0) ∷ ‵ (fdies (slice_ty (eref w8)) l₂₇) ∷ ‵ (froom (eref w8) l₂₆ 0) ∷ ‵ (fdies (eref w8) l₂₆) ∷ ‵ (froom (slice_ty (eref w8)) l₂₅ 0) ∷ ‵ (fdies (slice_ty (eref w8)) l₂₅) ∷ ‵ (froom (eref w8) l₂₄ 0) ∷ ‵ (fdies (eref w8) l₂₄) ∷ ‵ (froom word l₂₃ 0) ∷ ‵ (fdies word l₂₃) ∷ ‵ (froom word l₂₂ 0) ∷ ‵ (fdies word l₂₂) ∷ ‵ (froom word l₂₁ 0) ∷ ‵ (fdies word l₂₁) ∷ ‵ (froom word l₂₀ 0) ∷ ‵ (fdies word l₂₀) ∷ ‵ (froom word l₁₉ 0) ∷ ‵ (fdies word l₁₉) ∷ ‵ (froom word l₁₈ 0) ∷ ‵ (fdies word l₁₈) ∷ ‵ (froom word l₁₇ 0) ∷ ‵ (fdies word l₁₇) ∷ ‵ (froom word l₁₆ 0) ∷ ‵ (fdies word l₁₆) ∷ ‵ (froom (slice_ty (ty_ref erased imm (ty_int w8))) l₁₅ 0) ∷ ‵ (fdies (slice_ty (ty_ref erased imm (ty_int w8))) l₁₅) ∷ ‵ (froom (ty_ref erased imm (ty_int w8)) l₁₄ 0) ∷ ‵ (fdies (ty_ref erased imm (ty_int w8)) l₁₄) ∷ ‵ (froom Co'.mir l₁₃ 0) ∷ ‵ (fdies Co'.mir l₁₃) ∷ ‵ (froom Be'.mir l₁₂ 0) ∷ ‵ (fdies Be'.mir l₁₂) ∷ ‵ (froom (slice_ty (wref (named 7))) l₁₁ 0) ∷ ‵ (fdies (slice_ty (wref (named 7))) l₁₁) ∷ ‵ (froom (slice_ty (href 6)) l₁₀ 0) ∷ ‵ (fdies (slice_ty (href 6)) l₁₀) ∷ ‵ (froom (slice_ty (bref 5)) l₉ 0) ∷ ‵ (fdies (slice_ty (bref 5)) l₉) ∷ ‵ (froom (slice_ty (bref 4)) l₈ 0) ∷ ‵ (fdies (slice_ty (bref 4)) l₈) ∷ ‵ (froom (slice_ty (sref w16)) l₇ 0) ∷ ‵ (fdies (slice_ty (sref w16)) l₇) ∷ ‵ (froom (slice_ty (sref w16)) l₆ 0) ∷ ‵ (fdies (slice_ty (sref w16)) l₆) ∷ ‵ (froom (slice_ty (sref w8)) l₅ 0) ∷ ‵ (fdies (slice_ty (sref w8)) l₅) ∷ ‵ (froom word l₄ 0) ∷ ‵ (fdies word l₄) ∷ ‵ (froom (slice_ty (bref 2)) l₃ 0) ∷ ‵ (fdies (slice_ty (bref 2)) l₃) ∷ ‵ (froom (slice_ty (bref 1)) l₂ 0) ∷ ‵ (fdies (slice_ty (bref 1)) l₂) ∷ ‵ (froom (slice_ty (bref 0)) l₁ 0) ∷ ‵ (fdies (slice_ty (bref 0)) l₁) ∷ ‵ (froom Ra'.mir l₀ 0) ∷ ‵ (fdies Ra'.mir l₀) ∷ (‵ (flft κy qy) ⊛ (‵ (flft κa qa) ⊛ (‵ (flft κr qr) ⊛ (‵ (flft κb qb) ⊛ (‵ (flft κo qo) ⊛ (‵ (flft κn qn) ⊛ (‵ (flft κd qd) ⊛ (‵ (flft κw qw) ⊛ ‵ ftrue)))))))) ∷ ‵ (owns (MutSlice (named 0) κy u8 ∷ MutSlice (named 1) κa u8 ∷ MutSlice (named 2) κr u8 ∷ u64 ∷ ShrSlice (named 3) κb u8 ∷ ShrSlice (named 3) κb u16 ∷ ShrSlice (named 3) κb u16 ∷ MutSlice (named 4) κo u8 ∷ MutSlice (named 5) κn u8 ∷ MutSlice (named 6) κd u16 ∷ MutSlice (named 7) κw T.the_row ∷ []) a at) ∷ []) (params' En (s bytes ∷ s array ∷ s rows ∷ vint w64 wp ∷ s input ∷ s lengths ∷ s ticks ∷ s output ∷ s answers ∷ s done' ∷ s wear ∷ []) (runs C Λ En mir'.t-1 (at_ret En Post)))
@@ -499,9 +499,9 @@ module _ {M : Type 1} {𝓤 : Ura M} (𝓛 : Logic 𝓤) (mem : Memory → SProp
   run-wear-meets : (𝓣 : Tables 𝓤 H) → Triple 𝓤 (𝓣.C #script·begin) (Begin 𝓛 mem run) → Triple 𝓤 (𝓣.C #script·steps-wear) (Steps 𝓛 mem run) → Meets 𝓛 f.signature (WpFn 𝓤 H 𝓣.C 𝓣.Λ code.function) (f.spec 𝓛 mem run)
   run-wear-meets 𝓣 known-begin known-steps = walk_Meets 𝓛 f.ended stayed goes (f.clauses 𝓛 mem run) (WpFn 𝓤 H 𝓣.C 𝓣.Λ code.function) (WpFn-mono 𝓤 H 𝓛.laws 𝓣 code.function) (run-wear-walks 𝓣 known-begin known-steps)
 
-pub run-wear-spec : {M : Type 1} → stated.statement M
+pub run_wear_spec : {M : Type 1} → stated.statement M
 unfolding code.routine tables_of
-run-wear-spec 𝓤 𝓛 𝓜 𝓡 =
+run_wear_spec 𝓤 𝓛 𝓜 𝓡 =
     entered 𝓤 𝓛.H (triple_of 𝓛 f.signature (f.spec 𝓛 𝓜.mem 𝓡.run))
     (tables 𝓤 𝓛.H 𝓜 𝓡 code.env).C (tables 𝓤 𝓛.H 𝓜 𝓡 code.env).Λ #script·run-wear code.function (code.unfolded 𝓤 𝓛.H 𝓜 𝓡)
     (run-wear-meets 𝓛 𝓜.mem 𝓡.run (tables_of 𝓤 𝓛.H 𝓜 (tables 𝓤 𝓛.H 𝓜 𝓡 code.env))

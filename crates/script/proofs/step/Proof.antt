@@ -1,6 +1,6 @@
 -- `script::step` meets its contract: a transaction that stops the script ends it, none run where none are asked, and else the ticks are run.
 use mathlib.Core.Path.{sym, ◌∙◌}
-use Rattle.script.proofs.OneStep.{sent-ready, sent-identity, stopped-made, stopped-marks, stopped-wears, ran-made, ran-marks, ran-wears, ran-ready, ran-identity, ran-done, none_made, none-marks, none-wears}
+use Rattle.script.proofs.OneStep.{sent_ready, sent_identity, stopped_made, stopped_marks, stopped_wears, ran_made, ran_marks, ran_wears, ran_ready, ran_identity, ran_done, none_made, none_marks, none_wears}
 use borrow.Author.Rules.{rules}
 use native.Mathlib.Omega.{arith}
 use Rattle.script.proofs.step.Statement.{statement}
@@ -40,7 +40,7 @@ returns c = let s = c.before.before.before.before.before.before.before.before.be
     let f = c.before.before.before.before.before.before.before.before.before.before.before.before.phase-again in
     let u = c.before.before.before.before.before.before.before.before.transact-part in
     let written = c.before.before.before.before.write-change.ensures in
-    (stopped-made a.bytes.now a.array.now a.rows.now s.requires.0 p.result f.result p.ensures f.ensures a.identity s.requires.1 a.wp a.input.now a.ticks a.output.now u.result u.ensures.0 _ _ written u.ensures.1 _ c.before.stopping.ensures c.if1.true, ((sent-ready a.bytes.now a.array.now a.rows.now s.requires.0 p.result f.result p.ensures f.ensures a.identity s.requires.1 a.wp a.input.now a.ticks a.output.now u.result u.ensures.0 _ _ written u.ensures.1, sent-identity a.bytes.now a.array.now a.rows.now s.requires.0 p.result f.result p.ensures f.ensures a.identity s.requires.1 a.wp a.input.now a.ticks a.output.now u.result u.ensures.0 _ _ written u.ensures.1, omega arith), (stopped-marks a.bytes.now a.array.now a.rows.now s.requires.0 p.result f.result p.ensures f.ensures a.identity s.requires.1 a.wp a.input.now a.ticks a.output.now u.result u.ensures.0 _ _ written u.ensures.1 _ c.before.stopping.ensures c.if1.true, stopped-wears a.bytes.now a.array.now a.rows.now s.requires.0 p.result f.result p.ensures f.ensures a.identity s.requires.1 a.wp a.input.now a.ticks a.output.now u.result u.ensures.0 _ _ written u.ensures.1 _ c.before.stopping.ensures c.if1.true)))
+    (stopped_made a.bytes.now a.array.now a.rows.now s.requires.0 p.result f.result p.ensures f.ensures a.identity s.requires.1 a.wp a.input.now a.ticks a.output.now u.result u.ensures.0 _ _ written u.ensures.1 _ c.before.stopping.ensures c.if1.true, ((sent_ready a.bytes.now a.array.now a.rows.now s.requires.0 p.result f.result p.ensures f.ensures a.identity s.requires.1 a.wp a.input.now a.ticks a.output.now u.result u.ensures.0 _ _ written u.ensures.1, sent_identity a.bytes.now a.array.now a.rows.now s.requires.0 p.result f.result p.ensures f.ensures a.identity s.requires.1 a.wp a.input.now a.ticks a.output.now u.result u.ensures.0 _ _ written u.ensures.1, omega arith), (stopped_marks a.bytes.now a.array.now a.rows.now s.requires.0 p.result f.result p.ensures f.ensures a.identity s.requires.1 a.wp a.input.now a.ticks a.output.now u.result u.ensures.0 _ _ written u.ensures.1 _ c.before.stopping.ensures c.if1.true, stopped_wears a.bytes.now a.array.now a.rows.now s.requires.0 p.result f.result p.ensures f.ensures a.identity s.requires.1 a.wp a.input.now a.ticks a.output.now u.result u.ensures.0 _ _ written u.ensures.1 _ c.before.stopping.ensures c.if1.true)))
 
 same-length-5 : tie.Need-same-length-5
 same-length-5 c = search rules
@@ -62,7 +62,7 @@ returns-2 c = let s = c.before.before.before.before.before.before.before.before.
     let u = c.before.before.before.before.before.before.before.before.before.transact-part in
     let written = c.before.before.before.before.before.write-change.ensures in
     let go = sym c.before.before.stopping.ensures ∙ c.before.if1.false in
-    (none_made a.bytes.now a.array.now a.rows.now s.requires.0 p.result f.result p.ensures f.ensures a.identity s.requires.1 a.wp a.input.now a.ticks a.output.now u.result u.ensures.0 _ _ written u.ensures.1 go c.if2.true, ((sent-ready a.bytes.now a.array.now a.rows.now s.requires.0 p.result f.result p.ensures f.ensures a.identity s.requires.1 a.wp a.input.now a.ticks a.output.now u.result u.ensures.0 _ _ written u.ensures.1, sent-identity a.bytes.now a.array.now a.rows.now s.requires.0 p.result f.result p.ensures f.ensures a.identity s.requires.1 a.wp a.input.now a.ticks a.output.now u.result u.ensures.0 _ _ written u.ensures.1, omega arith), (none-marks a.bytes.now a.array.now a.rows.now s.requires.0 p.result f.result p.ensures f.ensures a.identity s.requires.1 a.wp a.input.now a.ticks a.output.now u.result u.ensures.0 _ _ written u.ensures.1 go c.if2.true, none-wears a.bytes.now a.array.now a.rows.now s.requires.0 p.result f.result p.ensures f.ensures a.identity s.requires.1 a.wp a.input.now a.ticks a.output.now u.result u.ensures.0 _ _ written u.ensures.1 go c.if2.true)))
+    (none_made a.bytes.now a.array.now a.rows.now s.requires.0 p.result f.result p.ensures f.ensures a.identity s.requires.1 a.wp a.input.now a.ticks a.output.now u.result u.ensures.0 _ _ written u.ensures.1 go c.if2.true, ((sent_ready a.bytes.now a.array.now a.rows.now s.requires.0 p.result f.result p.ensures f.ensures a.identity s.requires.1 a.wp a.input.now a.ticks a.output.now u.result u.ensures.0 _ _ written u.ensures.1, sent_identity a.bytes.now a.array.now a.rows.now s.requires.0 p.result f.result p.ensures f.ensures a.identity s.requires.1 a.wp a.input.now a.ticks a.output.now u.result u.ensures.0 _ _ written u.ensures.1, omega arith), (none_marks a.bytes.now a.array.now a.rows.now s.requires.0 p.result f.result p.ensures f.ensures a.identity s.requires.1 a.wp a.input.now a.ticks a.output.now u.result u.ensures.0 _ _ written u.ensures.1 go c.if2.true, none_wears a.bytes.now a.array.now a.rows.now s.requires.0 p.result f.result p.ensures f.ensures a.identity s.requires.1 a.wp a.input.now a.ticks a.output.now u.result u.ensures.0 _ _ written u.ensures.1 go c.if2.true)))
 
 wait-requires : tie.Need-wait-requires
 wait-requires c κs = let s = c.before.before.before.before.before.before.before.before.before.before.before.before.before.before.before.before.before.before.before.before.before.before.before.before.before in
@@ -71,7 +71,7 @@ wait-requires c κs = let s = c.before.before.before.before.before.before.before
     let f = c.before.before.before.before.before.before.before.before.before.before.before.before.before.before.before.before.phase-again in
     let u = c.before.before.before.before.before.before.before.before.before.before.before.before.transact-part in
     let written = c.before.before.before.before.before.before.before.before.write-change.ensures in
-    sent-ready a.bytes.now a.array.now a.rows.now s.requires.0 p.result f.result p.ensures f.ensures a.identity s.requires.1 a.wp a.input.now a.ticks a.output.now u.result u.ensures.0 _ _ written u.ensures.1
+    sent_ready a.bytes.now a.array.now a.rows.now s.requires.0 p.result f.result p.ensures f.ensures a.identity s.requires.1 a.wp a.input.now a.ticks a.output.now u.result u.ensures.0 _ _ written u.ensures.1
 
 same-length-9 : tie.Need-same-length-9
 same-length-9 c = search rules
@@ -94,7 +94,7 @@ returns-3 c = let s = c.before.before.before.before.before.before.before.before.
     let written = c.before.before.before.before.before.before.before.before.before.before.before.before.before.before.before.before.write-change.ensures in
     let go = sym c.before.before.before.before.before.before.before.before.before.before.before.before.before.stopping.ensures ∙ c.before.before.before.before.before.before.before.before.before.before.before.before.if1.false in
     let w = c.before.before.before.before.before.before.before.wait in
-    (ran-made a.bytes.now a.array.now a.rows.now s.requires.0 p.result f.result p.ensures f.ensures a.identity s.requires.1 a.wp a.input.now a.ticks a.output.now u.result u.ensures.0 _ _ written u.ensures.1 go w.result _ _ _ w.ensures.0 w.ensures.1.0 w.ensures.1.1.0 w.ensures.1.1.1, ((ran-ready a.bytes.now a.array.now a.rows.now s.requires.0 p.result f.result p.ensures f.ensures a.identity s.requires.1 a.wp a.input.now a.ticks a.output.now u.result u.ensures.0 _ _ written u.ensures.1 go w.result _ _ _ w.ensures.0 w.ensures.1.0 w.ensures.1.1.0 w.ensures.1.1.1, ran-identity a.bytes.now a.array.now a.rows.now s.requires.0 p.result f.result p.ensures f.ensures a.identity s.requires.1 a.wp a.input.now a.ticks a.output.now u.result u.ensures.0 _ _ written u.ensures.1 go w.result _ _ _ w.ensures.0 w.ensures.1.0 w.ensures.1.1.0 w.ensures.1.1.1, ran-done a.bytes.now a.array.now a.rows.now s.requires.0 p.result f.result p.ensures f.ensures a.identity s.requires.1 a.wp a.input.now a.ticks a.output.now u.result u.ensures.0 _ _ written u.ensures.1 go w.result _ _ _ w.ensures.0 w.ensures.1.0 w.ensures.1.1.0 w.ensures.1.1.1), (ran-marks a.bytes.now a.array.now a.rows.now s.requires.0 p.result f.result p.ensures f.ensures a.identity s.requires.1 a.wp a.input.now a.ticks a.output.now u.result u.ensures.0 _ _ written u.ensures.1 go w.result _ _ _ w.ensures.0 w.ensures.1.0 w.ensures.1.1.0 w.ensures.1.1.1, ran-wears a.bytes.now a.array.now a.rows.now s.requires.0 p.result f.result p.ensures f.ensures a.identity s.requires.1 a.wp a.input.now a.ticks a.output.now u.result u.ensures.0 _ _ written u.ensures.1 go w.result _ _ _ w.ensures.0 w.ensures.1.0 w.ensures.1.1.0 w.ensures.1.1.1)))
+    (ran_made a.bytes.now a.array.now a.rows.now s.requires.0 p.result f.result p.ensures f.ensures a.identity s.requires.1 a.wp a.input.now a.ticks a.output.now u.result u.ensures.0 _ _ written u.ensures.1 go w.result _ _ _ w.ensures.0 w.ensures.1.0 w.ensures.1.1.0 w.ensures.1.1.1, ((ran_ready a.bytes.now a.array.now a.rows.now s.requires.0 p.result f.result p.ensures f.ensures a.identity s.requires.1 a.wp a.input.now a.ticks a.output.now u.result u.ensures.0 _ _ written u.ensures.1 go w.result _ _ _ w.ensures.0 w.ensures.1.0 w.ensures.1.1.0 w.ensures.1.1.1, ran_identity a.bytes.now a.array.now a.rows.now s.requires.0 p.result f.result p.ensures f.ensures a.identity s.requires.1 a.wp a.input.now a.ticks a.output.now u.result u.ensures.0 _ _ written u.ensures.1 go w.result _ _ _ w.ensures.0 w.ensures.1.0 w.ensures.1.1.0 w.ensures.1.1.1, ran_done a.bytes.now a.array.now a.rows.now s.requires.0 p.result f.result p.ensures f.ensures a.identity s.requires.1 a.wp a.input.now a.ticks a.output.now u.result u.ensures.0 _ _ written u.ensures.1 go w.result _ _ _ w.ensures.0 w.ensures.1.0 w.ensures.1.1.0 w.ensures.1.1.1), (ran_marks a.bytes.now a.array.now a.rows.now s.requires.0 p.result f.result p.ensures f.ensures a.identity s.requires.1 a.wp a.input.now a.ticks a.output.now u.result u.ensures.0 _ _ written u.ensures.1 go w.result _ _ _ w.ensures.0 w.ensures.1.0 w.ensures.1.1.0 w.ensures.1.1.1, ran_wears a.bytes.now a.array.now a.rows.now s.requires.0 p.result f.result p.ensures f.ensures a.identity s.requires.1 a.wp a.input.now a.ticks a.output.now u.result u.ensures.0 _ _ written u.ensures.1 go w.result _ _ _ w.ensures.0 w.ensures.1.0 w.ensures.1.1.0 w.ensures.1.1.1)))
 
 pub step_spec : {M : Type 1} → statement M
 step_spec =

@@ -13,5 +13,5 @@ returns c = simp (eq-eqb _ _ c.if1.true)
 returns-2 : tie.Need-returns-2
 returns-2 c = simp (ne_eqb _ _ c.if1.false)
 
-pub step-after-spec : {M : Type 1} → statement M
-step-after-spec = tie.close (tie.spec add-result returns returns-2)
+pub step_after_spec : {M : Type 1} → statement M
+step_after_spec = tie.close (tie.spec add-result returns returns-2)

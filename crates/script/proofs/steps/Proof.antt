@@ -3,9 +3,9 @@ use mathlib.Core.Path.{refl, sym, ap, ◌∙◌}
 use Prim.Native.Nat.{◌-◌}
 use lib.ListN.{length}
 use Rattle.paper.specs.Map.{MapScripted}
-use Rattle.record_bytes.proofs.Back.{held-length}
+use Rattle.record_bytes.proofs.Back.{held_length}
 use Rattle.script.specs.Steps.{world}
-use Rattle.script.proofs.OneByOne.{Along, fit-along, all_made, stopped-at, one_more}
+use Rattle.script.proofs.OneByOne.{Along, fit_along, all_made, stopped_at, one_more}
 use borrow.Author.Rules.{rules}
 use native.Mathlib.Omega.{arith}
 use Rattle.script.proofs.steps.Statement.{statement}
@@ -23,13 +23,13 @@ loop-holds : tie.Need-loop-init invariant-loop decreases-loop
 loop-holds c = record { told = refl; within = omega arith; going = c.before.before.before.before.before.before.before.before.before.before.requires.1.0.1; at = c.before.before.before.before.before.before.before.before.before.before.requires.1.0.0; ready = c.before.before.before.before.before.before.before.before.before.before.requires.1.1.0; identity = c.before.before.before.before.before.before.before.before.before.before.requires.1.1.1; array = refl; rows = refl; output = refl; answers = refl; done = refl; map = refl }
 
 turn-requires : tie.Need-turn-requires invariant-loop decreases-loop
-turn-requires c κs = let l = c.before.before.before.before.before.before.before.loop.invariant in (fit-along _ _ _ _ _ _ _ _ _ _ _ _ l c.before.before.before.before.before.before.before.before.before.before.before.before.before.before.before.before.before.before.requires.0, ((c.before.before.before.before.before.before.loop-test.true, l.at), (l.ready, l.identity)))
+turn-requires c κs = let l = c.before.before.before.before.before.before.before.loop.invariant in (fit_along _ _ _ _ _ _ _ _ _ _ _ _ l c.before.before.before.before.before.before.before.before.before.before.before.before.before.before.before.before.before.before.requires.0, ((c.before.before.before.before.before.before.loop-test.true, l.at), (l.ready, l.identity)))
 
 keep-requires : tie.Need-keep-requires invariant-loop decreases-loop
 keep-requires c κs = search rules
 
 same_length : tie.Need-same-length invariant-loop decreases-loop
-same_length c = held-length _ c.before.before.before.before.before.before.before.before.before.before.before.before.before.before.before.before.before.before.before.before.before.turn.ensures.1.1.0.0.ok ∙ sym (held-length _ c.before.before.before.before.before.before.before.before.before.before.before.before.before.before.before.before.before.before.before.before.before.before.before.before.before.before.before.before.before.before.before.before.before.before.before.before.before.before.before.before.requires.1.1.0.ok)
+same_length c = held_length _ c.before.before.before.before.before.before.before.before.before.before.before.before.before.before.before.before.before.before.before.before.before.turn.ensures.1.1.0.0.ok ∙ sym (held_length _ c.before.before.before.before.before.before.before.before.before.before.before.before.before.before.before.before.before.before.before.before.before.before.before.before.before.before.before.before.before.before.before.before.before.before.before.before.before.before.before.before.requires.1.1.0.ok)
 
 same-length-2 : tie.Need-same-length-2 invariant-loop decreases-loop
 same-length-2 c = c.before.before.before.before.before.before.before.before.before.before.before.before.before.before.before.before.before.before.before.before.before.turn.auto.1.1.1.0 ∙ c.before.before.before.before.before.before.before.before.before.before.before.before.before.before.before.before.before.before.before.before.before.before.before.before.before.before.before.before.before.loop.invariant.array
@@ -51,7 +51,7 @@ same-length-7 c = c.before.before.before.before.before.keep.auto.1.1.0 ∙ c.bef
 
 returns : tie.Need-returns invariant-loop decreases-loop
 returns c = let t = c.before.before.before.before.before.before.before.before.before.before.before.before.before.before.before.before.before.before.before.before.before.turn in
-    let made = stopped-at _ _ _ _ _ _ _ _ _ _ _ _ c.before.before.before.before.before.before.before.before.before.before.before.before.before.before.before.before.before.before.before.before.before.before.before.before.before.before.before.before.before.loop.invariant c.before.before.before.before.before.before.before.before.before.before.before.before.before.before.before.before.before.before.before.before.before.before.before.before.before.before.before.before.loop-test.true t.result.state _ _ _ _ _ _ _ t.ensures.0 (c.before.before.before.before.before.keep.ensures ∙ t.ensures.1.1.1.0 _) c.if1.true in
+    let made = stopped_at _ _ _ _ _ _ _ _ _ _ _ _ c.before.before.before.before.before.before.before.before.before.before.before.before.before.before.before.before.before.before.before.before.before.before.before.before.before.before.before.before.before.loop.invariant c.before.before.before.before.before.before.before.before.before.before.before.before.before.before.before.before.before.before.before.before.before.before.before.before.before.before.before.before.loop-test.true t.result.state _ _ _ _ _ _ _ t.ensures.0 (c.before.before.before.before.before.keep.ensures ∙ t.ensures.1.1.1.0 _) c.if1.true in
     (ap (λ (v : MapScripted). v.run) made, (t.ensures.1.1.0.0.ok, ap (λ (v : MapScripted). v.map) made))
 
 add-k : tie.Need-overflow-add-k invariant-loop decreases-loop
@@ -65,7 +65,7 @@ loop-again c = let t = c.before.before.before.before.before.before.before.before
     one_more _ _ _ _ _ _ _ _ _ _ _ _ c.before.before.before.before.before.before.before.before.before.before.before.before.before.before.before.before.before.before.before.before.before.before.before.before.before.before.before.before.before.loop.invariant c.before.before.before.before.before.before.before.before.before.before.before.before.before.before.before.before.before.before.before.before.before.before.before.before.before.before.before.before.loop-test.true _ _ _ _ _ _ _ _ t.ensures.0 (c.before.before.before.before.before.keep.ensures ∙ t.ensures.1.1.1.0 _) c.if1.false t.ensures.1.0 t.ensures.1.1.0.0 t.ensures.1.1.0.1 t.auto.1.1.1.0 t.auto.1.1.1.1.0 t.auto.1.1.1.1.1.1.1.1.1.0 t.auto.1.1.1.1.1.1.1.1.1.1.0 t.auto.1.1.1.1.1.1.1.1.1.1.1.0 c.before.before.before.before.before.keep.auto.1.1.0
 
 same-length-8 : tie.Need-same-length-8 invariant-loop decreases-loop
-same-length-8 c = held-length _ c.before.loop.invariant.ready.ok ∙ sym (held-length _ c.before.before.before.before.before.before.before.before.before.before.before.before.requires.1.1.0.ok)
+same-length-8 c = held_length _ c.before.loop.invariant.ready.ok ∙ sym (held_length _ c.before.before.before.before.before.before.before.before.before.before.before.before.requires.1.1.0.ok)
 
 same-length-9 : tie.Need-same-length-9 invariant-loop decreases-loop
 same-length-9 c = c.before.loop.invariant.array
@@ -89,8 +89,8 @@ returns-2 : tie.Need-returns-2 invariant-loop decreases-loop
 returns-2 c = let made = all_made _ _ _ _ _ _ _ _ _ _ _ _ c.before.loop.invariant c.loop-test.false in
     (ap (λ (v : MapScripted). v.run) made, (c.before.loop.invariant.ready.ok, ap (λ (v : MapScripted). v.map) made))
 
-pub steps-spec : {M : Type 1} → statement M
-steps-spec =
+pub steps_spec : {M : Type 1} → statement M
+steps_spec =
     tie.close
     (tie.spec
     invariant-loop

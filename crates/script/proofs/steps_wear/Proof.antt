@@ -56,15 +56,15 @@ use Rattle.types.specs.contracts.Tally as S
 use Rattle.types.proofs.Tally.TheLaws as S'
 use Rattle.types.specs.contracts.Identity as Id
 use Rattle.types.proofs.Identity.TheLaws as Id'
-use Rattle.paper.specs.Script.{Script, Scripted, afterSteps}
-use Rattle.paper.specs.Wear.{worn, wearSteps}
+use Rattle.paper.specs.Script.{Script, Scripted, after_steps}
+use Rattle.paper.specs.Wear.{worn, wear_steps}
 use Rattle.wear_records.specs.contracts.keep as keeps
 use Rattle.wear_records.proofs.keep.Symbol as keeps-def
 use Rattle.wear_records.proofs.keep.Symbol.{name as #wear·keep}
 use Rattle.wear_records.proofs.keep.Met as keeps-thm
 use Rattle.script.specs.declared.Counting.{Counting}
-use Rattle.script.specs.Steps.{Fit, counted, turnedOn, Counts, Going, Begins, bytesAfter}
-use Rattle.script.proofs.Counted.{Along, fit-along, one_more}
+use Rattle.script.specs.Steps.{Fit, counted, turned_on, Counts, Going, Begins, bytes_after}
+use Rattle.script.proofs.Counted.{Along, fit_along, one_more}
 use Rattle.script.specs.contracts.Counting as Co
 use Rattle.script.proofs.Counting.TheLaws as Co'
 use Rattle.script.specs.contracts.turn_wear as turn
@@ -170,10 +170,10 @@ module _ {M : Type 1} {𝓤 : Ura M} (𝓛 : Logic 𝓤) (mem : Memory → SProp
     Nearer-wf = InvImage.wf (λ (t : Here). n - t.k) lt-wf_rel.wf
 
     abbrev begin : Here
-    begin = record { k = 0; q = start; bs = bytes.now; xs = array.now; rs = rows.now; os = output.now; ns = answers.now; ds = done'.now; ws = wear.now; along = record { told = refl; wear = refl; bytes = refl; within = omega arith; going = λ h. (ready h).going; bytes-length = refl; array-length = refl; rows-length = refl; output-length = refl; answers-length = refl; done-length = refl; wear-length = refl }; is = start_is }
+    begin = record { k = 0; q = start; bs = bytes.now; xs = array.now; rs = rows.now; os = output.now; ns = answers.now; ds = done'.now; ws = wear.now; along = record { told = refl; wear = refl; bytes = refl; within = omega arith; going = λ h. (ready h).going; bytes_length = refl; array_length = refl; rows_length = refl; output_length = refl; answers_length = refl; done_length = refl; wear_length = refl }; is = start_is }
 
     fit_at : (t : Here) → t.k < n → Fit sc (length t.os) (length t.ns) (length t.ds)
-    fit_at t less = fit-along identity sc n t.k w₀ bytes.now wear.now t.q t.bs t.xs t.rs t.os t.ns t.ds t.ws t.along (ready (omega (arith, less))).fit
+    fit_at t less = fit_along identity sc n t.k w₀ bytes.now wear.now t.q t.bs t.xs t.rs t.os t.ns t.ds t.ws t.along (ready (omega (arith, less))).fit
 
     step-at : (t : Here) → t.k < n → t.k < length lengths.now
     step-at t less = subst (λ (m : ℕ). t.k < m) (ready (omega (arith, less))).steps less
@@ -231,7 +231,7 @@ module _ {M : Type 1} {𝓤 : Ura M} (𝓛 : Logic 𝓤) (mem : Memory → SProp
         qed 𝓛 (‵ (flft (ν ∷ []) full_share) ∷ ‵ ((MutSlice (named 0) (ν ∷ []) T.the_row).own_val (x wear δw t.ws) (s wear ∷ [])) ∷ []) ∵ nothing ! $ owned ! S.the_row (Is S.the_row) ((LL.makes S.the_type S'.the_plain) 𝓛) r.tally _ is $ fjoin ! $ move ! (2 ∷ 0 ∷ []) $ fjoin ! $ nothing ! $ move ! (2 ∷ 0 ∷ []) $ join ! $ join ! $ frame ! $ done !
 
     -- one turn further
-    abbrev next : (t : Here) → t.k < n → (r : Counting) (us : Unit {0} × (Unit {0} × (List ℕ × (List ℕ × (List ℕ × (Unit {0} × (Unit {0} × (Unit {0} × (Unit {0} × (List ℕ × (List ℕ × (List ℕ × (Unit {0} × Unit {0}))))))))))))) (vs : List Wear × (Unit {0} × Unit {0})) → (counted r us.1.1.0 us.1.1.1.0 us.1.1.1.1.0 us.1.1.1.1.1.1.1.1.1.0 us.1.1.1.1.1.1.1.1.1.1.0 us.1.1.1.1.1.1.1.1.1.1.1.0 ≡ turnedOn sc t.k (counted t.q t.bs t.xs t.rs t.os t.ns t.ds)) → Going identity sc (t.k + 1) r us.1.1.0 (length t.xs) (length t.rs) → Counts r.tally sc t.k (counted t.q t.bs t.xs t.rs t.os t.ns t.ds) → (vs.0 ≡ worn r.tally t.ws) → Is Co.the_row r (LL.vals Co.the_type Co'.the_laws r)
+    abbrev next : (t : Here) → t.k < n → (r : Counting) (us : Unit {0} × (Unit {0} × (List ℕ × (List ℕ × (List ℕ × (Unit {0} × (Unit {0} × (Unit {0} × (Unit {0} × (List ℕ × (List ℕ × (List ℕ × (Unit {0} × Unit {0}))))))))))))) (vs : List Wear × (Unit {0} × Unit {0})) → (counted r us.1.1.0 us.1.1.1.0 us.1.1.1.1.0 us.1.1.1.1.1.1.1.1.1.0 us.1.1.1.1.1.1.1.1.1.1.0 us.1.1.1.1.1.1.1.1.1.1.1.0 ≡ turned_on sc t.k (counted t.q t.bs t.xs t.rs t.os t.ns t.ds)) → Going identity sc (t.k + 1) r us.1.1.0 (length t.xs) (length t.rs) → Counts r.tally sc t.k (counted t.q t.bs t.xs t.rs t.os t.ns t.ds) → (vs.0 ≡ worn r.tally t.ws) → Is Co.the_row r (LL.vals Co.the_type Co'.the_laws r)
         → length us.1.1.0 ≡ length t.bs → length us.1.1.1.0 ≡ length t.xs → length us.1.1.1.1.0 ≡ length t.rs → length us.1.1.1.1.1.1.1.1.1.0 ≡ length t.os → length us.1.1.1.1.1.1.1.1.1.1.0 ≡ length t.ns → length us.1.1.1.1.1.1.1.1.1.1.1.0 ≡ length t.ds → length vs.0 ≡ length t.ws → Here
     next t less r us vs e g c w is len-y len-a len-r len-o len-n len-d len-w =
         record { k = t.k + 1; q = r; bs = us.1.1.0; xs = us.1.1.1.0; rs = us.1.1.1.1.0; os = us.1.1.1.1.1.1.1.1.1.0; ns = us.1.1.1.1.1.1.1.1.1.1.0; ds = us.1.1.1.1.1.1.1.1.1.1.1.0; ws = vs.0; along = one_more identity sc n t.k w₀ bytes.now wear.now t.q t.bs t.xs t.rs t.os t.ns t.ds t.ws t.along r us.1.1.0 us.1.1.1.0 us.1.1.1.1.0 us.1.1.1.1.1.1.1.1.1.0 us.1.1.1.1.1.1.1.1.1.1.0 us.1.1.1.1.1.1.1.1.1.1.1.0 vs.0 e c g w less len-y len-a len-r len-o len-n len-d len-w; is = is }
@@ -239,8 +239,8 @@ module _ {M : Type 1} {𝓤 : Ura M} (𝓛 : Logic 𝓤) (mem : Memory → SProp
     returns : (t : Here) → t.k ≡ n → ent 𝓤 (⋆ 𝓛 (‵ (flft κy qy) ∷ ‵ (flft κa qa) ∷ ‵ (flft κr qr) ∷ ‵ (flft κb qb) ∷ ‵ (flft κo qo) ∷ ‵ (flft κn qn) ∷ ‵ (flft κd qd) ∷ ‵ (flft κw qw) ∷ ‵ ((MutSlice (named 0) κy u8).own_val (x bytes bytes.name t.bs) (s bytes ∷ [])) ∷ ‵ ((MutSlice (named 1) κa u8).own_val (x array array.name t.xs) (s array ∷ [])) ∷ ‵ ((MutSlice (named 2) κr u8).own_val (x rows rows.name t.rs) (s rows ∷ [])) ∷ ‵ ((MutSlice (named 4) κo u8).own_val (x output output.name t.os) (s output ∷ [])) ∷ ‵ ((MutSlice (named 5) κn u8).own_val (x answers answers.name t.ns) (s answers ∷ [])) ∷ ‵ ((MutSlice (named 6) κd u16).own_val (x done' done'.name t.ds) (s done' ∷ [])) ∷ ‵ ((MutSlice (named 7) κw T.the_row).own_val (x wear wear.name t.ws) (s wear ∷ [])) ∷ ‵ ((ShrSlice (named 3) κb u8).own_val input (s input ∷ [])) ∷ ‵ ((ShrSlice (named 3) κb u16).own_val lengths (s lengths ∷ [])) ∷ ‵ ((ShrSlice (named 3) κb u16).own_val ticks (s ticks ∷ [])) ∷ [])) (Post (mach t.q))
     returns t e =
         qed 𝓛 (‵ (flft κy qy) ∷ ‵ (flft κa qa) ∷ ‵ (flft κr qr) ∷ ‵ (flft κb qb) ∷ ‵ (flft κo qo) ∷ ‵ (flft κn qn) ∷ ‵ (flft κd qd) ∷ ‵ (flft κw qw) ∷ ‵ ((MutSlice (named 0) κy u8).own_val (x bytes bytes.name t.bs) (s bytes ∷ [])) ∷ ‵ ((MutSlice (named 1) κa u8).own_val (x array array.name t.xs) (s array ∷ [])) ∷ ‵ ((MutSlice (named 2) κr u8).own_val (x rows rows.name t.rs) (s rows ∷ [])) ∷ ‵ ((MutSlice (named 4) κo u8).own_val (x output output.name t.os) (s output ∷ [])) ∷ ‵ ((MutSlice (named 5) κn u8).own_val (x answers answers.name t.ns) (s answers ∷ [])) ∷ ‵ ((MutSlice (named 6) κd u16).own_val (x done' done'.name t.ds) (s done' ∷ [])) ∷ ‵ ((MutSlice (named 7) κw T.the_row).own_val (x wear wear.name t.ws) (s wear ∷ [])) ∷ ‵ ((ShrSlice (named 3) κb u8).own_val input (s input ∷ [])) ∷ ‵ ((ShrSlice (named 3) κb u16).own_val lengths (s lengths ∷ [])) ∷ ‵ ((ShrSlice (named 3) κb u16).own_val ticks (s ticks ∷ [])) ∷ []) ∵
-        suffices ! _ (ends_at 𝓛 f.ended stayed (f.clauses 𝓛 mem run) (((κy, (κa, (κr, (κb, (κo, (κn, (κd, (κw, tt)))))))), (qy, (qa, (qr, (qb, (qo, (qn, (qd, (qw, tt)))))))), tt, a, at), tt) (mach t.q) t.q (tt, (tt, (t.bs, (t.xs, (t.rs, (tt, (tt, (tt, (tt, (t.os, (t.ns, (t.ds, (tt, (t.ws, tt)))))))))))))) (tt, (tt, (t.along.bytes-length, (t.along.array-length, (t.along.rows-length, (tt, (tt, (tt, (tt, (t.along.output-length, (t.along.answers-length, (t.along.done-length, (tt, (t.along.wear-length, tt))))))))))))))) $
-        says3 ! (t.along.told ∙ ap (λ (j : ℕ). afterSteps sc j w₀) e) (t.along.bytes ∙ ap (λ (j : ℕ). bytesAfter j bytes.now (afterSteps sc j w₀)) e) (t.along.wear ∙ ap (λ (j : ℕ). wearSteps sc j w₀ wear.now) e) $ nothing ! $
+        suffices ! _ (ends_at 𝓛 f.ended stayed (f.clauses 𝓛 mem run) (((κy, (κa, (κr, (κb, (κo, (κn, (κd, (κw, tt)))))))), (qy, (qa, (qr, (qb, (qo, (qn, (qd, (qw, tt)))))))), tt, a, at), tt) (mach t.q) t.q (tt, (tt, (t.bs, (t.xs, (t.rs, (tt, (tt, (tt, (tt, (t.os, (t.ns, (t.ds, (tt, (t.ws, tt)))))))))))))) (tt, (tt, (t.along.bytes_length, (t.along.array_length, (t.along.rows_length, (tt, (tt, (tt, (tt, (t.along.output_length, (t.along.answers_length, (t.along.done_length, (tt, (t.along.wear_length, tt))))))))))))))) $
+        says3 ! (t.along.told ∙ ap (λ (j : ℕ). after_steps sc j w₀) e) (t.along.bytes ∙ ap (λ (j : ℕ). bytes_after j bytes.now (after_steps sc j w₀)) e) (t.along.wear ∙ ap (λ (j : ℕ). wear_steps sc j w₀ wear.now) e) $ nothing ! $
         move ! (8 ∷ 0 ∷ []) $
         join ! $
         move ! (7 ∷ 0 ∷ []) $
@@ -356,19 +356,19 @@ module _ {M : Type 1} {𝓤 : Ura M} (𝓛 : Logic 𝓤) (mem : Memory → SProp
           -- the seven are lent again, for a lifetime ν of the turn
           lft_new ! tt (λ ν.
           move ! (9 ∷ 1 ∷ []) $
-          use2 𝓛 (later (some (λ (δy : GName). ‵ ((MutSlice (named 0) (ν ∷ []) u8).own_val (x bytes δy t.bs) (s bytes ∷ [])) ⊛ ‵ (LentAgain u8 κy (ν ∷ []) qy bytes.ghost_name bytes.ref_ptr.0 bytes.ref_ptr.1 δy t.bs)))) (lends u8 κy (ν ∷ []) qy bytes.ghost_name bytes.ref_ptr.0 bytes.ref_ptr.1 (length bytes.now) 𝓛 (named 0) (named 0) t.bs t.along.bytes-length) $ await ! tt $ pick ! (λ δy. split ! $
+          use2 𝓛 (later (some (λ (δy : GName). ‵ ((MutSlice (named 0) (ν ∷ []) u8).own_val (x bytes δy t.bs) (s bytes ∷ [])) ⊛ ‵ (LentAgain u8 κy (ν ∷ []) qy bytes.ghost_name bytes.ref_ptr.0 bytes.ref_ptr.1 δy t.bs)))) (lends u8 κy (ν ∷ []) qy bytes.ghost_name bytes.ref_ptr.0 bytes.ref_ptr.1 (length bytes.now) 𝓛 (named 0) (named 0) t.bs t.along.bytes_length) $ await ! tt $ pick ! (λ δy. split ! $
           move ! (10 ∷ 3 ∷ []) $
-          use2 𝓛 (later (some (λ (δa : GName). ‵ ((MutSlice (named 0) (ν ∷ []) u8).own_val (x array δa t.xs) (s array ∷ [])) ⊛ ‵ (LentAgain u8 κa (ν ∷ []) qa array.ghost_name array.ref_ptr.0 array.ref_ptr.1 δa t.xs)))) (lends u8 κa (ν ∷ []) qa array.ghost_name array.ref_ptr.0 array.ref_ptr.1 (length array.now) 𝓛 (named 1) (named 0) t.xs t.along.array-length) $ await ! tt $ pick ! (λ δa. split ! $
+          use2 𝓛 (later (some (λ (δa : GName). ‵ ((MutSlice (named 0) (ν ∷ []) u8).own_val (x array δa t.xs) (s array ∷ [])) ⊛ ‵ (LentAgain u8 κa (ν ∷ []) qa array.ghost_name array.ref_ptr.0 array.ref_ptr.1 δa t.xs)))) (lends u8 κa (ν ∷ []) qa array.ghost_name array.ref_ptr.0 array.ref_ptr.1 (length array.now) 𝓛 (named 1) (named 0) t.xs t.along.array_length) $ await ! tt $ pick ! (λ δa. split ! $
           move ! (11 ∷ 5 ∷ []) $
-          use2 𝓛 (later (some (λ (δr : GName). ‵ ((MutSlice (named 0) (ν ∷ []) u8).own_val (x rows δr t.rs) (s rows ∷ [])) ⊛ ‵ (LentAgain u8 κr (ν ∷ []) qr rows.ghost_name rows.ref_ptr.0 rows.ref_ptr.1 δr t.rs)))) (lends u8 κr (ν ∷ []) qr rows.ghost_name rows.ref_ptr.0 rows.ref_ptr.1 (length rows.now) 𝓛 (named 2) (named 0) t.rs t.along.rows-length) $ await ! tt $ pick ! (λ δr. split ! $
+          use2 𝓛 (later (some (λ (δr : GName). ‵ ((MutSlice (named 0) (ν ∷ []) u8).own_val (x rows δr t.rs) (s rows ∷ [])) ⊛ ‵ (LentAgain u8 κr (ν ∷ []) qr rows.ghost_name rows.ref_ptr.0 rows.ref_ptr.1 δr t.rs)))) (lends u8 κr (ν ∷ []) qr rows.ghost_name rows.ref_ptr.0 rows.ref_ptr.1 (length rows.now) 𝓛 (named 2) (named 0) t.rs t.along.rows_length) $ await ! tt $ pick ! (λ δr. split ! $
           move ! (12 ∷ 8 ∷ []) $
-          use2 𝓛 (later (some (λ (δo : GName). ‵ ((MutSlice (named 0) (ν ∷ []) u8).own_val (x output δo t.os) (s output ∷ [])) ⊛ ‵ (LentAgain u8 κo (ν ∷ []) qo output.ghost_name output.ref_ptr.0 output.ref_ptr.1 δo t.os)))) (lends u8 κo (ν ∷ []) qo output.ghost_name output.ref_ptr.0 output.ref_ptr.1 (length output.now) 𝓛 (named 4) (named 0) t.os t.along.output-length) $ await ! tt $ pick ! (λ δo. split ! $
+          use2 𝓛 (later (some (λ (δo : GName). ‵ ((MutSlice (named 0) (ν ∷ []) u8).own_val (x output δo t.os) (s output ∷ [])) ⊛ ‵ (LentAgain u8 κo (ν ∷ []) qo output.ghost_name output.ref_ptr.0 output.ref_ptr.1 δo t.os)))) (lends u8 κo (ν ∷ []) qo output.ghost_name output.ref_ptr.0 output.ref_ptr.1 (length output.now) 𝓛 (named 4) (named 0) t.os t.along.output_length) $ await ! tt $ pick ! (λ δo. split ! $
           move ! (13 ∷ 10 ∷ []) $
-          use2 𝓛 (later (some (λ (δn : GName). ‵ ((MutSlice (named 0) (ν ∷ []) u8).own_val (x answers δn t.ns) (s answers ∷ [])) ⊛ ‵ (LentAgain u8 κn (ν ∷ []) qn answers.ghost_name answers.ref_ptr.0 answers.ref_ptr.1 δn t.ns)))) (lends u8 κn (ν ∷ []) qn answers.ghost_name answers.ref_ptr.0 answers.ref_ptr.1 (length answers.now) 𝓛 (named 5) (named 0) t.ns t.along.answers-length) $ await ! tt $ pick ! (λ δn. split ! $
+          use2 𝓛 (later (some (λ (δn : GName). ‵ ((MutSlice (named 0) (ν ∷ []) u8).own_val (x answers δn t.ns) (s answers ∷ [])) ⊛ ‵ (LentAgain u8 κn (ν ∷ []) qn answers.ghost_name answers.ref_ptr.0 answers.ref_ptr.1 δn t.ns)))) (lends u8 κn (ν ∷ []) qn answers.ghost_name answers.ref_ptr.0 answers.ref_ptr.1 (length answers.now) 𝓛 (named 5) (named 0) t.ns t.along.answers_length) $ await ! tt $ pick ! (λ δn. split ! $
           move ! (14 ∷ 12 ∷ []) $
-          use2 𝓛 (later (some (λ (δd : GName). ‵ ((MutSlice (named 0) (ν ∷ []) u16).own_val (x done' δd t.ds) (s done' ∷ [])) ⊛ ‵ (LentAgain u16 κd (ν ∷ []) qd done'.ghost_name done'.ref_ptr.0 done'.ref_ptr.1 δd t.ds)))) (lends u16 κd (ν ∷ []) qd done'.ghost_name done'.ref_ptr.0 done'.ref_ptr.1 (length done'.now) 𝓛 (named 6) (named 0) t.ds t.along.done-length) $ await ! tt $ pick ! (λ δd. split ! $
+          use2 𝓛 (later (some (λ (δd : GName). ‵ ((MutSlice (named 0) (ν ∷ []) u16).own_val (x done' δd t.ds) (s done' ∷ [])) ⊛ ‵ (LentAgain u16 κd (ν ∷ []) qd done'.ghost_name done'.ref_ptr.0 done'.ref_ptr.1 δd t.ds)))) (lends u16 κd (ν ∷ []) qd done'.ghost_name done'.ref_ptr.0 done'.ref_ptr.1 (length done'.now) 𝓛 (named 6) (named 0) t.ds t.along.done_length) $ await ! tt $ pick ! (λ δd. split ! $
           move ! (15 ∷ 14 ∷ []) $
-          use2 𝓛 (later (some (λ (δw : GName). ‵ ((MutSlice (named 0) (ν ∷ []) T.the_row).own_val (x wear δw t.ws) (s wear ∷ [])) ⊛ ‵ (LentAgain T.the_row κw (ν ∷ []) qw wear.ghost_name wear.ref_ptr.0 wear.ref_ptr.1 δw t.ws)))) (lends T.the_row κw (ν ∷ []) qw wear.ghost_name wear.ref_ptr.0 wear.ref_ptr.1 (length wear.now) 𝓛 (named 7) (named 0) t.ws t.along.wear-length) $ await ! tt $ pick ! (λ δw. split ! $
+          use2 𝓛 (later (some (λ (δw : GName). ‵ ((MutSlice (named 0) (ν ∷ []) T.the_row).own_val (x wear δw t.ws) (s wear ∷ [])) ⊛ ‵ (LentAgain T.the_row κw (ν ∷ []) qw wear.ghost_name wear.ref_ptr.0 wear.ref_ptr.1 δw t.ws)))) (lends T.the_row κw (ν ∷ []) qw wear.ghost_name wear.ref_ptr.0 wear.ref_ptr.1 (length wear.now) 𝓛 (named 7) (named 0) t.ws t.along.wear_length) $ await ! tt $ pick ! (λ δw. split ! $
           -- copies of the three `&`
           move ! (16 ∷ []) $
           use1 𝓛 (‵ ((ShrSlice (named 3) κb u8).own_val input (s input ∷ [])) ⊛ ‵ ((ShrSlice (named 3) κb u8).own_val input (s input ∷ []))) ((shr_slice_copy 𝓛 (named 3) κb u8).twice input (s input ∷ [])) $ split ! $
@@ -382,9 +382,9 @@ module _ {M : Type 1} {𝓤 : Ura M} (𝓛 : Logic 𝓤) (mem : Memory → SProp
           calls_at ! fm (Turn 𝓛 mem run) known-turn (to-turn t ν δy δa δr δo δn δd) (and_then ! (load ! (from ! (stop !)) (look ! 46 refl)) (and_then ! (load ! (from ! (stop !)) (look ! 72 refl)) (and_then ! (load ! (from ! (stop !)) (look ! 38 refl)) (and_then ! (load ! (from ! (stop !)) (look ! 34 refl)) (and_then ! (load ! (from ! (stop !)) (look ! 30 refl)) (and_then ! (load ! (from ! (stop !)) (look ! 64 refl)) (and_then ! (load ! (from ! (stop !)) (look ! 62 refl)) (and_then ! (load ! (from ! (stop !)) (look ! 60 refl)) (and_then ! (load ! (from ! (stop !)) (look ! 58 refl)) (and_then ! (load ! (from ! (stop !)) (look ! 26 refl)) (and_then ! (load ! (from ! (stop !)) (look ! 22 refl)) (and_then ! (load ! (from ! (stop !)) (look ! 18 refl)) (and_then ! (load ! (from ! (stop !)) (look ! 44 refl)) (no_more !)))))))))))))) (λ w.
           use1 𝓛 (later (some (λ (r : Counting). ((‵ (flft (ν ∷ []) full_share) ⊛ (‵ (flft κb qb) ⊛ ‵ ftrue)) ⊛ ‵ ((Co.the_row).own_val r (w ∷ []))) ⊛ raw (ensured 𝓛 turn.ended (turn.clauses 𝓛 mem run) (ν ∷ [], (κb, tt)) (args t δy δa δr δo δn δd) tt r)))) (id⊢ 𝓤 _) $ await ! tt $ pick ! (λ r. split ! $
           move ! (1 ∷ []) $
-          use1 𝓛 (some (λ (us : Unit {0} × (Unit {0} × (List ℕ × (List ℕ × (List ℕ × (Unit {0} × (Unit {0} × (Unit {0} × (Unit {0} × (List ℕ × (List ℕ × (List ℕ × (Unit {0} × Unit {0}))))))))))))). ‵ (lasts turn.ended (ν ∷ [], (κb, tt)) (args t δy δa δr δo δn δd) us) ⊛ (raw (fact 𝓤 (counted r us.1.1.0 us.1.1.1.0 us.1.1.1.1.0 us.1.1.1.1.1.1.1.1.1.0 us.1.1.1.1.1.1.1.1.1.1.0 us.1.1.1.1.1.1.1.1.1.1.1.0 ≡ turnedOn sc t.k (counted t.q t.bs t.xs t.rs t.os t.ns t.ds))) ⊛ (raw (fact 𝓤 (Going identity sc (t.k + 1) r us.1.1.0 (length t.xs) (length t.rs))) ⊛ raw (fact 𝓤 (Counts r.tally sc t.k (counted t.q t.bs t.xs t.rs t.os t.ns t.ds))))))) (id⊢ 𝓤 _) $ pick ! (λ us. split ! $
+          use1 𝓛 (some (λ (us : Unit {0} × (Unit {0} × (List ℕ × (List ℕ × (List ℕ × (Unit {0} × (Unit {0} × (Unit {0} × (Unit {0} × (List ℕ × (List ℕ × (List ℕ × (Unit {0} × Unit {0}))))))))))))). ‵ (lasts turn.ended (ν ∷ [], (κb, tt)) (args t δy δa δr δo δn δd) us) ⊛ (raw (fact 𝓤 (counted r us.1.1.0 us.1.1.1.0 us.1.1.1.1.0 us.1.1.1.1.1.1.1.1.1.0 us.1.1.1.1.1.1.1.1.1.1.0 us.1.1.1.1.1.1.1.1.1.1.1.0 ≡ turned_on sc t.k (counted t.q t.bs t.xs t.rs t.os t.ns t.ds))) ⊛ (raw (fact 𝓤 (Going identity sc (t.k + 1) r us.1.1.0 (length t.xs) (length t.rs))) ⊛ raw (fact 𝓤 (Counts r.tally sc t.k (counted t.q t.bs t.xs t.rs t.os t.ns t.ds))))))) (id⊢ 𝓤 _) $ pick ! (λ us. split ! $
           move ! (1 ∷ []) $
-          split ! $ heard ! (counted r us.1.1.0 us.1.1.1.0 us.1.1.1.1.0 us.1.1.1.1.1.1.1.1.1.0 us.1.1.1.1.1.1.1.1.1.1.0 us.1.1.1.1.1.1.1.1.1.1.1.0 ≡ turnedOn sc t.k (counted t.q t.bs t.xs t.rs t.os t.ns t.ds)) (λ e. split ! $ heard ! (Going identity sc (t.k + 1) r us.1.1.0 (length t.xs) (length t.rs)) (λ g. heard ! (Counts r.tally sc t.k (counted t.q t.bs t.xs t.rs t.os t.ns t.ds)) (λ c. fsplit ! $
+          split ! $ heard ! (counted r us.1.1.0 us.1.1.1.0 us.1.1.1.1.0 us.1.1.1.1.1.1.1.1.1.0 us.1.1.1.1.1.1.1.1.1.1.0 us.1.1.1.1.1.1.1.1.1.1.1.0 ≡ turned_on sc t.k (counted t.q t.bs t.xs t.rs t.os t.ns t.ds)) (λ e. split ! $ heard ! (Going identity sc (t.k + 1) r us.1.1.0 (length t.xs) (length t.rs)) (λ g. heard ! (Counts r.tally sc t.k (counted t.q t.bs t.xs t.rs t.os t.ns t.ds)) (λ c. fsplit ! $
           move ! (1 ∷ []) $
           fsplit ! $
           move ! (1 ∷ []) $
@@ -451,31 +451,31 @@ module _ {M : Type 1} {𝓤 : Ura M} (𝓛 : Logic 𝓤) (mem : Memory → SProp
           move ! (0 ∷ []) $
           use1 𝓛 (‵ (fdead (ν ∷ [])) ⊛ ‵ (fdead (ν ∷ []))) (𝓛.lfts.dead_dup (ν ∷ [])) $ split ! $
           move ! (0 ∷ 31 ∷ 19 ∷ []) $
-          use3 𝓛 (later (‵ ((MutSlice (named 0) κy u8).own_val (x bytes bytes.ghost_name us.1.1.0) (s bytes ∷ [])) ⊛ ‵ (flft κy qy))) (back u8 κy (ν ∷ []) qy bytes.ghost_name bytes.ref_ptr.0 bytes.ref_ptr.1 (length bytes.now) 𝓛 (named 0) (named 0) t.bs t.along.bytes-length δy us.1.1.0 bytes-room len-y) $ await ! tt $ split ! $
+          use3 𝓛 (later (‵ ((MutSlice (named 0) κy u8).own_val (x bytes bytes.ghost_name us.1.1.0) (s bytes ∷ [])) ⊛ ‵ (flft κy qy))) (back u8 κy (ν ∷ []) qy bytes.ghost_name bytes.ref_ptr.0 bytes.ref_ptr.1 (length bytes.now) 𝓛 (named 0) (named 0) t.bs t.along.bytes_length δy us.1.1.0 bytes-room len-y) $ await ! tt $ split ! $
           move ! (2 ∷ []) $
           use1 𝓛 (‵ (fdead (ν ∷ [])) ⊛ ‵ (fdead (ν ∷ []))) (𝓛.lfts.dead_dup (ν ∷ [])) $ split ! $
           move ! (0 ∷ 31 ∷ 20 ∷ []) $
-          use3 𝓛 (later (‵ ((MutSlice (named 1) κa u8).own_val (x array array.ghost_name us.1.1.1.0) (s array ∷ [])) ⊛ ‵ (flft κa qa))) (back u8 κa (ν ∷ []) qa array.ghost_name array.ref_ptr.0 array.ref_ptr.1 (length array.now) 𝓛 (named 1) (named 0) t.xs t.along.array-length δa us.1.1.1.0 array-room len-a) $ await ! tt $ split ! $
+          use3 𝓛 (later (‵ ((MutSlice (named 1) κa u8).own_val (x array array.ghost_name us.1.1.1.0) (s array ∷ [])) ⊛ ‵ (flft κa qa))) (back u8 κa (ν ∷ []) qa array.ghost_name array.ref_ptr.0 array.ref_ptr.1 (length array.now) 𝓛 (named 1) (named 0) t.xs t.along.array_length δa us.1.1.1.0 array-room len-a) $ await ! tt $ split ! $
           move ! (2 ∷ []) $
           use1 𝓛 (‵ (fdead (ν ∷ [])) ⊛ ‵ (fdead (ν ∷ []))) (𝓛.lfts.dead_dup (ν ∷ [])) $ split ! $
           move ! (0 ∷ 31 ∷ 21 ∷ []) $
-          use3 𝓛 (later (‵ ((MutSlice (named 2) κr u8).own_val (x rows rows.ghost_name us.1.1.1.1.0) (s rows ∷ [])) ⊛ ‵ (flft κr qr))) (back u8 κr (ν ∷ []) qr rows.ghost_name rows.ref_ptr.0 rows.ref_ptr.1 (length rows.now) 𝓛 (named 2) (named 0) t.rs t.along.rows-length δr us.1.1.1.1.0 rows-room len-r) $ await ! tt $ split ! $
+          use3 𝓛 (later (‵ ((MutSlice (named 2) κr u8).own_val (x rows rows.ghost_name us.1.1.1.1.0) (s rows ∷ [])) ⊛ ‵ (flft κr qr))) (back u8 κr (ν ∷ []) qr rows.ghost_name rows.ref_ptr.0 rows.ref_ptr.1 (length rows.now) 𝓛 (named 2) (named 0) t.rs t.along.rows_length δr us.1.1.1.1.0 rows-room len-r) $ await ! tt $ split ! $
           move ! (2 ∷ []) $
           use1 𝓛 (‵ (fdead (ν ∷ [])) ⊛ ‵ (fdead (ν ∷ []))) (𝓛.lfts.dead_dup (ν ∷ [])) $ split ! $
           move ! (0 ∷ 31 ∷ 18 ∷ []) $
-          use3 𝓛 (later (‵ ((MutSlice (named 4) κo u8).own_val (x output output.ghost_name us.1.1.1.1.1.1.1.1.1.0) (s output ∷ [])) ⊛ ‵ (flft κo qo))) (back u8 κo (ν ∷ []) qo output.ghost_name output.ref_ptr.0 output.ref_ptr.1 (length output.now) 𝓛 (named 4) (named 0) t.os t.along.output-length δo us.1.1.1.1.1.1.1.1.1.0 output-room len-o) $ await ! tt $ split ! $
+          use3 𝓛 (later (‵ ((MutSlice (named 4) κo u8).own_val (x output output.ghost_name us.1.1.1.1.1.1.1.1.1.0) (s output ∷ [])) ⊛ ‵ (flft κo qo))) (back u8 κo (ν ∷ []) qo output.ghost_name output.ref_ptr.0 output.ref_ptr.1 (length output.now) 𝓛 (named 4) (named 0) t.os t.along.output_length δo us.1.1.1.1.1.1.1.1.1.0 output-room len-o) $ await ! tt $ split ! $
           move ! (2 ∷ []) $
           use1 𝓛 (‵ (fdead (ν ∷ [])) ⊛ ‵ (fdead (ν ∷ []))) (𝓛.lfts.dead_dup (ν ∷ [])) $ split ! $
           move ! (0 ∷ 31 ∷ 19 ∷ []) $
-          use3 𝓛 (later (‵ ((MutSlice (named 5) κn u8).own_val (x answers answers.ghost_name us.1.1.1.1.1.1.1.1.1.1.0) (s answers ∷ [])) ⊛ ‵ (flft κn qn))) (back u8 κn (ν ∷ []) qn answers.ghost_name answers.ref_ptr.0 answers.ref_ptr.1 (length answers.now) 𝓛 (named 5) (named 0) t.ns t.along.answers-length δn us.1.1.1.1.1.1.1.1.1.1.0 answers-room len-n) $ await ! tt $ split ! $
+          use3 𝓛 (later (‵ ((MutSlice (named 5) κn u8).own_val (x answers answers.ghost_name us.1.1.1.1.1.1.1.1.1.1.0) (s answers ∷ [])) ⊛ ‵ (flft κn qn))) (back u8 κn (ν ∷ []) qn answers.ghost_name answers.ref_ptr.0 answers.ref_ptr.1 (length answers.now) 𝓛 (named 5) (named 0) t.ns t.along.answers_length δn us.1.1.1.1.1.1.1.1.1.1.0 answers-room len-n) $ await ! tt $ split ! $
           move ! (2 ∷ []) $
           use1 𝓛 (‵ (fdead (ν ∷ [])) ⊛ ‵ (fdead (ν ∷ []))) (𝓛.lfts.dead_dup (ν ∷ [])) $ split ! $
           move ! (0 ∷ 31 ∷ 19 ∷ []) $
-          use3 𝓛 (later (‵ ((MutSlice (named 6) κd u16).own_val (x done' done'.ghost_name us.1.1.1.1.1.1.1.1.1.1.1.0) (s done' ∷ [])) ⊛ ‵ (flft κd qd))) (back u16 κd (ν ∷ []) qd done'.ghost_name done'.ref_ptr.0 done'.ref_ptr.1 (length done'.now) 𝓛 (named 6) (named 0) t.ds t.along.done-length δd us.1.1.1.1.1.1.1.1.1.1.1.0 done-room len-d) $ await ! tt $ split ! $
+          use3 𝓛 (later (‵ ((MutSlice (named 6) κd u16).own_val (x done' done'.ghost_name us.1.1.1.1.1.1.1.1.1.1.1.0) (s done' ∷ [])) ⊛ ‵ (flft κd qd))) (back u16 κd (ν ∷ []) qd done'.ghost_name done'.ref_ptr.0 done'.ref_ptr.1 (length done'.now) 𝓛 (named 6) (named 0) t.ds t.along.done_length δd us.1.1.1.1.1.1.1.1.1.1.1.0 done-room len-d) $ await ! tt $ split ! $
           move ! (2 ∷ []) $
           use1 𝓛 (‵ (fdead (ν ∷ [])) ⊛ ‵ (fdead (ν ∷ []))) (𝓛.lfts.dead_dup (ν ∷ [])) $ split ! $
           move ! (0 ∷ 31 ∷ 16 ∷ []) $
-          use3 𝓛 (later (‵ ((MutSlice (named 7) κw T.the_row).own_val (x wear wear.ghost_name vs.0) (s wear ∷ [])) ⊛ ‵ (flft κw qw))) (back T.the_row κw (ν ∷ []) qw wear.ghost_name wear.ref_ptr.0 wear.ref_ptr.1 (length wear.now) 𝓛 (named 7) (named 0) t.ws t.along.wear-length δw vs.0 wear-room len-w) $ await ! tt $ split ! $
+          use3 𝓛 (later (‵ ((MutSlice (named 7) κw T.the_row).own_val (x wear wear.ghost_name vs.0) (s wear ∷ [])) ⊛ ‵ (flft κw qw))) (back T.the_row κw (ν ∷ []) qw wear.ghost_name wear.ref_ptr.0 wear.ref_ptr.1 (length wear.now) 𝓛 (named 7) (named 0) t.ws t.along.wear_length δw vs.0 wear-room len-w) $ await ! tt $ split ! $
           assigns_last ! (bin ! (load ! (from ! (stop !)) (look ! 63 refl)) (lit ! tt) (record { fits = fits test })) (from ! (stop !)) (store ! 63 refl (tt, record { fits = fits test })) $
           forget ! 61 refl $
           forget ! 59 refl $
@@ -649,9 +649,9 @@ module _ {M : Type 1} {𝓤 : Ura M} (𝓛 : Logic 𝓤) (mem : Memory → SProp
   steps-wear-meets : (𝓣 : Tables 𝓤 H) → Triple 𝓤 (𝓣.C #script·turn-wear) (Turn 𝓛 mem run) → Triple 𝓤 (𝓣.C #wear·keep) (Keep 𝓛 mem run) → Meets 𝓛 f.signature (WpFn 𝓤 H 𝓣.C 𝓣.Λ code.function) (f.spec 𝓛 mem run)
   steps-wear-meets 𝓣 known-turn known-keep = walk_Meets 𝓛 f.ended stayed goes (f.clauses 𝓛 mem run) (WpFn 𝓤 H 𝓣.C 𝓣.Λ code.function) (WpFn-mono 𝓤 H 𝓛.laws 𝓣 code.function) (steps-wear-walks 𝓣 known-turn known-keep)
 
-pub steps-wear-spec : {M : Type 1} → stated.statement M
+pub steps_wear_spec : {M : Type 1} → stated.statement M
 unfolding code.routine tables_of
-steps-wear-spec 𝓤 𝓛 𝓜 𝓡 =
+steps_wear_spec 𝓤 𝓛 𝓜 𝓡 =
     entered 𝓤 𝓛.H (triple_of 𝓛 f.signature (f.spec 𝓛 𝓜.mem 𝓡.run))
     (tables 𝓤 𝓛.H 𝓜 𝓡 code.env).C (tables 𝓤 𝓛.H 𝓜 𝓡 code.env).Λ #script·steps-wear code.function (code.unfolded 𝓤 𝓛.H 𝓜 𝓡)
     (steps-wear-meets 𝓛 𝓜.mem 𝓡.run (tables_of 𝓤 𝓛.H 𝓜 (tables 𝓤 𝓛.H 𝓜 𝓡 code.env))

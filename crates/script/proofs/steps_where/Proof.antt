@@ -9,5 +9,5 @@ returns c = simp (eq-eqb _ _ c.if1.true)
 returns-2 : tie.Need-returns-2
 returns-2 c = simp (ne_eqb _ _ c.if1.false)
 
-pub steps-where-spec : {M : Type 1} → statement M
-steps-where-spec = tie.close (tie.spec returns returns-2)
+pub steps_where_spec : {M : Type 1} → statement M
+steps_where_spec = tie.close (tie.spec returns returns-2)

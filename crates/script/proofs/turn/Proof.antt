@@ -6,10 +6,10 @@ use mathlib.Core.Path.{ap, ◌∙◌}
 use mathlib.Core.List.{List}
 use Rattle.paper.specs.History.{Call}
 use Rattle.paper.specs.Script.{Script}
-use Rattle.paper.specs.Map.{mapAfterCalls}
-use Rattle.paper.specs.Wear.{wearAfterCalls}
+use Rattle.paper.specs.Map.{map_after_calls}
+use Rattle.paper.specs.Wear.{wear_after_calls}
 use Rattle.script.specs.Steps.{world}
-use Rattle.script.proofs.OneByOne.{end-within, turn_is, calls_are}
+use Rattle.script.proofs.OneByOne.{end_within, turn_is, calls_are}
 use borrow.Author.Rules.{rules}
 use native.Mathlib.Omega.{arith}
 use Rattle.script.proofs.turn.Statement.{statement}
@@ -25,7 +25,7 @@ cast-end : tie.Need-overflow-cast-end
 cast-end c = omega (arith, c.shared-slice-known4.given c.before.before.before.before.before.before.before.before.before.before.args.k)
 
 add-end : tie.Need-overflow-add-end
-add-end c = omega (arith, end-within _ _ _ _ _ _ c.before.before.before.before.before.before.before.before.before.before.requires.0 c.before.before.before.before.before.before.before.before.before.before.requires.1.0.0 c.before.before.before.before.before.before.before.before.before.before.requires.1.0.1)
+add-end c = omega (arith, end_within _ _ _ _ _ _ c.before.before.before.before.before.before.before.before.before.before.requires.0 c.before.before.before.before.before.before.before.before.before.before.requires.1.0.0 c.before.before.before.before.before.before.before.before.before.before.requires.1.0.1)
 
 sub-step : tie.Need-overflow-sub-step
 sub-step c = search rules
@@ -34,7 +34,7 @@ part-step-start : tie.Need-slice-bounds-step-start
 part-step-start c = search rules
 
 part-step-end : tie.Need-slice-bounds-step-end
-part-step-end c = omega (arith, end-within _ _ _ _ _ _ c.before.before.before.before.before.before.before.before.before.before.before.before.before.requires.0 c.before.before.before.before.before.before.before.before.before.before.before.before.before.requires.1.0.0 c.before.before.before.before.before.before.before.before.before.before.before.before.before.requires.1.0.1)
+part-step-end c = omega (arith, end_within _ _ _ _ _ _ c.before.before.before.before.before.before.before.before.before.before.before.before.before.requires.0 c.before.before.before.before.before.before.before.before.before.before.before.before.before.requires.1.0.0 c.before.before.before.before.before.before.before.before.before.before.before.before.before.requires.1.0.1)
 
 mul-step : tie.Need-overflow-mul-step
 mul-step c = search rules
@@ -52,7 +52,7 @@ part-step-start-2 : tie.Need-slice-bounds-step-start-2
 part-step-start-2 c = search rules
 
 part-step-end-2 : tie.Need-slice-bounds-step-end-2
-part-step-end-2 c = omega (arith, end-within _ _ _ _ _ _ c.before.before.before.before.before.before.before.before.before.before.before.before.before.before.before.requires.0 c.before.before.before.before.before.before.before.before.before.before.before.before.before.before.before.requires.1.0.0 c.before.before.before.before.before.before.before.before.before.before.before.before.before.before.before.requires.1.0.1, c.before.before.before.before.before.before.before.before.before.before.before.before.before.before.before.requires.0.output)
+part-step-end-2 c = omega (arith, end_within _ _ _ _ _ _ c.before.before.before.before.before.before.before.before.before.before.before.before.before.before.before.requires.0 c.before.before.before.before.before.before.before.before.before.before.before.before.before.before.before.requires.1.0.0 c.before.before.before.before.before.before.before.before.before.before.before.before.before.before.before.requires.1.0.1, c.before.before.before.before.before.before.before.before.before.before.before.before.before.before.before.requires.0.output)
 
 step-requires : tie.Need-step-requires
 step-requires c κs = c.before.before.before.before.before.before.before.before.before.before.before.before.before.before.before.before.requires.1.1
@@ -98,7 +98,7 @@ returns c = let a = c.before.before.before.before.before.before.before.before.be
     let w = world a.state a.bytes.now a.array.now a.rows.now a.output.now a.answers.now a.done.now in
     let n = a.state.at + get_or a.lengths.now a.k 0 - a.state.at in
     let calls = calls_are script a.k w a.state.at n at (omega arith) in
-    (turn_is script a.k w a.state.at n _ _ at (omega arith) t.0 c.step_after.ensures, (rw add-one (ap (λ (x : ℕ). x + get_or a.lengths.now a.k 0) at), ((t.1.0.0, t.1.0.1), ((λ m. t.1.1.0 m ∙ ap (λ (cs : List Call). mapAfterCalls cs w.board m) calls), (λ ws. t.1.1.1 ws ∙ ap (λ (cs : List Call). wearAfterCalls cs w.board ws) calls)))))
+    (turn_is script a.k w a.state.at n _ _ at (omega arith) t.0 c.step_after.ensures, (rw add-one (ap (λ (x : ℕ). x + get_or a.lengths.now a.k 0) at), ((t.1.0.0, t.1.0.1), ((λ m. t.1.1.0 m ∙ ap (λ (cs : List Call). map_after_calls cs w.board m) calls), (λ ws. t.1.1.1 ws ∙ ap (λ (cs : List Call). wear_after_calls cs w.board ws) calls)))))
 
 pub turn_spec : {M : Type 1} → statement M
 turn_spec =

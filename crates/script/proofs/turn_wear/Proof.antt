@@ -4,7 +4,7 @@ use Rattle.paper.specs.Script.{Script}
 use Rattle.paper.specs.Wear.{worn}
 use Rattle.script.specs.declared.Counting.{Counting}
 use Rattle.script.specs.Steps.{counted}
-use Rattle.script.proofs.Counted.{goes_on, stays_on, going-counts, stopped-counts}
+use Rattle.script.proofs.Counted.{goes_on, stays_on, going_counts, stopped_counts}
 use borrow.Author.Rules.{rules}
 use Rattle.script.proofs.turn_wear.Statement.{statement}
 use Rattle.script.proofs.turn_wear.Tie as tie
@@ -18,7 +18,7 @@ returns c = let a = c.before.before.before.before.before.before.before.before.be
     let stop = c.before.if1.true in
     let script : Script = record { wp = a.wp; input = a.input.now; lengths = a.lengths.now; ticks = a.ticks.now } in
     let w = counted a.state a.bytes.now a.array.now a.rows.now a.output.now a.answers.now a.done.now in
-    (ap (λ (q : Counting). counted q a.bytes.now a.array.now a.rows.now a.output.now a.answers.now a.done.now) e ∙ stays_on script a.k w stop, (record { at = λ z. absurd (stop (sym (ap (λ (q : Counting). q.number) e) ∙ z)); ready = c.before.before.before.before.before.before.before.before.before.before.before.requires.1.1.ready; identity = c.before.before.before.before.before.before.before.before.before.before.before.requires.1.1.identity }, λ ws. ap (λ (q : Counting). worn q.tally ws) e ∙ stopped-counts script a.k w stop ws))
+    (ap (λ (q : Counting). counted q a.bytes.now a.array.now a.rows.now a.output.now a.answers.now a.done.now) e ∙ stays_on script a.k w stop, (record { at = λ z. absurd (stop (sym (ap (λ (q : Counting). q.number) e) ∙ z)); ready = c.before.before.before.before.before.before.before.before.before.before.before.requires.1.1.ready; identity = c.before.before.before.before.before.before.before.before.before.before.before.requires.1.1.identity }, λ ws. ap (λ (q : Counting). worn q.tally ws) e ∙ stopped_counts script a.k w stop ws))
 
 turn-requires : tie.Need-turn-requires
 turn-requires c κs = (c.before.before.before.before.before.before.before.before.before.before.before.before.before.before.before.before.requires.0, ((c.before.before.before.before.before.before.before.before.before.before.before.before.before.before.before.before.requires.1.0, c.before.before.before.before.before.before.before.before.before.before.before.before.before.before.before.before.requires.1.1.at c.before.before.before.before.before.before.if1.false), (c.before.before.before.before.before.before.before.before.before.before.before.before.before.before.before.before.requires.1.1.ready, c.before.before.before.before.before.before.before.before.before.before.before.before.before.before.before.before.requires.1.1.identity)))
@@ -50,10 +50,10 @@ returns-2 c = let a = c.before.before.before.before.before.before.before.before.
     let go = c.before.before.before.before.before.before.before.before.before.before.before.before.before.before.before.before.before.before.before.before.before.before.if1.false in
     let script : Script = record { wp = a.wp; input = a.input.now; lengths = a.lengths.now; ticks = a.ticks.now } in
     let w = counted a.state a.bytes.now a.array.now a.rows.now a.output.now a.answers.now a.done.now in
-    (t.ensures.0 ∙ goes_on script a.k w go, (record { at = λ _. t.ensures.1.0; ready = t.ensures.1.1.0.0; identity = t.ensures.1.1.0.1 }, going-counts script a.k w go _ t.result.reached c.before.tally.ensures t.ensures.1.1.1.1))
+    (t.ensures.0 ∙ goes_on script a.k w go, (record { at = λ _. t.ensures.1.0; ready = t.ensures.1.1.0.0; identity = t.ensures.1.1.0.1 }, going_counts script a.k w go _ t.result.reached c.before.tally.ensures t.ensures.1.1.1.1))
 
-pub turn-wear-spec : {M : Type 1} → statement M
-turn-wear-spec =
+pub turn_wear_spec : {M : Type 1} → statement M
+turn_wear_spec =
     tie.close
     (tie.spec
     uncounted-requires

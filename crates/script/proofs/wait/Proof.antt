@@ -1,7 +1,7 @@
 -- `script::wait` meets its contract: part and phase are those of the record that the bytes hold, and what the ticks make of it is written.
-use Rattle.record_bytes.proofs.Back.{held-length}
+use Rattle.record_bytes.proofs.Back.{held_length}
 use Rattle.types.specs.declared.Memory.TheVariants.{Array, Rows}
-use Rattle.script.proofs.OneStep.{only-runs, waits-told, waits-held, waits-memory}
+use Rattle.script.proofs.OneStep.{only_runs, waits_told, waits_held, waits_memory}
 use borrow.Author.Rules.{rules}
 use native.Mathlib.Omega.{arith}
 use Rattle.script.proofs.wait.Statement.{statement}
@@ -23,13 +23,13 @@ part-page-start : tie.Need-slice-bounds-page-start
 part-page-start c = search rules
 
 part-page-end : tie.Need-slice-bounds-page-end
-part-page-end c = omega (arith, held-length c.before.before.before.before.before.before.before.before.before.args.bytes.now c.before.before.before.before.before.before.before.before.before.requires.ok)
+part-page-end c = omega (arith, held_length c.before.before.before.before.before.before.before.before.before.args.bytes.now c.before.before.before.before.before.before.before.before.before.requires.ok)
 
 tick-part-requires : tie.Need-tick-part-requires
 tick-part-requires c κs = search rules
 
 write-ran-requires : tie.Need-write-ran-requires
-write-ran-requires c κs = let u = c.before.before.before.before.before.tick-part in only-runs _ _ _ _ _ _ u.result u.ensures.0
+write-ran-requires c κs = let u = c.before.before.before.before.before.tick-part in only_runs _ _ _ _ _ _ u.result u.ensures.0
 
 same_length : tie.Need-same-length
 same_length c = search rules
@@ -47,7 +47,7 @@ returns c = let s = c.before.before.before.before.before.before.before.before.be
     let f = c.before.before.before.before.before.before.before.before.before.before.before.before.before.before.phase-again in
     let w = c.before.before.before.before.before.before.before.before.before.before.before.before.before.running in
     let u = c.before.before.before.before.before.before.before.before.tick-part in
-    (waits-told a.bytes.now a.array.now a.rows.now s.requires p.result f.result p.ensures f.ensures a.ticks u.result u.ensures.0 w.result w.ensures, (waits-held a.bytes.now a.array.now a.rows.now s.requires p.result f.result p.ensures f.ensures a.ticks u.result u.ensures.0 _ c.before.before.write-ran.ensures, (waits-memory a.bytes.now a.array.now a.rows.now s.requires p.result f.result p.ensures f.ensures a.ticks Array _ _ u.ensures.1.0, waits-memory a.bytes.now a.array.now a.rows.now s.requires p.result f.result p.ensures f.ensures a.ticks Rows _ _ u.ensures.1.1)))
+    (waits_told a.bytes.now a.array.now a.rows.now s.requires p.result f.result p.ensures f.ensures a.ticks u.result u.ensures.0 w.result w.ensures, (waits_held a.bytes.now a.array.now a.rows.now s.requires p.result f.result p.ensures f.ensures a.ticks u.result u.ensures.0 _ c.before.before.write-ran.ensures, (waits_memory a.bytes.now a.array.now a.rows.now s.requires p.result f.result p.ensures f.ensures a.ticks Array _ _ u.ensures.1.0, waits_memory a.bytes.now a.array.now a.rows.now s.requires p.result f.result p.ensures f.ensures a.ticks Rows _ _ u.ensures.1.1)))
 
 pub wait_spec : {M : Type 1} → statement M
 wait_spec =

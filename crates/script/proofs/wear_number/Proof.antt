@@ -1,7 +1,7 @@
 -- `script::wear_number` meets its contract: the test is the definition's.
 use mathlib.Core.Path.{◌∙◌}
-use Rattle.words.proofs.Tests.{orElse-none}
-use Rattle.paper.specs.Numbers.{wearNumber}
+use Rattle.words.proofs.Tests.{or_else_none}
+use Rattle.paper.specs.Numbers.{wear_number}
 use borrow.Author.Rules.{rules}
 use Rattle.script.proofs.wear_number.Statement.{statement}
 use Rattle.script.proofs.wear_number.Tie as tie
@@ -13,8 +13,8 @@ number-or-requires : tie.Need-number-or-requires
 number-or-requires c κs = search rules
 
 returns : tie.Need-returns
-unfolding wearNumber
-returns c = c.number-or.ensures ∙ orElse-none _
+unfolding wear_number
+returns c = c.number-or.ensures ∙ or_else_none _
 
-pub wear-number-spec : {M : Type 1} → statement M
-wear-number-spec = tie.close (tie.spec mul-same number-or-requires returns)
+pub wear_number_spec : {M : Type 1} → statement M
+wear_number_spec = tie.close (tie.spec mul-same number-or-requires returns)

@@ -1,5 +1,5 @@
 -- `script::write_ran` meets its contract: the same leaves the bytes, what runs is written, and ticks change nothing else.
-use Rattle.script.proofs.OneStep.{same-written}
+use Rattle.script.proofs.OneStep.{same_written}
 use borrow.Author.Rules.{rules}
 use Rattle.script.proofs.write_ran.Statement.{statement}
 use Rattle.script.proofs.write_ran.Tie as tie
@@ -35,7 +35,7 @@ enum-told-7 : tie.Need-enum-told-7
 enum-told-7 c = search rules
 
 returns : tie.Need-returns
-returns c = rw c.enum_told.given.1 (same-written c.before.before.before.args.bytes.now)
+returns c = rw c.enum_told.given.1 (same_written c.before.before.before.args.bytes.now)
 
 returns-2 : tie.Need-returns-2
 returns-2 c = absurd (rw c.enum-told2.given.1 at c.before.before.before.requires)
@@ -61,8 +61,8 @@ returns-7 c = absurd (rw c.enum-told6.given.1 at c.before.before.before.requires
 returns-8 : tie.Need-returns-8
 returns-8 c = absurd (rw c.enum-told7.given.1 at c.before.before.before.requires)
 
-pub write-ran-spec : {M : Type 1} → statement M
-write-ran-spec =
+pub write_ran_spec : {M : Type 1} → statement M
+write_ran_spec =
     tie.close
     (tie.spec
     enum_told

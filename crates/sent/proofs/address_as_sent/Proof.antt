@@ -42,8 +42,8 @@ returns c = rw (c.before.before.before.form.given.1, c.before.bit-of.ensures, c.
 returns-2 : tie.Need-returns-2
 returns-2 c = rw (c.before.enum_told.given.1, c.address-sent2.ensures) (sym (zero-add _))
 
-pub address-as-sent-spec : {M : Type 1} → statement M
-address-as-sent-spec =
+pub address_as_sent_spec : {M : Type 1} → statement M
+address_as_sent_spec =
     tie.close
     (tie.spec
     enum-known-form

@@ -108,8 +108,8 @@ returns-15 c = rw c.enum-told12.given.1
 returns-16 : tie.Need-returns-16
 returns-16 c = rw c.enum-told13.given.1
 
-pub begins-spec : {M : Type 1} → statement M
-begins-spec =
+pub begins_spec : {M : Type 1} → statement M
+begins_spec =
     tie.close
     (tie.spec
     enum_told

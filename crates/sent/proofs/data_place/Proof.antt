@@ -15,5 +15,5 @@ returns c = rw c.enum_told.given.1
 returns-2 : tie.Need-returns-2
 returns-2 c = rw c.enum-told2.given.1
 
-pub data-place-spec : {M : Type 1} → statement M
-data-place-spec = tie.close (tie.spec enum_told enum-told-2 returns returns-2)
+pub data_place_spec : {M : Type 1} → statement M
+data_place_spec = tie.close (tie.spec enum_told enum-told-2 returns returns-2)

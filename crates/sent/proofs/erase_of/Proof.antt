@@ -1,6 +1,6 @@
 -- `sent::erase_of` meets its contract: the base is that of the unit that holds the place.
 use borrow.Author.Rules.{rules}
-use Rattle.paper.specs.Erase.{eraseOf}
+use Rattle.paper.specs.Erase.{erase_of}
 use Rattle.sent.proofs.erase_of.Statement.{statement}
 use Rattle.sent.proofs.erase_of.Tie as tie
 
@@ -14,9 +14,9 @@ unit-base-requires : tie.Need-unit-base-requires
 unit-base-requires c κs = search rules
 
 returns : tie.Need-returns
-unfolding eraseOf
+unfolding erase_of
 returns c = rw (c.unit-base.ensures, c.before.IsPlace-in.ensures, c.before.before.unit-memory.ensures)
 
-pub erase-of-spec : {M : Type 1} → statement M
-erase-of-spec =
+pub erase_of_spec : {M : Type 1} → statement M
+erase_of_spec =
     tie.close (tie.spec unit-memory-requires place-in-requires unit-base-requires returns)

@@ -18,5 +18,5 @@ returns c = search rules
 returns-2 : tie.Need-returns-2
 returns-2 c = rw (c.before.enum-told2.given.1, c.byte_at.ensures)
 
-pub fourth-ok-spec : {M : Type 1} → statement M
-fourth-ok-spec = tie.close (tie.spec enum_told enum-told-2 byte-at-requires returns returns-2)
+pub fourth_ok_spec : {M : Type 1} → statement M
+fourth_ok_spec = tie.close (tie.spec enum_told enum-told-2 byte-at-requires returns returns-2)

@@ -17,5 +17,5 @@ lesser-requires c κs = search rules
 returns-2 : tie.Need-returns-2
 returns-2 c = simp length-drop (omega (arith, c.before.before.data-place.ensures, c.before.if1.false, c.lesser.ensures))
 
-pub kept-count-spec : {M : Type 1} → statement M
-kept-count-spec = tie.close (tie.spec data-place-requires returns lesser-requires returns-2)
+pub kept_count_spec : {M : Type 1} → statement M
+kept_count_spec = tie.close (tie.spec data-place-requires returns lesser-requires returns-2)

@@ -15,5 +15,5 @@ either-requires-3 c κs = search rules
 returns : tie.Need-returns
 returns c = cc
 
-pub names-row-spec : {M : Type 1} → statement M
-names-row-spec = tie.close (tie.spec either-requires either-requires-2 either-requires-3 returns)
+pub names_row_spec : {M : Type 1} → statement M
+names_row_spec = tie.close (tie.spec either-requires either-requires-2 either-requires-3 returns)

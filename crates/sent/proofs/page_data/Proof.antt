@@ -12,5 +12,5 @@ write-page-data-requires c κs = search rules
 returns : tie.Need-returns
 returns c = c.before.write-page-data.ensures
 
-pub page-data-spec : {M : Type 1} → statement M
-page-data-spec = tie.close (tie.spec slice-aggregate-write-page-data write-page-data-requires returns)
+pub page_data_spec : {M : Type 1} → statement M
+page_data_spec = tie.close (tie.spec slice-aggregate-write-page-data write-page-data-requires returns)

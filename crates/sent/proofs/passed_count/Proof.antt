@@ -24,6 +24,6 @@ returns-2 c =
     let e = simp length-drop at c.kept-count.ensures in
     simp length-drop (omega (arith, c.before.before.data-place.ensures, c.before.if1.false, e))
 
-pub passed-count-spec : {M : Type 1} → statement M
-passed-count-spec =
+pub passed_count_spec : {M : Type 1} → statement M
+passed_count_spec =
     tie.close (tie.spec data-place-requires returns kept-count-requires sub-result returns-2)

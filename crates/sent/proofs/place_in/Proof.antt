@@ -1,6 +1,6 @@
 -- `sent::place_in` meets its contract: each arm is a clause of the definition.
 use borrow.Author.Rules.{rules}
-use Rattle.paper.specs.Address.{rowPlace}
+use Rattle.paper.specs.Address.{row_place}
 use Rattle.sent.proofs.place_in.Statement.{statement}
 use Rattle.sent.proofs.place_in.Tie as tie
 
@@ -23,14 +23,14 @@ add-result : tie.Need-overflow-add-result
 add-result c = search rules
 
 returns : tie.Need-returns
-returns c = rw c.before.enum_told.given.1 c.address-in.ensures
+returns c = rw c.before.enum_told.given.1 c.address_in_lem.ensures
 
 returns-2 : tie.Need-returns-2
-unfolding rowPlace
+unfolding row_place
 returns-2 c = rw (c.before.before.enum-told2.given.1, c.before.row-base.ensures, c.row-byte.ensures)
 
-pub place-in-spec : {M : Type 1} → statement M
-place-in-spec =
+pub place_in_spec : {M : Type 1} → statement M
+place_in_spec =
     tie.close
     (tie.spec
     enum_told

@@ -27,8 +27,8 @@ returns : tie.Need-returns
 unfolding program_of
 returns c = rw (c.before.page-place.ensures, place_of, c.kept-count.ensures, c.before.before.passed-count.ensures, c.before.before.before.IsPlace-in.ensures)
 
-pub program-of-spec : {M : Type 1} → statement M
-program-of-spec =
+pub program_of_spec : {M : Type 1} → statement M
+program_of_spec =
     tie.close
     (tie.spec
     place-in-requires

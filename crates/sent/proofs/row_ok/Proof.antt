@@ -1,5 +1,5 @@
 -- `sent::row_ok` meets its contract: the tests are the definition's.
-use Rattle.paper.proofs.Addresses.{row-at-le}
+use Rattle.paper.proofs.Addresses.{row_at_le}
 use Rattle.paper.specs.Address.{row_ok}
 use borrow.Author.Rules.{rules}
 use native.Mathlib.Omega.{arith}
@@ -16,7 +16,7 @@ byte-at-requires : tie.Need-byte-at-requires
 byte-at-requires c κs = search rules
 
 add-byte-at : tie.Need-overflow-add-byte-at
-add-byte-at c = omega (arith, c.before.before.row_at.ensures, row-at-le c.before.before.before.before.args.form)
+add-byte-at c = omega (arith, c.before.before.row_at.ensures, row_at_le c.before.before.before.before.args.form)
 
 byte-at-requires-2 : tie.Need-byte-at-requires-2
 byte-at-requires-2 c κs = search rules
@@ -34,8 +34,8 @@ returns : tie.Need-returns
 unfolding row_ok
 returns c = rw (c.both2.ensures, c.before.both.ensures, c.before.before.names-row.ensures, c.before.before.before.byte-at2.ensures, c.before.before.before.before.byte_at.ensures, c.before.before.before.before.before.fourth-ok.ensures, c.before.before.before.before.before.before.row_at.ensures)
 
-pub row-ok-spec : {M : Type 1} → statement M
-row-ok-spec =
+pub row_ok_spec : {M : Type 1} → statement M
+row_ok_spec =
     tie.close
     (tie.spec
     row-at-requires

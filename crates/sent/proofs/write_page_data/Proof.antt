@@ -2,9 +2,9 @@
 use Prim.Native.Nat.{◌+◌}
 use mathlib.Core.Path.{◌∙◌}
 use lib.ListN.{length-drop}
-use Rattle.paper.specs.Address.{addressCount}
-use Rattle.paper.specs.Program.{noData}
-use Rattle.sent.proofs.PageCopied.{page-copied}
+use Rattle.paper.specs.Address.{address_count}
+use Rattle.paper.specs.Program.{no_data}
+use Rattle.sent.proofs.PageCopied.{page_copied}
 use borrow.Author.Rules.{rules}
 use borrow.Author.Tests.{eq-eqb, ne_eqb}
 use native.Mathlib.Omega.{arith}
@@ -53,16 +53,16 @@ same_length : tie.Need-same-length
 same_length c = search rules
 
 returns-2 : tie.Need-returns-2
-unfolding noData
+unfolding no_data
 returns-2 c =
     let a = c.before.before.before.before.before.before.before.before.before.before.before.before.before.before.before.before.args in
     let l = c.before.before.before.before.before.before.before.before.before.before.before.before.before.if1.false in
     rw (eq-eqb _ _ l)
     (c.before.before.copy.ensures.1
-    ∙ rw (c.before.before.before.before.before.before.before.before.before.before.before.fill.ensures, l) (page-copied (1 + addressCount a.form) a.input.now _ _ _ (c.before.before.before.before.before.before.before.lesser.ensures ∙ rw c.before.before.before.before.before.before.before.before.data-place.ensures) c.before.before.before.before.before.before.passed-count.ensures c.before.before.before.before.before.kept-count.ensures))
+    ∙ rw (c.before.before.before.before.before.before.before.before.before.before.before.fill.ensures, l) (page_copied (1 + address_count a.form) a.input.now _ _ _ (c.before.before.before.before.before.before.before.lesser.ensures ∙ rw c.before.before.before.before.before.before.before.before.data-place.ensures) c.before.before.before.before.before.before.passed-count.ensures c.before.before.before.before.before.kept-count.ensures))
 
-pub write-page-data-spec : {M : Type 1} → statement M
-write-page-data-spec =
+pub write_page_data_spec : {M : Type 1} → statement M
+write_page_data_spec =
     tie.close
     (tie.spec
     returns

@@ -1,5 +1,5 @@
 -- `soundness::is_sound_idle` meets its contract: the tests that are left where the phase is idle.
-use Rattle.soundness.proofs.IdleSound.{idle-sound-as}
+use Rattle.soundness.proofs.IdleSound.{idle_sound_as}
 use mathlib.Core.Path.{sym}
 use borrow.Author.Rules.{rules}
 use Rattle.soundness.proofs.is_sound_idle.Statement.{statement}
@@ -23,10 +23,10 @@ both-requires-2 c κs = search rules
 returns : tie.Need-returns
 returns c =
     let a = c.before.before.before.before.before.args in
-    rw (c.both2.ensures, c.before.both.ensures, c.before.before.registers-ok.ensures, c.before.before.before.Size-ok.ensures) (sym (idle-sound-as a.part a.empty))
+    rw (c.both2.ensures, c.before.both.ensures, c.before.before.registers-ok.ensures, c.before.before.before.Size-ok.ensures) (sym (idle_sound_as a.part a.empty))
 
-pub is-sound-idle-spec : {M : Type 1} → statement M
-is-sound-idle-spec =
+pub is_sound_idle_spec : {M : Type 1} → statement M
+is_sound_idle_spec =
     tie.close
     (tie.spec
     cast-size-ok

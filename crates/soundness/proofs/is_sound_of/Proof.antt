@@ -1,5 +1,5 @@
 -- `soundness::is_sound_of` meets its contract: part and phase are asked all, and then page data.
-use Rattle.paper.specs.Soundness.{partSound, pageOk, soundOf}
+use Rattle.paper.specs.Soundness.{part_sound, page_ok, sound_of}
 use borrow.Author.Rules.{rules}
 use Rattle.soundness.proofs.is_sound_of.Statement.{statement}
 use Rattle.soundness.proofs.is_sound_of.Tie as tie
@@ -47,11 +47,11 @@ both-requires-5 : tie.Need-both-requires-5
 both-requires-5 c κs = search rules
 
 returns : tie.Need-returns
-unfolding soundOf partSound pageOk
-returns c = rw (c.both5.ensures, c.before.zero-from.ensures, c.before.before.kept_in.ensures, c.before.before.before.both4.ensures, c.before.before.before.before.both3.ensures, c.before.before.before.before.before.both2.ensures, c.before.before.before.before.before.before.both.ensures, c.before.before.before.before.before.before.before.registers-ok.ensures, c.before.before.before.before.before.before.before.before.phase-ok.ensures, c.before.before.before.before.before.before.before.before.before.latch-ok.ensures, c.before.before.before.before.before.before.before.before.before.before.either.ensures, c.before.before.before.before.before.before.before.before.before.before.before.before.is-idle.ensures, c.before.before.before.before.before.before.before.before.before.before.before.before.before.Size-ok.ensures)
+unfolding sound_of part_sound page_ok
+returns c = rw (c.both5.ensures, c.before.zero-from.ensures, c.before.before.kept_in.ensures, c.before.before.before.both4.ensures, c.before.before.before.before.both3.ensures, c.before.before.before.before.before.both2.ensures, c.before.before.before.before.before.before.both.ensures, c.before.before.before.before.before.before.before.registers-ok.ensures, c.before.before.before.before.before.before.before.before.phase_ok_lem.ensures, c.before.before.before.before.before.before.before.before.before.latch_ok_lem.ensures, c.before.before.before.before.before.before.before.before.before.before.either.ensures, c.before.before.before.before.before.before.before.before.before.before.before.before.is-idle.ensures, c.before.before.before.before.before.before.before.before.before.before.before.before.before.Size-ok.ensures)
 
-pub is-sound-of-spec : {M : Type 1} → statement M
-is-sound-of-spec =
+pub is_sound_of_spec : {M : Type 1} → statement M
+is_sound_of_spec =
     tie.close
     (tie.spec
     cast-size-ok

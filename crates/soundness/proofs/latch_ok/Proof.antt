@@ -33,8 +33,8 @@ returns-3 c = rw (c.before.before.before.phase.given.1, c.either.ensures, c.befo
 returns-4 : tie.Need-returns-4
 returns-4 c = search rules
 
-pub latch-ok-spec : {M : Type 1} → statement M
-latch-ok-spec =
+pub latch_ok_spec : {M : Type 1} → statement M
+latch_ok_spec =
     tie.close
     (tie.spec
     enum_told

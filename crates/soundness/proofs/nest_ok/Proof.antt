@@ -33,8 +33,8 @@ both-requires-4 c κs = search rules
 returns : tie.Need-returns
 returns c = rw (c.both4.ensures, c.before.both3.ensures, c.before.before.both2.ensures, c.before.before.before.both.ensures, c.before.before.before.before.Outside-of.ensures, c.before.before.before.before.before.can-suspend2.ensures, c.before.before.before.before.before.before.is-program.ensures, c.before.before.before.before.before.before.before.can-suspend.ensures, c.before.before.before.before.before.before.before.before.is-erase.ensures)
 
-pub nest-ok-spec : {M : Type 1} → statement M
-nest-ok-spec =
+pub nest_ok_spec : {M : Type 1} → statement M
+nest_ok_spec =
     tie.close
     (tie.spec
     is-erase-requires

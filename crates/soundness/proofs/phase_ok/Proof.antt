@@ -54,8 +54,8 @@ returns-3 c = rw (c.before.before.before.before.phase2.given.1, c.both.ensures, 
 returns-4 : tie.Need-returns-4
 returns-4 c = rw (c.before.before.before.before.before.before.phase3.given.1, c.both3.ensures, c.before.both2.ensures, c.before.before.operation-ok4.ensures, c.before.before.before.operation-ok3.ensures, c.before.before.before.before.nest-ok.ensures)
 
-pub phase-ok-spec : {M : Type 1} → statement M
-phase-ok-spec =
+pub phase_ok_spec : {M : Type 1} → statement M
+phase_ok_spec =
     tie.close
     (tie.spec
     enum_told

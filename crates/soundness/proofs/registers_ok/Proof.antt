@@ -15,8 +15,8 @@ both-requires c κs = search rules
 returns : tie.Need-returns
 returns c = rw (c.both.ensures, c.before.large-ok.ensures, c.before.before.bits-ok.ensures)
 
-pub registers-ok-spec : {M : Type 1} → statement M
-registers-ok-spec =
+pub registers_ok_spec : {M : Type 1} → statement M
+registers_ok_spec =
     tie.close
     (tie.spec
     bits-ok-requires

@@ -354,8 +354,8 @@ returns-38 c = rw c.before.enum-told38.given.1 c.line38.ensures
 returns-39 : tie.Need-returns-39
 returns-39 c = rw c.before.enum-told39.given.1 c.line39.ensures
 
-pub columns-of-spec : {M : Type 1} → statement M
-columns-of-spec =
+pub columns_of_spec : {M : Type 1} → statement M
+columns_of_spec =
     tie.close
     (tie.spec
     enum_told

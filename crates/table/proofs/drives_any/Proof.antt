@@ -63,8 +63,8 @@ returns-9 c = search rules
 returns-10 : tie.Need-returns-10
 returns-10 c = search rules
 
-pub drives-any-spec : {M : Type 1} → statement M
-drives-any-spec =
+pub drives_any_spec : {M : Type 1} → statement M
+drives_any_spec =
     tie.close
     (tie.spec
     enum_told

@@ -15,5 +15,5 @@ returns c = rw (← c.before.before.drives-any.ensures, c.before.if1.true) c.les
 returns-2 : tie.Need-returns-2
 returns-2 c = search rules
 
-pub first-driven-spec : {M : Type 1} → statement M
-first-driven-spec = tie.close (tie.spec drives-any-requires lesser-requires returns returns-2)
+pub first_driven_spec : {M : Type 1} → statement M
+first_driven_spec = tie.close (tie.spec drives-any-requires lesser-requires returns returns-2)

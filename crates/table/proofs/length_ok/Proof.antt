@@ -15,5 +15,5 @@ returns c = rw c.before.length.given.1
 returns-2 : tie.Need-returns-2
 returns-2 c = rw c.before.length2.given.1
 
-pub length-ok-spec : {M : Type 1} → statement M
-length-ok-spec = tie.close (tie.spec enum-known-length enum-known-length-2 returns returns-2)
+pub length_ok_spec : {M : Type 1} → statement M
+length_ok_spec = tie.close (tie.spec enum-known-length enum-known-length-2 returns returns-2)

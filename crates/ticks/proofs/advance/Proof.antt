@@ -28,8 +28,8 @@ returns-2 c = rw c.before.op2.given.1
 returns-3 : tie.Need-returns-3
 returns-3 c = rw c.before.op3.given.1
 
-pub advance-spec : {M : Type 1} → statement M
-advance-spec =
+pub advance_spec : {M : Type 1} → statement M
+advance_spec =
     tie.close
     (tie.spec
     enum-known-op

@@ -16,5 +16,5 @@ advance-requires c κs = search rules
 returns-2 : tie.Need-returns-2
 returns-2 c = rw (← c.before.before.requires.1, ne_eqb _ _ c.before.if1.false, c.advance.ensures)
 
-pub change-after-spec : {M : Type 1} → statement M
-change-after-spec = tie.close (tie.spec finish-requires returns advance-requires returns-2)
+pub change_after_spec : {M : Type 1} → statement M
+change_after_spec = tie.close (tie.spec finish-requires returns advance-requires returns-2)

@@ -37,8 +37,8 @@ returns c =
 returns-2 : tie.Need-returns-2
 returns-2 c = rw (← c.before.erase-within.ensures, c.if1.false)
 
-pub erase-spec : {M : Type 1} → statement M
-erase-spec =
+pub erase_spec : {M : Type 1} → statement M
+erase_spec =
     tie.close
     (tie.spec
     erase-within-requires

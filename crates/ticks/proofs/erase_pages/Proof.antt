@@ -4,13 +4,13 @@ use mathlib.Core.Path.{◌≡◌, refl, ap, ◌∙◌}
 use native.Mathlib.Numerals.{add-one}
 use native.Mathlib.Omega.{arith}
 use lib.ListN.{length}
-use Rattle.ticks.specs.OneMemory.{pagesErased}
-use Rattle.ticks.proofs.OneMemory.{pages-length}
+use Rattle.ticks.specs.OneMemory.{pages_erased}
+use Rattle.ticks.proofs.OneMemory.{pages_length}
 use Rattle.ticks.proofs.erase_pages.Statement.{statement}
 use Rattle.ticks.proofs.erase_pages.Tie as tie
 
 abbrev invariant-loop : tie.invariant-loop
-invariant-loop memory₀ from count i₀ memory i = (memory ≡ pagesErased i from memory₀) × (i ≤ count)
+invariant-loop memory₀ from count i₀ memory i = (memory ≡ pages_erased i from memory₀) × (i ≤ count)
 
 abbrev decreases-loop : tie.decreases-loop
 decreases-loop memory₀ from count i₀ memory i = count - i
@@ -36,12 +36,12 @@ loop-less c = omega arith
 loop-again : tie.Need-loop-preserved invariant-loop decreases-loop
 loop-again c =
     let l = c.before.before.before.before.before.loop in
-    (c.before.before.erase-page.ensures ∙ rw (l.invariant.0, add-one), omega arith)
+    (c.before.before.erase_page.ensures ∙ rw (l.invariant.0, add-one), omega arith)
 
 same_length : tie.Need-same-length invariant-loop decreases-loop
 same_length c =
     let l = c.before.loop in
-    ap length l.invariant.0 ∙ pages-length l.i c.before.before.before.args.from c.before.before.before.args.memory.now
+    ap length l.invariant.0 ∙ pages_length l.i c.before.before.before.args.from c.before.before.before.args.memory.now
 
 returns : tie.Need-returns invariant-loop decreases-loop
 returns c =
@@ -49,8 +49,8 @@ returns c =
     let e : l.i ≡ c.before.before.before.args.count = omega arith in
     l.invariant.0 ∙ rw e
 
-pub erase-pages-spec : {M : Type 1} → statement M
-erase-pages-spec =
+pub erase_pages_spec : {M : Type 1} → statement M
+erase_pages_spec =
     tie.close
     (tie.spec
     invariant-loop

@@ -1,5 +1,5 @@
 -- `ticks::narrow_bytes` meets its contract: the page is lent on, and goes back to its place.
-use Rattle.ticks.proofs.OneMemory.{narrowed-back}
+use Rattle.ticks.proofs.OneMemory.{narrowed_back}
 use Prim.Native.Nat.{◌+◌, ◌-◌}
 use borrow.Author.Rules.{rules}
 use native.Mathlib.Omega.{arith}
@@ -27,10 +27,10 @@ same_length c = search rules
 returns : tie.Need-returns
 returns c =
     let a = c.before.before.before.before.before.before.args in
-    narrowed-back a.base a.start a.done a.kept.now a.memory.now c.before.before.before.before.before.before.requires.1 a.count (a.base + 256 - a.base) (omega arith) _ c.before.before.narrow-page.ensures
+    narrowed_back a.base a.start a.done a.kept.now a.memory.now c.before.before.before.before.before.before.requires.1 a.count (a.base + 256 - a.base) (omega arith) _ c.before.before.narrow-page.ensures
 
-pub narrow-bytes-spec : {M : Type 1} → statement M
-narrow-bytes-spec =
+pub narrow_bytes_spec : {M : Type 1} → statement M
+narrow_bytes_spec =
     tie.close
     (tie.spec
     add-end

@@ -25,7 +25,7 @@ returns c =
 returns-2 : tie.Need-returns-2
 returns-2 c = rw (← c.before.program-within.ensures, c.if1.false)
 
-pub program-spec : {M : Type 1} → statement M
-program-spec =
+pub program_spec : {M : Type 1} → statement M
+program_spec =
     tie.close
     (tie.spec program-within-requires narrow-bytes-requires same_length returns returns-2)

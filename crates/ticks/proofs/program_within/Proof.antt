@@ -6,7 +6,7 @@ use lib.Dec.{leb}
 use native.Mathlib.Omega.{arith}
 use borrow.Author.Rules.{rules}
 use Rattle.words.specs.Logic.{◌and◌}
-use Rattle.words.proofs.Tests.{same-leb}
+use Rattle.words.proofs.Tests.{same_leb}
 use Rattle.ticks.proofs.program_within.Statement.{statement}
 use Rattle.ticks.proofs.program_within.Tie as tie
 
@@ -22,8 +22,8 @@ both-requires c κs = search rules
 returns : tie.Need-returns
 returns c =
     let a = c.before.args in
-    let e : leb a.base (a.all - 256) ≡ leb (a.base + 256) a.all = same-leb a.base (a.all - 256) (a.base + 256) a.all (λ h. omega (arith, c.before.requires.1)) (λ h. omega arith) in
+    let e : leb a.base (a.all - 256) ≡ leb (a.base + 256) a.all = same_leb a.base (a.all - 256) (a.base + 256) a.all (λ h. omega (arith, c.before.requires.1)) (λ h. omega arith) in
     c.both.ensures ∙ ap (λ (t : Bool). leb (a.done + a.count) a.kept and t) e
 
-pub program-within-spec : {M : Type 1} → statement M
-program-within-spec = tie.close (tie.spec add-both sub-both both-requires returns)
+pub program_within_spec : {M : Type 1} → statement M
+program_within_spec = tie.close (tie.spec add-both sub-both both-requires returns)

@@ -33,8 +33,8 @@ returns-2 c = rw c.before.before.enum-told2.given.1
 returns-3 : tie.Need-returns-3
 returns-3 c = rw c.enum-told3.given.1
 
-pub register-written-spec : {M : Type 1} → statement M
-register-written-spec =
+pub register_written_spec : {M : Type 1} → statement M
+register_written_spec =
     tie.close
     (tie.spec
     enum_told

@@ -1,6 +1,6 @@
 -- `ticks::run` meets its contract: a part on which nothing runs is left as it is.
-use Rattle.ticks.proofs.OneMemory.{same-waited}
-use Rattle.ticks.specs.Waited.{ticksReached, memoryReached, tickChange}
+use Rattle.ticks.proofs.OneMemory.{same_waited}
+use Rattle.ticks.specs.Waited.{ticks_reached, memory_reached, tick_change}
 use Rattle.paper.specs.Phases.{running}
 use Rattle.types.specs.declared.Work.TheVariants.{NoWork, At}
 use Rattle.types.specs.declared.Work.{Work}
@@ -27,7 +27,7 @@ returns : tie.Need-returns
 returns c =
     let a = c.before.before.before.before.before.before.args in
     let e : NoWork ≡ running a.phase = sym (sym c.before.before.running.ensures ∙ c.enum_told.given.1) in
-    (same-waited _ _ _ _ (ap (λ (w : Work). tickChange a.ticks w a.part a.phase) e) (ap (λ (w : Work). ticksReached a.ticks w a.part.blocks) e), ap (λ (w : Work). memoryReached Array a.ticks w a.part.blocks a.page.now (length a.array.now) (length a.rows.now) a.array.now) e, ap (λ (w : Work). memoryReached Rows a.ticks w a.part.blocks a.page.now (length a.array.now) (length a.rows.now) a.rows.now) e)
+    (same_waited _ _ _ _ (ap (λ (w : Work). tick_change a.ticks w a.part a.phase) e) (ap (λ (w : Work). ticks_reached a.ticks w a.part.blocks) e), ap (λ (w : Work). memory_reached Array a.ticks w a.part.blocks a.page.now (length a.array.now) (length a.rows.now) a.array.now) e, ap (λ (w : Work). memory_reached Rows a.ticks w a.part.blocks a.page.now (length a.array.now) (length a.rows.now) a.rows.now) e)
 
 same_length : tie.Need-same-length
 same_length c = search rules

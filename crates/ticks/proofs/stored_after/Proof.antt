@@ -24,8 +24,8 @@ returns-2 c = search rules
 returns-3 : tie.Need-returns-3
 returns-3 c = rw c.before.before.op.given.1 c.register-written.ensures
 
-pub stored-after-spec : {M : Type 1} → statement M
-stored-after-spec =
+pub stored_after_spec : {M : Type 1} → statement M
+stored_after_spec =
     tie.close
     (tie.spec
     enum_told

@@ -2,8 +2,8 @@
 use mathlib.Core.Path.{◌≡◌, sym, ◌∙◌}
 use lib.ListN.{length}
 use Rattle.types.specs.declared.Memory.TheVariants.{Array, Rows}
-use Rattle.paper.specs.Sizes.{pageBytes}
-use Rattle.ticks.proofs.Waited.{ticked-told, memory-told}
+use Rattle.paper.specs.Sizes.{page_bytes}
+use Rattle.ticks.proofs.Waited.{ticked_told, memory_told}
 use borrow.Author.Rules.{rules}
 use Rattle.ticks.proofs.tick.Statement.{statement}
 use Rattle.ticks.proofs.tick.Tie as tie
@@ -45,11 +45,11 @@ returns c =
     let w = c.before.before.before.before.before.before.before.tick-part.ensures in
     let k = length a.array.now in
     let r = length a.rows.now in
-    let l : length a.state.page ≡ pageBytes = sym (slice-aggregate-tick-part c.before.before.before.before.before.before.before.before.before.before) in
-    (rw (c.apply.ensures, w.0, f) (ticked-told a.state k r a.ticks), (w.1.0 ∙ rw f (memory-told a.state k r a.ticks Array a.array.now l), w.1.1 ∙ rw f (memory-told a.state k r a.ticks Rows a.rows.now l)))
+    let l : length a.state.page ≡ page_bytes = sym (slice-aggregate-tick-part c.before.before.before.before.before.before.before.before.before.before) in
+    (rw (c.apply.ensures, w.0, f) (ticked_told a.state k r a.ticks), (w.1.0 ∙ rw f (memory_told a.state k r a.ticks Array a.array.now l), w.1.1 ∙ rw f (memory_told a.state k r a.ticks Rows a.rows.now l)))
 
-pub tick-spec : {M : Type 1} → statement M
-tick-spec =
+pub tick_spec : {M : Type 1} → statement M
+tick_spec =
     tie.close
     (tie.spec
     slice-aggregate-is-sound-of

@@ -2,9 +2,9 @@
 use mathlib.Core.Path.{sym, ap, ◌∙◌}
 use borrow.Author.Tests.{not-true, not-false}
 use Rattle.record_bytes.specs.declared.Found.{Found}
-use Rattle.record_bytes.specs.Read.{recordIn}
-use Rattle.record_bytes.proofs.Back.{held-length}
-use Rattle.ticks.proofs.InBytes.{unheld-worked, unheld-tick-bytes, unheld-memory, told-worked, told-bytes, told-memory}
+use Rattle.record_bytes.specs.Read.{record_in}
+use Rattle.record_bytes.proofs.Back.{held_length}
+use Rattle.ticks.proofs.InBytes.{unheld_worked, unheld_tick_bytes, unheld_memory, told_worked, told_bytes, told_memory}
 use borrow.Author.Rules.{rules}
 use native.Mathlib.Omega.{arith}
 use Rattle.ticks.proofs.tick_bytes.Statement.{statement}
@@ -21,9 +21,9 @@ same_length c = search rules
 
 returns : tie.Need-returns
 returns c =
-    let h = recordIn c.before.before.before.before.before.before.before.before.args.bytes.now in
+    let h = record_in c.before.before.before.before.before.before.before.before.args.bytes.now in
     let n = ap (λ (x : Found). x.ok) (sym c.before.before.before.read.ensures) ∙ not-true _ c.before.if1.true in
-    (unheld-worked h n _ _ _ _ c.rows-number-or.ensures, (unheld-tick-bytes h n _ _ _ _, (unheld-memory h n _ _ _ _ _, unheld-memory h n _ _ _ _ _)))
+    (unheld_worked h n _ _ _ _ c.rows-number-or.ensures, (unheld_tick_bytes h n _ _ _ _, (unheld_memory h n _ _ _ _ _, unheld_memory h n _ _ _ _ _)))
 
 running-requires : tie.Need-running-requires
 running-requires c κs = search rules
@@ -35,7 +35,7 @@ part-page-start : tie.Need-slice-bounds-page-start
 part-page-start c = search rules
 
 part-page-end : tie.Need-slice-bounds-page-end
-part-page-end c = omega (arith, held-length c.before.before.before.before.before.before.before.before.before.before.args.bytes.now (ap (λ (x : Found). x.ok) (sym c.before.before.before.before.before.read.ensures) ∙ not-false _ c.before.before.before.if1.false))
+part-page-end c = omega (arith, held_length c.before.before.before.before.before.before.before.before.before.before.args.bytes.now (ap (λ (x : Found). x.ok) (sym c.before.before.before.before.before.read.ensures) ∙ not-false _ c.before.before.before.if1.false))
 
 tick-part-requires : tie.Need-tick-part-requires
 tick-part-requires c κs = search rules
@@ -62,10 +62,10 @@ returns-2 c =
     let e = ap (λ (x : Found). x.ok) (sym f.ensures) ∙ not-false _ c.before.before.before.before.before.before.before.before.before.before.before.before.before.before.before.before.if1.false in
     let w = c.before.before.before.before.before.before.before.before.before.before.before.before.before.before.running in
     let u = c.before.before.before.before.before.before.before.before.before.tick-part.ensures in
-    (told-worked bs e f.result f.ensures _ _ _ _ u.0 w.result w.ensures, (c.before.before.write-change.ensures ∙ told-bytes bs e f.result f.ensures _ _ _ _ u.0, (told-memory bs e f.result f.ensures _ _ _ _ _ _ u.1.0, told-memory bs e f.result f.ensures _ _ _ _ _ _ u.1.1)))
+    (told_worked bs e f.result f.ensures _ _ _ _ u.0 w.result w.ensures, (c.before.before.write-change.ensures ∙ told_bytes bs e f.result f.ensures _ _ _ _ u.0, (told_memory bs e f.result f.ensures _ _ _ _ _ _ u.1.0, told_memory bs e f.result f.ensures _ _ _ _ _ _ u.1.1)))
 
-pub tick-bytes-spec : {M : Type 1} → statement M
-tick-bytes-spec =
+pub tick_bytes_spec : {M : Type 1} → statement M
+tick_bytes_spec =
     tie.close
     (tie.spec
     read-requires

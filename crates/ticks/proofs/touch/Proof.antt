@@ -3,8 +3,8 @@ use mathlib.Core.Path.{◌≡◌, sym, ◌∙◌}
 use lib.ListN.{length}
 use borrow.Author.Rules.{rules}
 use Rattle.types.specs.declared.Memory.TheVariants.{Array, Rows}
-use Rattle.paper.specs.Erase.{memoryOf}
-use Rattle.ticks.proofs.OneMemory.{own-erase, other-erase, own-program, other-program, ran-write}
+use Rattle.paper.specs.Erase.{memory_of}
+use Rattle.ticks.proofs.OneMemory.{own_erase, other_erase, own_program, other_program, ran_write}
 use Rattle.ticks.proofs.touch.Statement.{statement}
 use Rattle.ticks.proofs.touch.Tie as tie
 
@@ -57,8 +57,8 @@ returns c =
     let o = c.before.before.before.before.before.before.before.op.given in
     let v = o.0 in
     let m : v.0 ≡ Array = c.before.before.before.before.enum_told.given.1 in
-    let yes = own-program Array a.count a.kept.now (length a.array.now) (length a.rows.now) a.array.now v.0 v.1.0 v.1.1.0 v.1.1.1.0 v.1.1.1.1.0 m _ c.before.before.program.ensures in
-    let no = other-program Rows a.count a.kept.now (length a.array.now) (length a.rows.now) a.rows.now v.0 v.1.0 v.1.1.0 v.1.1.1.0 v.1.1.1.1.0 (rw m) in
+    let yes = own_program Array a.count a.kept.now (length a.array.now) (length a.rows.now) a.array.now v.0 v.1.0 v.1.1.0 v.1.1.1.0 v.1.1.1.1.0 m _ c.before.before.program.ensures in
+    let no = other_program Rows a.count a.kept.now (length a.array.now) (length a.rows.now) a.rows.now v.0 v.1.0 v.1.1.0 v.1.1.1.0 v.1.1.1.1.0 (rw m) in
     rw o.1 (yes, no)
 
 same-length-2 : tie.Need-same-length-2
@@ -70,8 +70,8 @@ returns-2 c =
     let o = c.before.before.before.before.before.before.before.op.given in
     let v = o.0 in
     let m : v.0 ≡ Rows = c.before.before.before.before.enum-told2.given.1 in
-    let yes = own-program Rows a.count a.kept.now (length a.array.now) (length a.rows.now) a.rows.now v.0 v.1.0 v.1.1.0 v.1.1.1.0 v.1.1.1.1.0 m _ c.before.before.program2.ensures in
-    let no = other-program Array a.count a.kept.now (length a.array.now) (length a.rows.now) a.array.now v.0 v.1.0 v.1.1.0 v.1.1.1.0 v.1.1.1.1.0 (rw m) in
+    let yes = own_program Rows a.count a.kept.now (length a.array.now) (length a.rows.now) a.rows.now v.0 v.1.0 v.1.1.0 v.1.1.1.0 v.1.1.1.1.0 m _ c.before.before.program2.ensures in
+    let no = other_program Array a.count a.kept.now (length a.array.now) (length a.rows.now) a.array.now v.0 v.1.0 v.1.1.0 v.1.1.1.0 v.1.1.1.1.0 (rw m) in
     rw o.1 (no, yes)
 
 same-length-3 : tie.Need-same-length-3
@@ -82,9 +82,9 @@ returns-3 c =
     let a = c.before.before.before.before.before.before.before.before.before.before.before.before.before.args in
     let o = c.before.before.before.before.before.before.before.before.op2.given in
     let v = o.0 in
-    let m : memoryOf v.0 ≡ Array = sym c.before.before.before.before.before.before.unit-memory.ensures ∙ c.before.before.before.before.enum-told3.given.1 in
-    let yes = own-erase Array a.count a.kept.now (length a.array.now) (length a.rows.now) a.array.now v.0 v.1.0 v.1.1.0 m _ c.before.before.erase.ensures in
-    let no = other-erase Rows a.count a.kept.now (length a.array.now) (length a.rows.now) a.rows.now v.0 v.1.0 v.1.1.0 (rw m) in
+    let m : memory_of v.0 ≡ Array = sym c.before.before.before.before.before.before.unit-memory.ensures ∙ c.before.before.before.before.enum-told3.given.1 in
+    let yes = own_erase Array a.count a.kept.now (length a.array.now) (length a.rows.now) a.array.now v.0 v.1.0 v.1.1.0 m _ c.before.before.erase.ensures in
+    let no = other_erase Rows a.count a.kept.now (length a.array.now) (length a.rows.now) a.rows.now v.0 v.1.0 v.1.1.0 (rw m) in
     rw o.1 (yes, no)
 
 same-length-4 : tie.Need-same-length-4
@@ -95,19 +95,19 @@ returns-4 c =
     let a = c.before.before.before.before.before.before.before.before.before.before.before.before.before.args in
     let o = c.before.before.before.before.before.before.before.before.op2.given in
     let v = o.0 in
-    let m : memoryOf v.0 ≡ Rows = sym c.before.before.before.before.before.before.unit-memory.ensures ∙ c.before.before.before.before.enum-told4.given.1 in
-    let yes = own-erase Rows a.count a.kept.now (length a.array.now) (length a.rows.now) a.rows.now v.0 v.1.0 v.1.1.0 m _ c.before.before.erase2.ensures in
-    let no = other-erase Array a.count a.kept.now (length a.array.now) (length a.rows.now) a.array.now v.0 v.1.0 v.1.1.0 (rw m) in
+    let m : memory_of v.0 ≡ Rows = sym c.before.before.before.before.before.before.unit-memory.ensures ∙ c.before.before.before.before.enum-told4.given.1 in
+    let yes = own_erase Rows a.count a.kept.now (length a.array.now) (length a.rows.now) a.rows.now v.0 v.1.0 v.1.1.0 m _ c.before.before.erase2.ensures in
+    let no = other_erase Array a.count a.kept.now (length a.array.now) (length a.rows.now) a.array.now v.0 v.1.0 v.1.1.0 (rw m) in
     rw o.1 (no, yes)
 
 returns-5 : tie.Need-returns-5
 returns-5 c =
     let a = c.before.before.before.before.before.args in
     let o = c.enum-told5.given in
-    rw o.1 (sym (ran-write Array a.kept.now a.array.now o.0.0 o.0.1.0 a.count), sym (ran-write Rows a.kept.now a.rows.now o.0.0 o.0.1.0 a.count))
+    rw o.1 (sym (ran_write Array a.kept.now a.array.now o.0.0 o.0.1.0 a.count), sym (ran_write Rows a.kept.now a.rows.now o.0.0 o.0.1.0 a.count))
 
-pub touch-spec : {M : Type 1} → statement M
-touch-spec =
+pub touch_spec : {M : Type 1} → statement M
+touch_spec =
     tie.close
     (tie.spec
     enum-known-op

@@ -1,8 +1,8 @@
 -- `ticks::work` meets its contract: as many ticks of the operation as find something to do.
-use Rattle.ticks.proofs.OneMemory.{same-waited}
-use Rattle.ticks.specs.OneMemory.{ranWithin}
-use Rattle.ticks.specs.Waited.{changeAfter}
-use Rattle.paper.specs.Operations.{ticksLeft}
+use Rattle.ticks.proofs.OneMemory.{same_waited}
+use Rattle.ticks.specs.OneMemory.{ran_within}
+use Rattle.ticks.specs.Waited.{change_after}
+use Rattle.paper.specs.Operations.{ticks_left}
 use Rattle.types.specs.declared.Memory.TheVariants.{Array, Rows}
 use lib.ListN.{length}
 use mathlib.Core.Path.{◌≡◌, ap, ◌∙◌}
@@ -43,12 +43,12 @@ returns : tie.Need-returns
 returns c =
     let a = c.before.before.before.before.before.before.before.before.before.before.before.before.before.before.before.args in
     let l = c.before.before.before.before.before.before.before.before.lesser2 in
-    let k : l.result ≡ min a.ticks (ticksLeft a.op a.part.blocks) = omega (arith, l.ensures, c.before.before.before.before.before.before.before.before.before.lesser.ensures, c.before.before.before.before.before.before.before.before.before.before.ticks-done.ensures, c.before.before.before.before.before.before.before.before.before.before.before.ticks-in-all.ensures) in
+    let k : l.result ≡ min a.ticks (ticks_left a.op a.part.blocks) = omega (arith, l.ensures, c.before.before.before.before.before.before.before.before.before.lesser.ensures, c.before.before.before.before.before.before.before.before.before.before.ticks-done.ensures, c.before.before.before.before.before.before.before.before.before.before.before.ticks-in-all.ensures) in
     let u = c.before.before.before.before.before.touch.ensures in
-    (same-waited _ _ _ _ (c.change-after.ensures ∙ ap (λ (j : ℕ). changeAfter j a.op a.part a.phase) k) k, u.0 ∙ ap (λ (j : ℕ). ranWithin Array j a.op a.page.now (length a.array.now) (length a.rows.now) a.array.now) k, u.1 ∙ ap (λ (j : ℕ). ranWithin Rows j a.op a.page.now (length a.array.now) (length a.rows.now) a.rows.now) k)
+    (same_waited _ _ _ _ (c.change-after.ensures ∙ ap (λ (j : ℕ). change_after j a.op a.part a.phase) k) k, u.0 ∙ ap (λ (j : ℕ). ran_within Array j a.op a.page.now (length a.array.now) (length a.rows.now) a.array.now) k, u.1 ∙ ap (λ (j : ℕ). ran_within Rows j a.op a.page.now (length a.array.now) (length a.rows.now) a.rows.now) k)
 
-pub work-spec : {M : Type 1} → statement M
-work-spec =
+pub work_spec : {M : Type 1} → statement M
+work_spec =
     tie.close
     (tie.spec
     ticks-in-all-requires

@@ -16,5 +16,5 @@ same_length c = search rules
 returns : tie.Need-returns
 returns c = (rw c.change-barred.ensures refl, c.before.before.before.blank.ensures)
 
-pub bar-spec : {M : Type 1} → statement M
-bar-spec = tie.close (tie.spec blank-requires change-barred-requires same_length returns)
+pub bar_spec : {M : Type 1} → statement M
+bar_spec = tie.close (tie.spec blank-requires change-barred-requires same_length returns)

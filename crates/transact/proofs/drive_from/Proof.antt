@@ -3,7 +3,7 @@ use Prim.Native.Nat.{◌-◌}
 use mathlib.Core.Path.{◌∙◌}
 use native.Mathlib.Omega.{arith}
 use borrow.Author.Rules.{rules}
-use Rattle.transact.proofs.Filled.{driven-blank}
+use Rattle.transact.proofs.Filled.{driven_blank}
 use Rattle.transact.proofs.drive_from.Statement.{statement}
 use Rattle.transact.proofs.drive_from.Tie as tie
 
@@ -34,10 +34,10 @@ returns c =
     let a = s.args in
     let m = c.before.before.before.before.before.before.before.before.lesser in
     c.before.before.drive.ensures
-    ∙ driven-blank a.output.now a.from m.result (m.result - 0) _ (omega arith) m.ensures c.before.before.before.before.before.before.blank.ensures a.source.now a.at (λ z. omega (arith, s.requires))
+    ∙ driven_blank a.output.now a.from m.result (m.result - 0) _ (omega arith) m.ensures c.before.before.before.before.before.before.blank.ensures a.source.now a.at (λ z. omega (arith, s.requires))
 
-pub drive-from-spec : {M : Type 1} → statement M
-drive-from-spec =
+pub drive_from_spec : {M : Type 1} → statement M
+drive_from_spec =
     tie.close
     (tie.spec
     lesser-requires

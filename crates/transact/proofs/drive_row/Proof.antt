@@ -44,8 +44,8 @@ returns c =
     let e : m.result - b.result ≡ min 256 (length (drop b.result xs)) = rw length-drop (omega (arith, m.ensures, b.ensures, s.requires)) in
     c.before.before.drive-from.ensures ∙ rw (e, take_min, c.before.before.before.before.before.row-byte.ensures, b.ensures)
 
-pub drive-row-spec : {M : Type 1} → statement M
-drive-row-spec =
+pub drive_row_spec : {M : Type 1} → statement M
+drive_row_spec =
     tie.close
     (tie.spec
     row-base-requires

@@ -13,5 +13,5 @@ same_length c = search rules
 returns : tie.Need-returns
 returns c = (refl, c.before.before.blank.ensures)
 
-pub ignore-spec : {M : Type 1} → statement M
-ignore-spec = tie.close (tie.spec blank-requires same_length returns)
+pub ignore_spec : {M : Type 1} → statement M
+ignore_spec = tie.close (tie.spec blank-requires same_length returns)

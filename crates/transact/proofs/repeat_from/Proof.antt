@@ -3,7 +3,7 @@ use Prim.Native.Nat.{◌-◌}
 use native.Mathlib.Omega.{arith}
 use lib.ListN.{length}
 use borrow.Author.Rules.{rules}
-use Rattle.transact.proofs.Filled.{repeated-blank}
+use Rattle.transact.proofs.Filled.{repeated_blank}
 use Rattle.transact.proofs.repeat_from.Statement.{statement}
 use Rattle.transact.proofs.repeat_from.Tie as tie
 
@@ -41,10 +41,10 @@ returns : tie.Need-returns
 returns c =
     let a = c.before.before.before.before.before.before.before.before.before.before.args in
     let m = c.before.before.before.before.before.before.before.before.lesser in
-    repeated-blank a.output.now a.from m.result (m.result - 0) _ (omega arith) m.ensures c.before.before.before.before.before.before.blank.ensures a.byte (length a.output.now - m.result) _ (omega arith) c.before.before.fill.ensures
+    repeated_blank a.output.now a.from m.result (m.result - 0) _ (omega arith) m.ensures c.before.before.before.before.before.before.blank.ensures a.byte (length a.output.now - m.result) _ (omega arith) c.before.before.fill.ensures
 
-pub repeat-from-spec : {M : Type 1} → statement M
-repeat-from-spec =
+pub repeat_from_spec : {M : Type 1} → statement M
+repeat_from_spec =
     tie.close
     (tie.spec
     lesser-requires

@@ -2,7 +2,7 @@
 use mathlib.Core.Path.{refl, sym, ◌∙◌}
 use borrow.Author.Rules.{rules}
 use Rattle.types.specs.declared.Source.TheVariants.{ArrayBytes, RowBytes, StatusByte, FunctionByte, IdentityBytes, MakerPair, DeviceByte, ExtendedByte, BankByte}
-use Rattle.transact.proofs.Outputs.{driven-output, some_bytes, blank-output, row_inside}
+use Rattle.transact.proofs.Outputs.{driven_output, some_bytes, blank_output, row_inside}
 use Rattle.transact.proofs.show.Statement.{statement}
 use Rattle.transact.proofs.show.Tie as tie
 
@@ -97,7 +97,7 @@ returns : tie.Need-returns
 returns c =
     let s = c.before.before.before.before.before.before.before.before.before.before in
     let a = s.args in
-    c.before.before.blank.ensures ∙ rw s.requires.1 (sym (blank-output a.k a.identity a.part a.array.now a.rows.now a.input.now c.before.before.before.before.enum_told.given.1))
+    c.before.before.blank.ensures ∙ rw s.requires.1 (sym (blank_output a.k a.identity a.part a.array.now a.rows.now a.input.now c.before.before.before.before.enum_told.given.1))
 
 same-length-2 : tie.Need-same-length-2
 same-length-2 c = search rules
@@ -106,7 +106,7 @@ returns-2 : tie.Need-returns-2
 returns-2 c =
     let s = c.before.before.before.before.before.before.before.before.before.before.before in
     let a = s.args in
-    c.before.before.drive-from.ensures ∙ rw (s.requires.1, c.before.before.before.before.address-in.ensures, s.requires.2) (sym (driven-output a.k a.identity a.part a.array.now a.rows.now a.input.now ArrayBytes c.before.before.before.before.before.enum-told2.given.1 refl))
+    c.before.before.drive-from.ensures ∙ rw (s.requires.1, c.before.before.before.before.address_in_lem.ensures, s.requires.2) (sym (driven_output a.k a.identity a.part a.array.now a.rows.now a.input.now ArrayBytes c.before.before.before.before.before.enum-told2.given.1 refl))
 
 same-length-3 : tie.Need-same-length-3
 same-length-3 c = search rules
@@ -115,7 +115,7 @@ returns-3 : tie.Need-returns-3
 returns-3 c =
     let s = c.before.before.before.before.before.before.before.before.before.before in
     let a = s.args in
-    c.before.before.drive-row.ensures ∙ rw (s.requires.1, s.requires.2) (sym (driven-output a.k a.identity a.part a.array.now a.rows.now a.input.now RowBytes c.before.before.before.before.enum-told3.given.1 refl))
+    c.before.before.drive-row.ensures ∙ rw (s.requires.1, s.requires.2) (sym (driven_output a.k a.identity a.part a.array.now a.rows.now a.input.now RowBytes c.before.before.before.before.enum-told3.given.1 refl))
 
 same-length-4 : tie.Need-same-length-4
 same-length-4 c = search rules
@@ -124,7 +124,7 @@ returns-4 : tie.Need-returns-4
 returns-4 c =
     let s = c.before.before.before.before.before.before.before.before.before.before in
     let a = s.args in
-    c.before.before.repeat-from.ensures ∙ rw s.requires.1 (sym (driven-output a.k a.identity a.part a.array.now a.rows.now a.input.now StatusByte c.before.before.before.before.enum-told4.given.1 refl))
+    c.before.before.repeat-from.ensures ∙ rw s.requires.1 (sym (driven_output a.k a.identity a.part a.array.now a.rows.now a.input.now StatusByte c.before.before.before.before.enum-told4.given.1 refl))
 
 same-length-5 : tie.Need-same-length-5
 same-length-5 c = search rules
@@ -133,7 +133,7 @@ returns-5 : tie.Need-returns-5
 returns-5 c =
     let s = c.before.before.before.before.before.before.before.before.before.before in
     let a = s.args in
-    c.before.before.repeat-from2.ensures ∙ rw s.requires.1 (sym (driven-output a.k a.identity a.part a.array.now a.rows.now a.input.now FunctionByte c.before.before.before.before.enum-told5.given.1 refl))
+    c.before.before.repeat-from2.ensures ∙ rw s.requires.1 (sym (driven_output a.k a.identity a.part a.array.now a.rows.now a.input.now FunctionByte c.before.before.before.before.enum-told5.given.1 refl))
 
 same-length-6 : tie.Need-same-length-6
 same-length-6 c = search rules
@@ -142,7 +142,7 @@ returns-6 : tie.Need-returns-6
 returns-6 c =
     let s = c.before.before.before.before.before.before.before.before.before.before.before in
     let a = s.args in
-    c.before.before.drive-from2.ensures ∙ rw s.requires.1 (sym (driven-output a.k a.identity a.part a.array.now a.rows.now a.input.now IdentityBytes c.before.before.before.before.before.enum-told6.given.1 refl))
+    c.before.before.drive-from2.ensures ∙ rw s.requires.1 (sym (driven_output a.k a.identity a.part a.array.now a.rows.now a.input.now IdentityBytes c.before.before.before.before.before.enum-told6.given.1 refl))
 
 same-length-7 : tie.Need-same-length-7
 same-length-7 c = search rules
@@ -151,7 +151,7 @@ returns-7 : tie.Need-returns-7
 returns-7 c =
     let s = c.before.before.before.before.before.before.before.before.before.before.before.before in
     let a = s.args in
-    c.before.before.drive-from3.ensures ∙ rw (s.requires.1, c.before.before.before.before.before.byte_at.ensures) (sym (driven-output a.k a.identity a.part a.array.now a.rows.now a.input.now MakerPair c.before.before.before.before.before.before.enum-told7.given.1 refl))
+    c.before.before.drive-from3.ensures ∙ rw (s.requires.1, c.before.before.before.before.before.byte_at.ensures) (sym (driven_output a.k a.identity a.part a.array.now a.rows.now a.input.now MakerPair c.before.before.before.before.before.before.enum-told7.given.1 refl))
 
 same-length-8 : tie.Need-same-length-8
 same-length-8 c = search rules
@@ -160,7 +160,7 @@ returns-8 : tie.Need-returns-8
 returns-8 c =
     let s = c.before.before.before.before.before.before.before.before.before.before in
     let a = s.args in
-    c.before.before.repeat-from3.ensures ∙ rw s.requires.1 (sym (driven-output a.k a.identity a.part a.array.now a.rows.now a.input.now DeviceByte c.before.before.before.before.enum-told8.given.1 refl))
+    c.before.before.repeat-from3.ensures ∙ rw s.requires.1 (sym (driven_output a.k a.identity a.part a.array.now a.rows.now a.input.now DeviceByte c.before.before.before.before.enum-told8.given.1 refl))
 
 same-length-9 : tie.Need-same-length-9
 same-length-9 c = search rules
@@ -169,7 +169,7 @@ returns-9 : tie.Need-returns-9
 returns-9 c =
     let s = c.before.before.before.before.before.before.before.before.before.before.before in
     let a = s.args in
-    c.before.before.repeat-from4.ensures ∙ rw (s.requires.1, c.before.before.before.before.extended-read.ensures) (sym (driven-output a.k a.identity a.part a.array.now a.rows.now a.input.now ExtendedByte c.before.before.before.before.before.enum-told9.given.1 refl))
+    c.before.before.repeat-from4.ensures ∙ rw (s.requires.1, c.before.before.before.before.extended-read.ensures) (sym (driven_output a.k a.identity a.part a.array.now a.rows.now a.input.now ExtendedByte c.before.before.before.before.before.enum-told9.given.1 refl))
 
 same-length-10 : tie.Need-same-length-10
 same-length-10 c = search rules
@@ -178,10 +178,10 @@ returns-10 : tie.Need-returns-10
 returns-10 c =
     let s = c.before.before.before.before.before.before.before.before.before.before in
     let a = s.args in
-    c.before.before.repeat-from5.ensures ∙ rw s.requires.1 (sym (driven-output a.k a.identity a.part a.array.now a.rows.now a.input.now BankByte c.before.before.before.before.enum-told10.given.1 refl))
+    c.before.before.repeat-from5.ensures ∙ rw s.requires.1 (sym (driven_output a.k a.identity a.part a.array.now a.rows.now a.input.now BankByte c.before.before.before.before.enum-told10.given.1 refl))
 
-pub show-spec : {M : Type 1} → statement M
-show-spec =
+pub show_spec : {M : Type 1} → statement M
+show_spec =
     tie.close
     (tie.spec
     enum_told

@@ -20,9 +20,9 @@ returns : tie.Need-returns
 unfolding transacted
 returns c =
     let u = c.before.before.before.transact-part.ensures in
-    (rw (c.apply.ensures, u.0, c.before.before.before.before.before.is-sound.ensures), rw c.before.before.before.before.before.is-sound.ensures at u.1)
+    (rw (c.apply.ensures, u.0, c.before.before.before.before.before.is_sound.ensures), rw c.before.before.before.before.before.is_sound.ensures at u.1)
 
-pub transact-spec : {M : Type 1} → statement M
-transact-spec =
+pub transact_spec : {M : Type 1} → statement M
+transact_spec =
     tie.close
     (tie.spec is-sound-requires transact-part-requires apply-requires same_length returns)

@@ -41,8 +41,8 @@ use denote.Triple.Table.{entered, cited}
 use denote.Triple.Walked.{says, needs, Stays, stay_slice, stay_none, walk_of, AllGo, Goes-none, Goes-slice, Walks, ends_at, walked, walk_Meets}
 use denote.Exit.{yes}
 use Rattle.types.specs.declared.Wear.{Wear}
-use Rattle.paper.specs.Wear.{unworn, oneMore}
-use Rattle.wear_records.specs.Thin.{eraseAt}
+use Rattle.paper.specs.Wear.{unworn, one_more}
+use Rattle.wear_records.specs.Thin.{erase_at}
 use Rattle.types.specs.contracts.Wear as T
 use Rattle.types.proofs.Wear.TheLaws as T'
 use Rattle.wear_records.specs.contracts.more as m'
@@ -99,8 +99,8 @@ module _ {M : Type 1} {𝓤 : Ura M} (𝓛 : Logic 𝓤) (mem : Memory → SProp
   abbrev y : ℕ → Arg
   y r = (record { ref_ptr = (b, o); ghost_name = γ; now = zs r }, (i, tt))
 
-  told : (r : ℕ) → r ≡ oneMore h.erases → zs r ≡ eraseAt i ys
-  unfolding eraseAt
+  told : (r : ℕ) → r ≡ one_more h.erases → zs r ≡ erase_at i ys
+  unfolding erase_at
   told r e = ap zs e
 
   -- `more`, at the record's count
@@ -111,7 +111,7 @@ module _ {M : Type 1} {𝓤 : Ura M} (𝓛 : Logic 𝓤) (mem : Memory → SProp
   goes-more fits =
       qed 𝓛 [] ∵ nothing ! $ owned ! u32 (Is u32) (uint_Makes 𝓛 w32) h.erases _ (refl, fits) $ fjoin ! $ nothing ! $ join ! $ frame ! $ done !
 
-  returns : (r : ℕ) → r ≡ oneMore h.erases → ent 𝓤 (⋆ 𝓛 (‵ (fobs γ ((coded_holeys T.the_row).code (heres T.the_row (zs r)))) ∷ ‵ (fbor κ (Held T.the_row (length (zs r)) b o γ)) ∷ ‵ (flft κ q) ∷ ‵ (fsep (usize.own_val i (vint w64 i ∷ [])) ftrue) ∷ []))
+  returns : (r : ℕ) → r ≡ one_more h.erases → ent 𝓤 (⋆ 𝓛 (‵ (fobs γ ((coded_holeys T.the_row).code (heres T.the_row (zs r)))) ∷ ‵ (fbor κ (Held T.the_row (length (zs r)) b o γ)) ∷ ‵ (flft κ q) ∷ ‵ (fsep (usize.own_val i (vint w64 i ∷ [])) ftrue) ∷ []))
       (Post vunit)
   returns r e =
       qed 𝓛 (‵ (fobs γ ((coded_holeys T.the_row).code (heres T.the_row (zs r)))) ∷ ‵ (fbor κ (Held T.the_row (length (zs r)) b o γ)) ∷ ‵ (flft κ q) ∷ ‵ (fsep (usize.own_val i (vint w64 i ∷ [])) ftrue) ∷ []) ∵
@@ -145,7 +145,7 @@ module _ {M : Type 1} {𝓤 : Ura M} (𝓛 : Logic 𝓤) (mem : Memory → SProp
         use1 𝓛 (later (some (λ (r : ℕ). (‵ ftrue ⊛ ‵ (u32.own_val r (w ∷ []))) ⊛ raw (ensured 𝓛 m'.ended (m'.clauses 𝓛 mem run) tt (h.erases, tt) tt r)))) (id⊢ 𝓤 _) $ await ! tt $ pick ! (λ r.
         split ! $
         move ! (1 ∷ []) $
-        use1 𝓛 (raw (fact 𝓤 (r ≡ oneMore h.erases))) (ex_e 𝓤 _ (λ ws. snd∗ 𝓤 (sem 𝓛 (lasts m'.ended tt (h.erases, tt) ws)) _)) $ heard ! (r ≡ oneMore h.erases) (λ e. split ! $
+        use1 𝓛 (raw (fact 𝓤 (r ≡ one_more h.erases))) (ex_e 𝓤 _ (λ ws. snd∗ 𝓤 (sem 𝓛 (lasts m'.ended tt (h.erases, tt) ws)) _)) $ heard ! (r ≡ one_more h.erases) (λ e. split ! $
         move ! (1 ∷ []) $
         peeks ! u32 (Is u32) (shows 𝓛 u32) r (w ∷ []) (λ is. land ! (from ! (stop !)) (init ! 21 refl ((uint_Lawful 𝓛 w32).typed r _ is).0) $ rewrite ! 21 (λ (u : Val). ‵ (fat full_share (ty_int w32) l₃ 0 u)) (ap only is.0) refl $
         -- the record is put back with the new count
@@ -179,9 +179,9 @@ module _ {M : Type 1} {𝓤 : Ura M} (𝓛 : Logic 𝓤) (mem : Memory → SProp
   add-erase-meets : (𝓣 : Tables 𝓤 H) → Triple 𝓤 (𝓣.C #wear·more) (More 𝓛 mem run) → Meets 𝓛 f.signature (WpFn 𝓤 H 𝓣.C 𝓣.Λ code.function) (f.spec 𝓛 mem run)
   add-erase-meets 𝓣 known = walk_Meets 𝓛 f.ended stayed goes (f.clauses 𝓛 mem run) (WpFn 𝓤 H 𝓣.C 𝓣.Λ code.function) (WpFn-mono 𝓤 H 𝓛.laws 𝓣 code.function) (add-erase-walks 𝓣.C 𝓣.Λ (fm_of 𝓤 H 𝓛.laws 𝓣) known)
 
-pub add-erase-spec : {M : Type 1} → stated.statement M
+pub add_erase_spec : {M : Type 1} → stated.statement M
 unfolding code.routine tables_of
-add-erase-spec 𝓤 𝓛 𝓜 𝓡 =
+add_erase_spec 𝓤 𝓛 𝓜 𝓡 =
     entered 𝓤 𝓛.H (triple_of 𝓛 f.signature (f.spec 𝓛 𝓜.mem 𝓡.run))
     (tables 𝓤 𝓛.H 𝓜 𝓡 code.env).C (tables 𝓤 𝓛.H 𝓜 𝓡 code.env).Λ #wear·add-erase code.function (code.unfolded 𝓤 𝓛.H 𝓜 𝓡)
     (add-erase-meets 𝓛 𝓜.mem 𝓡.run (tables_of 𝓤 𝓛.H 𝓜 (tables 𝓤 𝓛.H 𝓜 𝓡 code.env))

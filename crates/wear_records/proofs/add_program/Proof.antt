@@ -46,8 +46,8 @@ use denote.Exit.{yes}
 use Rattle.types.specs.declared.Wear.{Wear}
 use Rattle.types.specs.contracts.Wear as T
 use Rattle.types.proofs.Wear.TheLaws as T'
-use Rattle.paper.specs.Wear.{unworn, oneMore}
-use Rattle.wear_records.specs.Thin.{programAt, programWhere}
+use Rattle.paper.specs.Wear.{unworn, one_more}
+use Rattle.wear_records.specs.Thin.{program_at, program_where}
 use Rattle.wear_records.specs.contracts.more as m'
 use Rattle.wear_records.proofs.more.Symbol as more-def
 use Rattle.wear_records.proofs.more.Symbol.{name as #wear·more}
@@ -121,11 +121,11 @@ module _ {M : Type 1} {𝓤 : Ura M} (𝓛 : Logic 𝓤) (mem : Memory → SProp
   abbrev zs : ℕ → List Wear
   zs r = set ys i (h' r)
 
-  told : (r : ℕ) → r ≡ oneMore h.programs → p ≡ true → zs r ≡ programWhere p i ys
-  unfolding programAt
+  told : (r : ℕ) → r ≡ one_more h.programs → p ≡ true → zs r ≡ program_where p i ys
+  unfolding program_at
   told r e t = rw t (ap zs e)
 
-  same : p ≡ false → ys ≡ programWhere p i ys
+  same : p ≡ false → ys ≡ program_where p i ys
   same t = rw t
 
   -- `more`, at the record's count
@@ -140,7 +140,7 @@ module _ {M : Type 1} {𝓤 : Ura M} (𝓛 : Logic 𝓤) (mem : Memory → SProp
   abbrev Rest : Fml
   Rest = fsep (bool.own_val p (vbool p ∷ [])) (fsep (usize.own_val i (vint w64 i ∷ [])) ftrue)
 
-  returns : (us : List Wear) → us ≡ programWhere p i ys → length us ≡ length ys → ent 𝓤 (⋆ 𝓛 (‵ (fobs γ ((coded_holeys T.the_row).code (heres T.the_row us))) ∷ ‵ (fbor κ (Held T.the_row (length us) b o γ)) ∷ ‵ (flft κ q) ∷ ‵ Rest ∷ [])) (Post vunit)
+  returns : (us : List Wear) → us ≡ program_where p i ys → length us ≡ length ys → ent 𝓤 (⋆ 𝓛 (‵ (fobs γ ((coded_holeys T.the_row).code (heres T.the_row us))) ∷ ‵ (fbor κ (Held T.the_row (length us) b o γ)) ∷ ‵ (flft κ q) ∷ ‵ Rest ∷ [])) (Post vunit)
   returns us e len =
       qed 𝓛 (‵ (fobs γ ((coded_holeys T.the_row).code (heres T.the_row us))) ∷ ‵ (fbor κ (Held T.the_row (length us) b o γ)) ∷ ‵ (flft κ q) ∷ ‵ Rest ∷ []) ∵
       suffices ! _ (ends_at 𝓛 f.ended stayed (f.clauses 𝓛 mem run) (((κ, tt), (q, tt), tt, a, at), tt) vunit tt (us, (tt, (tt, tt))) (len, (tt, (tt, tt)))) $ says ! e $
@@ -157,7 +157,7 @@ module _ {M : Type 1} {𝓤 : Ura M} (𝓛 : Logic 𝓤) (mem : Memory → SProp
     Meet us = ‵ (row T.the_row full_share us b o) ∷ ‵ (fobor κ q (Held T.the_row (length ys) b o γ)) ∷ ‵ (fobs γ ((coded_holeys T.the_row).code (heres T.the_row ys))) ∷ ‵ (fauth γ ((coded_holeys T.the_row).code (heres T.the_row ys))) ∷ ‵ Rest
         ∷ ‵ (froom ty_ptr l₁₀ 0) ∷ ‵ (fdies ty_ptr l₁₀) ∷ ‵ (froom word l₉ 0) ∷ ‵ (fdies word l₉) ∷ ‵ (froom (ty_int w32) l₈ 0) ∷ ‵ (fdies (ty_int w32) l₈) ∷ ‵ (froom ty_ptr l₇ 0) ∷ ‵ (fdies ty_ptr l₇) ∷ ‵ (froom word l₆ 0) ∷ ‵ (fdies word l₆) ∷ ‵ (froom (ty_int w32) l₅ 0) ∷ ‵ (fdies (ty_int w32) l₅) ∷ ‵ (froom ty_bool l₄ 0) ∷ ‵ (fdies ty_bool l₄) ∷ ‵ (froom word l₃ 0) ∷ ‵ (fdies word l₃) ∷ ‵ (froom ty_bool l₂ 0) ∷ ‵ (fdies ty_bool l₂) ∷ ‵ (froom (slice_ty (ref (named 0))) l₁ 0) ∷ ‵ (fdies (slice_ty (ref (named 0))) l₁) ∷ ‵ (froom ty_unit l₀ 0) ∷ ‵ (fdies ty_unit l₀) ∷ []
 
-    leaves : (us : List Wear) → us ≡ programWhere p i ys → length us ≡ length ys → ent 𝓤 (⋆ 𝓛 (Meet us)) (Wp 𝓤 H C Λ En mir'.t-3 (at_return 𝓤 H En Post))
+    leaves : (us : List Wear) → us ≡ program_where p i ys → length us ≡ length ys → ent 𝓤 (⋆ 𝓛 (Meet us)) (Wp 𝓤 H C Λ En mir'.t-3 (at_return 𝓤 H En Post))
     leaves us e len =
         qed 𝓛 (Meet us) ∵ exec ! C Λ En mir'.t-3 (at_ret En Post) $
         closes_slice ! tt T.the_row ys us len b o $
@@ -199,7 +199,7 @@ module _ {M : Type 1} {𝓤 : Ura M} (𝓛 : Logic 𝓤) (mem : Memory → SProp
         use1 𝓛 (later (some (λ (r : ℕ). (‵ ftrue ⊛ ‵ (u32.own_val r (w ∷ []))) ⊛ raw (ensured 𝓛 m'.ended (m'.clauses 𝓛 mem run) tt (h.programs, tt) tt r)))) (id⊢ 𝓤 _) $ await ! tt $ pick ! (λ r.
         split ! $
         move ! (1 ∷ []) $
-        use1 𝓛 (raw (fact 𝓤 (r ≡ oneMore h.programs))) (ex_e 𝓤 _ (λ ws. snd∗ 𝓤 (sem 𝓛 (lasts m'.ended tt (h.programs, tt) ws)) _)) $ heard ! (r ≡ oneMore h.programs) (λ e. split ! $
+        use1 𝓛 (raw (fact 𝓤 (r ≡ one_more h.programs))) (ex_e 𝓤 _ (λ ws. snd∗ 𝓤 (sem 𝓛 (lasts m'.ended tt (h.programs, tt) ws)) _)) $ heard ! (r ≡ one_more h.programs) (λ e. split ! $
         move ! (1 ∷ []) $
         peeks ! u32 (Is u32) (shows 𝓛 u32) r (w ∷ []) (λ is. land ! (from ! (stop !)) (init ! 21 refl ((uint_Lawful 𝓛 w32).typed r _ is).0) $ rewrite ! 21 (λ (u : Val). ‵ (fat full_share (ty_int w32) l₅ 0 u)) (ap only is.0) refl $
         -- the record is put back with the new count
@@ -250,9 +250,9 @@ module _ {M : Type 1} {𝓤 : Ura M} (𝓛 : Logic 𝓤) (mem : Memory → SProp
   add-program-meets : (𝓣 : Tables 𝓤 H) → Triple 𝓤 (𝓣.C #wear·more) (More 𝓛 mem run) → Meets 𝓛 f.signature (WpFn 𝓤 H 𝓣.C 𝓣.Λ code.function) (f.spec 𝓛 mem run)
   add-program-meets 𝓣 known = walk_Meets 𝓛 f.ended stayed goes (f.clauses 𝓛 mem run) (WpFn 𝓤 H 𝓣.C 𝓣.Λ code.function) (WpFn-mono 𝓤 H 𝓛.laws 𝓣 code.function) (add-program-walks 𝓣.C 𝓣.Λ (fm_of 𝓤 H 𝓛.laws 𝓣) known)
 
-pub add-program-spec : {M : Type 1} → stated.statement M
+pub add_program_spec : {M : Type 1} → stated.statement M
 unfolding code.routine tables_of
-add-program-spec 𝓤 𝓛 𝓜 𝓡 =
+add_program_spec 𝓤 𝓛 𝓜 𝓡 =
     entered 𝓤 𝓛.H (triple_of 𝓛 f.signature (f.spec 𝓛 𝓜.mem 𝓡.run))
     (tables 𝓤 𝓛.H 𝓜 𝓡 code.env).C (tables 𝓤 𝓛.H 𝓜 𝓡 code.env).Λ #wear·add-program code.function (code.unfolded 𝓤 𝓛.H 𝓜 𝓡)
     (add-program-meets 𝓛 𝓜.mem 𝓡.run (tables_of 𝓤 𝓛.H 𝓜 (tables 𝓤 𝓛.H 𝓜 𝓡 code.env))

@@ -7,17 +7,17 @@ use borrow.Author.Rules.{rules}
 use borrow.Author.Tests.{leb-true, le-leb}
 use lib.Dec.{leb}
 use Rattle.words.proofs.Tests.{same_tests, fails}
-use Rattle.paper.specs.Sizes.{fromOn}
-use Rattle.paper.proofs.ByPlace.{from_on, on-from}
+use Rattle.paper.specs.Sizes.{from_on}
+use Rattle.paper.proofs.ByPlace.{from_on_lem, on_from}
 use Rattle.wear_records.proofs.ends.Statement.{statement}
 use Rattle.wear_records.proofs.ends.Tie as tie
 
-to-come : (d t k : ℕ) → d < k → leb (k - d) t ≡ fromOn (suc d) t k
+to-come : (d t k : ℕ) → d < k → leb (k - d) t ≡ from_on (suc d) t k
 to-come d t k h =
-    same_tests _ _ (λ e. from_on (suc d) t k h (omega (arith, leb-true (k - d) t e))) (λ e. le-leb (k - d) t (omega (arith, (on-from (suc d) t k e).1)))
+    same_tests _ _ (λ e. from_on_lem (suc d) t k h (omega (arith, leb-true (k - d) t e))) (λ e. le-leb (k - d) t (omega (arith, (on_from (suc d) t k e).1)))
 
-over : (d t k : ℕ) → k ≤ d → fromOn (suc d) t k ≡ false
-over d t k h = fails _ (λ e. omega (arith, (on-from (suc d) t k e).0))
+over : (d t k : ℕ) → k ≤ d → from_on (suc d) t k ≡ false
+over d t k h = fails _ (λ e. omega (arith, (on_from (suc d) t k e).0))
 
 sub-result : tie.Need-overflow-sub-result
 sub-result c = search rules
@@ -28,5 +28,5 @@ returns c = let a = c.before.args in to-come a.done a.ticks a.count c.if1.true
 returns-2 : tie.Need-returns-2
 returns-2 c = let a = c.before.args in sym (over a.done a.ticks a.count c.if1.false)
 
-pub ends-spec : {M : Type 1} → statement M
-ends-spec = tie.close (tie.spec sub-result returns returns-2)
+pub ends_spec : {M : Type 1} → statement M
+ends_spec = tie.close (tie.spec sub-result returns returns-2)

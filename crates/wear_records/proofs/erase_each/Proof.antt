@@ -48,8 +48,8 @@ use Rattle.lent.proofs.Again.{LentAgain}
 use Rattle.lent.proofs.Lent.{lends, back}
 use Rattle.lent.proofs.Rest.{after}
 use Rattle.types.specs.declared.Wear.{Wear}
-use Rattle.wear_records.specs.Thin.{eraseAt, erasedFrom}
-use Rattle.wear_records.proofs.Laws.{erased-length}
+use Rattle.wear_records.specs.Thin.{erase_at, erased_from}
+use Rattle.wear_records.proofs.Laws.{erased_length}
 use Rattle.types.specs.contracts.Wear as T
 use Rattle.wear_records.specs.contracts.add_erase as add
 use Rattle.wear_records.proofs.add_erase.Symbol as add_def
@@ -98,10 +98,10 @@ module _ {M : Type 1} {𝓤 : Ura M} (𝓛 : Logic 𝓤) (mem : Memory → SProp
 
   -- the list after k sectors
   abbrev zs : ℕ → List Wear
-  zs k = erasedFrom i k ys
+  zs k = erased_from i k ys
 
   len : (k : ℕ) → length (zs k) ≡ length ys
-  len k = erased-length i k ys
+  len k = erased_length i k ys
 
   abbrev to-add : ℕ → GName → ℕ → (Add 𝓛 mem run).Ghost
   to-add ν δ k = (((ν ∷ [], tt), (full_share, tt), tt, (x δ (zs k), (i + k, tt)), (s ∷ [], (vint w64 (i + k) ∷ [], tt))), tt)
@@ -170,9 +170,9 @@ module _ {M : Type 1} {𝓤 : Ura M} (𝓛 : Logic 𝓤) (mem : Memory → SProp
         calls_at ! fm (Add 𝓛 mem run) known (to-add ν δ k.0) (and_then ! (load ! (from ! (stop !)) (look ! 4 refl)) (and_then ! (load ! (from ! (stop !)) (look ! 2 refl)) (no_more !))) (λ w.
         use1 𝓛 (later (some (λ (r : Unit {0}). ((‵ (flft (ν ∷ []) full_share) ⊛ ‵ ftrue) ⊛ ‵ (unit.own_val r (w ∷ []))) ⊛ raw (ensured 𝓛 add.ended (add.clauses 𝓛 mem run) (ν ∷ [], tt) (x δ (zs k.0), (i + k.0, tt)) tt r)))) (id⊢ 𝓤 _) $ await ! tt $ pick ! (λ r. split ! $
         move ! (1 ∷ []) $
-        use1 𝓛 (some (λ (us : List Wear × (Unit {0} × Unit {0})). ‵ (lasts add.ended (ν ∷ [], tt) (x δ (zs k.0), (i + k.0, tt)) us) ⊛ raw (fact 𝓤 (us.0 ≡ eraseAt (i + k.0) (zs k.0))))) (id⊢ 𝓤 _) $ pick ! (λ us. split ! $
+        use1 𝓛 (some (λ (us : List Wear × (Unit {0} × Unit {0})). ‵ (lasts add.ended (ν ∷ [], tt) (x δ (zs k.0), (i + k.0, tt)) us) ⊛ raw (fact 𝓤 (us.0 ≡ erase_at (i + k.0) (zs k.0))))) (id⊢ 𝓤 _) $ pick ! (λ us. split ! $
         move ! (1 ∷ []) $
-        heard ! (us.0 ≡ eraseAt (i + k.0) (zs k.0)) (λ e. fsplit ! $ fsplit ! $
+        heard ! (us.0 ≡ erase_at (i + k.0) (zs k.0)) (λ e. fsplit ! $ fsplit ! $
         move ! (1 ∷ []) $
         feq_l ! (λ len'.
         move ! (2 ∷ []) $
@@ -243,9 +243,9 @@ module _ {M : Type 1} {𝓤 : Ura M} (𝓛 : Logic 𝓤) (mem : Memory → SProp
   erase-each-meets : (𝓣 : Tables 𝓤 H) → Triple 𝓤 (𝓣.C #wear·add-erase) (Add 𝓛 mem run) → Meets 𝓛 f.signature (WpFn 𝓤 H 𝓣.C 𝓣.Λ code.function) (f.spec 𝓛 mem run)
   erase-each-meets 𝓣 known = walk_Meets 𝓛 f.ended stayed goes (f.clauses 𝓛 mem run) (WpFn 𝓤 H 𝓣.C 𝓣.Λ code.function) (WpFn-mono 𝓤 H 𝓛.laws 𝓣 code.function) (erase-each-walks 𝓣 known)
 
-pub erase-each-spec : {M : Type 1} → stated.statement M
+pub erase_each_spec : {M : Type 1} → stated.statement M
 unfolding code.routine tables_of
-erase-each-spec 𝓤 𝓛 𝓜 𝓡 =
+erase_each_spec 𝓤 𝓛 𝓜 𝓡 =
     entered 𝓤 𝓛.H (triple_of 𝓛 f.signature (f.spec 𝓛 𝓜.mem 𝓡.run))
     (tables 𝓤 𝓛.H 𝓜 𝓡 code.env).C (tables 𝓤 𝓛.H 𝓜 𝓡 code.env).Λ #wear·erase-each code.function (code.unfolded 𝓤 𝓛.H 𝓜 𝓡)
     (erase-each-meets 𝓛 𝓜.mem 𝓡.run (tables_of 𝓤 𝓛.H 𝓜 (tables 𝓤 𝓛.H 𝓜 𝓡 code.env))

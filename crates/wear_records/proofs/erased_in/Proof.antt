@@ -15,5 +15,5 @@ returns c = rw (← c.before.before.in_array.ensures, c.before.if1.true) c.finis
 returns-2 : tie.Need-returns-2
 returns-2 c = search rules
 
-pub erased-in-spec : {M : Type 1} → statement M
-erased-in-spec = tie.close (tie.spec in-array-requires finished-requires returns returns-2)
+pub erased_in_spec : {M : Type 1} → statement M
+erased_in_spec = tie.close (tie.spec in-array-requires finished-requires returns returns-2)

@@ -47,8 +47,8 @@ use Rattle.types.specs.contracts.Wear as T
 use Rattle.types.specs.contracts.Tally as S
 use Rattle.types.proofs.Tally.TheLaws as S'
 use Rattle.paper.specs.Wear.{worn}
-use Rattle.wear_records.specs.Thin.{programWhere, erasedFrom, clipped}
-use Rattle.wear_records.proofs.Laws.{clipped-erases, clipped-at, clipped-worn}
+use Rattle.wear_records.specs.Thin.{program_where, erased_from, clipped}
+use Rattle.wear_records.proofs.Laws.{clipped_erases, clipped_at, clipped_worn}
 use Rattle.wear_records.specs.contracts.within as cut
 use Rattle.wear_records.proofs.within.Symbol as cut-def
 use Rattle.wear_records.proofs.within.Symbol.{name as #wear·within}
@@ -121,22 +121,22 @@ module _ {M : Type 1} {𝓤 : Ura M} (𝓛 : Logic 𝓤) (mem : Memory → SProp
 
     -- the list after the erases
     abbrev zs : List Wear
-    zs = erasedFrom r.first r.erases ys
+    zs = erased_from r.first r.erases ys
 
     inside : (us : List Wear) → length us ≡ length ys → r.programmed ≡ true → r.at < length us
     inside us len e =
-        let h : r.at < length ys = subst (λ (c : Tally). c.programmed ≡ true → c.at < length ys) (sym cut-is) (clipped-at t (length ys)) e in
+        let h : r.at < length ys = subst (λ (c : Tally). c.programmed ≡ true → c.at < length ys) (sym cut-is) (clipped_at t (length ys)) e in
         omega (arith, h, len)
 
-    told : (us vs : List Wear) → us ≡ zs → vs ≡ programWhere r.programmed r.at us → vs ≡ worn t ys
-    told us vs e₁ e₂ = e₂ ∙ ap (programWhere r.programmed r.at) e₁ ∙ ap (λ (c : Tally). programWhere c.programmed c.at (erasedFrom c.first c.erases ys)) cut-is ∙ clipped-worn t ys
+    told : (us vs : List Wear) → us ≡ zs → vs ≡ program_where r.programmed r.at us → vs ≡ worn t ys
+    told us vs e₁ e₂ = e₂ ∙ ap (program_where r.programmed r.at) e₁ ∙ ap (λ (c : Tally). program_where c.programmed c.at (erased_from c.first c.erases ys)) cut-is ∙ clipped_worn t ys
 
     abbrev to-each : ℕ → GName → (Each 𝓛 mem run).Ghost
     to-each ν δ = (((ν ∷ [], tt), (full_share, tt), tt, (x δ ys, (r.first, (r.erases, tt))), (s ∷ [], (vint w64 r.first ∷ [], (vint w64 r.erases ∷ [], tt)))), tt)
 
     goes-each : (ν : ℕ) (δ : GName) → ent 𝓤 (sep 𝓤 (A.lft (ν ∷ []) full_share) (sem 𝓛 ((MutSlice (named 0) (ν ∷ []) T.the_row).own_val (x δ ys) (s ∷ [])))) ((Each 𝓛 mem run).pre (to-each ν δ))
     goes-each ν δ =
-        qed 𝓛 (‵ (flft (ν ∷ []) full_share) ∷ ‵ ((MutSlice (named 0) (ν ∷ []) T.the_row).own_val (x δ ys) (s ∷ [])) ∷ []) ∵ says ! (subst (λ (c : Tally). c.first + c.erases ≤ length ys) (sym cut-is) (clipped-erases t (length ys))) $ nothing ! $ move ! (1 ∷ 0 ∷ []) $ join ! $ frame ! $
+        qed 𝓛 (‵ (flft (ν ∷ []) full_share) ∷ ‵ ((MutSlice (named 0) (ν ∷ []) T.the_row).own_val (x δ ys) (s ∷ [])) ∷ []) ∵ says ! (subst (λ (c : Tally). c.first + c.erases ≤ length ys) (sym cut-is) (clipped_erases t (length ys))) $ nothing ! $ move ! (1 ∷ 0 ∷ []) $ join ! $ frame ! $
         nothing ! $ owned ! usize (Is usize) (uint_Makes 𝓛 w64) r.erases _ (refl, erases-fits) $ fjoin ! $ owned ! usize (Is usize) (uint_Makes 𝓛 w64) r.first _ (refl, first_fits) $ fjoin ! $ move ! (1 ∷ 0 ∷ []) $ fjoin ! $ done !
 
     abbrev to-add : List Wear → (Add 𝓛 mem run).Ghost
@@ -185,9 +185,9 @@ module _ {M : Type 1} {𝓤 : Ura M} (𝓛 : Logic 𝓤) (mem : Memory → SProp
         calls_at ! fm (Each 𝓛 mem run) known-each (to-each r (w ∷ []) is-r c ν δ) (and_then ! (load ! (from ! (stop !)) (look ! 10 refl)) (and_then ! (load ! (from ! (fld ! refl (stop !))) (look_in ! 18 (sub ! 0 refl (whole !)))) (and_then ! (load ! (from ! (fld ! refl (stop !))) (look_in ! 18 (sub ! 1 refl (whole !)))) (no_more !)))) (λ w₁.
         use1 𝓛 (later (some (λ (z : Unit {0}). ((‵ (flft (ν ∷ []) full_share) ⊛ ‵ ftrue) ⊛ ‵ (unit.own_val z (w₁ ∷ []))) ⊛ raw (ensured 𝓛 each.ended (each.clauses 𝓛 mem run) (ν ∷ [], tt) (x δ ys, (r.first, (r.erases, tt))) tt z)))) (id⊢ 𝓤 _) $ await ! tt $ pick ! (λ z₁. split ! $
         move ! (1 ∷ []) $
-        use1 𝓛 (some (λ (us : List Wear × (Unit {0} × (Unit {0} × Unit {0}))). ‵ (lasts each.ended (ν ∷ [], tt) (x δ ys, (r.first, (r.erases, tt))) us) ⊛ raw (fact 𝓤 (us.0 ≡ erasedFrom r.first r.erases ys)))) (id⊢ 𝓤 _) $ pick ! (λ us. split ! $
+        use1 𝓛 (some (λ (us : List Wear × (Unit {0} × (Unit {0} × Unit {0}))). ‵ (lasts each.ended (ν ∷ [], tt) (x δ ys, (r.first, (r.erases, tt))) us) ⊛ raw (fact 𝓤 (us.0 ≡ erased_from r.first r.erases ys)))) (id⊢ 𝓤 _) $ pick ! (λ us. split ! $
         move ! (1 ∷ []) $
-        heard ! (us.0 ≡ erasedFrom r.first r.erases ys) (λ e₁. fsplit ! $ fsplit ! $
+        heard ! (us.0 ≡ erased_from r.first r.erases ys) (λ e₁. fsplit ! $ fsplit ! $
         move ! (1 ∷ []) $
         feq_l ! (λ len₁.
         move ! (2 ∷ []) $
@@ -206,9 +206,9 @@ module _ {M : Type 1} {𝓤 : Ura M} (𝓛 : Logic 𝓤) (mem : Memory → SProp
         calls_at ! fm (Add 𝓛 mem run) known-add (to-add r (w ∷ []) is-r c us.0) (and_then ! (load ! (from ! (stop !)) (look ! 8 refl)) (and_then ! (load ! (from ! (fld ! refl (stop !))) (look_in ! 20 (sub ! 2 refl (whole !)))) (and_then ! (load ! (from ! (fld ! refl (stop !))) (look_in ! 20 (sub ! 3 refl (whole !)))) (no_more !)))) (λ w₂.
         use1 𝓛 (later (some (λ (z : Unit {0}). ((‵ (flft κ q) ⊛ ‵ ftrue) ⊛ ‵ (unit.own_val z (w₂ ∷ []))) ⊛ raw (ensured 𝓛 add.ended (add.clauses 𝓛 mem run) (κ, tt) (x γ us.0, (r.programmed, (r.at, tt))) tt z)))) (id⊢ 𝓤 _) $ await ! tt $ pick ! (λ z₂. split ! $
         move ! (1 ∷ []) $
-        use1 𝓛 (some (λ (vs : List Wear × (Unit {0} × (Unit {0} × Unit {0}))). ‵ (lasts add.ended (κ, tt) (x γ us.0, (r.programmed, (r.at, tt))) vs) ⊛ raw (fact 𝓤 (vs.0 ≡ programWhere r.programmed r.at us.0)))) (id⊢ 𝓤 _) $ pick ! (λ vs. split ! $
+        use1 𝓛 (some (λ (vs : List Wear × (Unit {0} × (Unit {0} × Unit {0}))). ‵ (lasts add.ended (κ, tt) (x γ us.0, (r.programmed, (r.at, tt))) vs) ⊛ raw (fact 𝓤 (vs.0 ≡ program_where r.programmed r.at us.0)))) (id⊢ 𝓤 _) $ pick ! (λ vs. split ! $
         move ! (1 ∷ []) $
-        heard ! (vs.0 ≡ programWhere r.programmed r.at us.0) (λ e₂. fsplit ! $ fsplit ! $
+        heard ! (vs.0 ≡ program_where r.programmed r.at us.0) (λ e₂. fsplit ! $ fsplit ! $
         move ! (1 ∷ []) $
         feq_l ! (λ len₂.
         move ! (2 ∷ []) $

@@ -24,7 +24,7 @@ returns-2 : tie.Need-returns-2
 unfolding tally_of
 returns-2 c = rw c.before.before.work.given.1 c.tally-by.ensures
 
-pub tally-spec : {M : Type 1} → statement M
-tally-spec =
+pub tally_spec : {M : Type 1} → statement M
+tally_spec =
     tie.close
     (tie.spec enum_told nothing-requires enum-known-work tally-by-requires returns returns-2)

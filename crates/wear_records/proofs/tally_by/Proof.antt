@@ -42,8 +42,8 @@ returns-2 c = rw (c.before.before.before.operation2.given.1, c.erased-in.ensures
 returns-3 : tie.Need-returns-3
 returns-3 c = search rules
 
-pub tally-by-spec : {M : Type 1} → statement M
-tally-by-spec =
+pub tally_by_spec : {M : Type 1} → statement M
+tally_by_spec =
     tie.close
     (tie.spec
     enum-known-operation

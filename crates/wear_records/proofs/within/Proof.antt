@@ -20,6 +20,6 @@ returns : tie.Need-returns
 unfolding clipped
 returns c = rw (c.both.ensures, c.before.lesser2.ensures, c.before.before.before.lesser.ensures)
 
-pub within-spec : {M : Type 1} → statement M
-within-spec =
+pub within_spec : {M : Type 1} → statement M
+within_spec =
     tie.close (tie.spec lesser-requires sub-lesser lesser-requires-2 both-requires returns)

@@ -12,5 +12,5 @@ returns-2 : tie.Need-returns-2
 unfolding larger
 returns-2 c = rw (le-ltb c.before.args.a c.before.args.b (omega arith))
 
-pub larger-spec : {M : Type 1} → statement M
-larger-spec = tie.close (tie.spec returns returns-2)
+pub larger_spec : {M : Type 1} → statement M
+larger_spec = tie.close (tie.spec returns returns-2)

@@ -28,8 +28,8 @@ returns c =
     let p = c.before.before.before.before.before.before.put-wear.ensures in
     rw (p.written, p.place, c.before.before.before.larger.ensures, c.before.before.larger2.ensures, c.before.wrapping-add-u64.ensures, c.wrapping-add-u642.ensures)
 
-pub line-spec : {M : Type 1} → statement M
-line-spec =
+pub line_spec : {M : Type 1} → statement M
+line_spec =
     tie.close
     (tie.spec
     put-wear-requires

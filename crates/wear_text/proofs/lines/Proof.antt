@@ -46,7 +46,7 @@ use Rattle.paper.specs.Wear.{unworn}
 use Rattle.types.specs.contracts.Wear as T
 use Rattle.types.proofs.Wear.TheLaws as T'
 use Rattle.wear_text.specs.declared.State.{State}
-use Rattle.wear_text.specs.Page.{Page, page, linedTo}
+use Rattle.wear_text.specs.Page.{Page, page, lined_to}
 use Rattle.wear_text.specs.contracts.State as St
 use Rattle.wear_text.proofs.State.TheLaws as St'
 use Rattle.wear_text.specs.contracts.line as line
@@ -91,7 +91,7 @@ module _ {M : Type 1} {𝓤 : Ura M} (𝓛 : Logic 𝓤) (mem : Memory → SProp
   open 𝓛 use {H, A}
 
   abbrev G : ℕ → Page
-  G k = linedTo wear.now k (page start text.now)
+  G k = lined_to wear.now k (page start text.now)
 
   abbrev h : ℕ → Wear
   h k = get_or wear.now k unworn
@@ -353,9 +353,9 @@ module _ {M : Type 1} {𝓤 : Ura M} (𝓛 : Logic 𝓤) (mem : Memory → SProp
   lines-meets : (𝓣 : Tables 𝓤 H) → Triple 𝓤 (𝓣.C #wear-text·line) (Line 𝓛 mem run) → Meets 𝓛 f.signature (WpFn 𝓤 H 𝓣.C 𝓣.Λ code.function) (f.spec 𝓛 mem run)
   lines-meets 𝓣 known = walk_Meets 𝓛 f.ended stayed goes (f.clauses 𝓛 mem run) (WpFn 𝓤 H 𝓣.C 𝓣.Λ code.function) (WpFn-mono 𝓤 H 𝓛.laws 𝓣 code.function) (lines-walks 𝓣 known)
 
-pub lines-spec : {M : Type 1} → stated.statement M
+pub lines_spec : {M : Type 1} → stated.statement M
 unfolding code.routine tables_of
-lines-spec 𝓤 𝓛 𝓜 𝓡 =
+lines_spec 𝓤 𝓛 𝓜 𝓡 =
     entered 𝓤 𝓛.H (triple_of 𝓛 f.signature (f.spec 𝓛 𝓜.mem 𝓡.run))
     (tables 𝓤 𝓛.H 𝓜 𝓡 code.env).C (tables 𝓤 𝓛.H 𝓜 𝓡 code.env).Λ #wear-text·lines code.function (code.unfolded 𝓤 𝓛.H 𝓜 𝓡)
     (lines-meets 𝓛 𝓜.mem 𝓡.run (tables_of 𝓤 𝓛.H 𝓜 (tables 𝓤 𝓛.H 𝓜 𝓡 code.env))

@@ -39,12 +39,12 @@ use Rattle.lent.proofs.Lent.{lends, back}
 use Rattle.lent.proofs.Says.{says2}
 use Rattle.types.specs.declared.Wear.{Wear}
 use Rattle.types.specs.contracts.Wear as T
-use Rattle.paper.specs.WearText.{wearWritten, Written as Told}
+use Rattle.paper.specs.WearText.{wear_written, Written as Told}
 use Rattle.wear_text.specs.declared.State.{State}
 use Rattle.wear_text.specs.declared.Begun.{Begun}
 use Rattle.wear_text.specs.declared.Written.{Written}
-use Rattle.wear_text.specs.Page.{Page, page, linedTo, begunOf, finished, written_of}
-use Rattle.wear_text.proofs.Pages.{page_of, all_told, count-within}
+use Rattle.wear_text.specs.Page.{Page, page, lined_to, begun_of, finished, written_of}
+use Rattle.wear_text.proofs.Pages.{page_of, all_told, count_within}
 use Rattle.wear_text.specs.contracts.State as St
 use Rattle.wear_text.proofs.State.TheLaws as St'
 use Rattle.wear_text.specs.contracts.Begun as Be
@@ -107,7 +107,7 @@ module _ {M : Type 1} {𝓤 : Ura M} (𝓛 : Logic 𝓤) (mem : Memory → SProp
   open 𝓛 use {H}
 
   abbrev told : Begun
-  told = begunOf n (length wear.now) (length text.now)
+  told = begun_of n (length wear.now) (length text.now)
 
   abbrev a : Arg
   a = (n, (wear, (text, tt)))
@@ -130,7 +130,7 @@ module _ {M : Type 1} {𝓤 : Ura M} (𝓛 : Logic 𝓤) (mem : Memory → SProp
       owned ! u64 (Is u64) (uint_Makes 𝓛 w64) n _ (refl, n-fits) $ fjoin ! $ nothing ! $ join ! $ frame ! $ done !
 
   within : (r : Begun) → r ≡ told → r.count ≤ length wear.now
-  within r e = subst (λ (r' : Begun). r'.count ≤ length wear.now) (sym e) (count-within n (length wear.now) (length text.now))
+  within r e = subst (λ (r' : Begun). r'.count ≤ length wear.now) (sym e) (count_within n (length wear.now) (length text.now))
 
   abbrev largs : Begun → GName → State × (MutBor (List Wear) × (MutBor (List ℕ) × (ℕ × Unit {0})))
   largs r δ = (r.state, (wear, (x text δ text.now, (r.count, tt))))
@@ -159,7 +159,7 @@ module _ {M : Type 1} {𝓤 : Ura M} (𝓛 : Logic 𝓤) (mem : Memory → SProp
       nothing ! $ owned ! St.the_row (Is St.the_row) ((LL.makes St.the_type St'.the_plain) 𝓛) q _ is $ fjoin ! $ owned ! u8 (Is u8) (uint_Makes 𝓛 w8) r.number _ (refl, fits) $ fjoin ! $ move ! (2 ∷ 0 ∷ []) $ fjoin ! $
       nothing ! $ move ! (2 ∷ 0 ∷ []) $ join ! $ join ! $ frame ! $ done !
 
-  returns : (m : Written) (os : List ℕ) → m ≡ written_of (wearWritten n wear.now text.now) → os ≡ (wearWritten n wear.now text.now).text → Is Wr.the_row m (LL.vals Wr.the_type Wr'.the_laws m) → length os ≡ length text.now → ent 𝓤 (⋆ 𝓛 (‵ (flft κw qw) ∷ ‵ (flft κt qt) ∷ ‵ (finally u8 text.ghost_name os) ∷ ‵ ((ShrSlice (named 0) κw T.the_row).own_val wear (s wear ∷ [])) ∷ [])) (Post (only (LL.vals Wr.the_type Wr'.the_laws m)))
+  returns : (m : Written) (os : List ℕ) → m ≡ written_of (wear_written n wear.now text.now) → os ≡ (wear_written n wear.now text.now).text → Is Wr.the_row m (LL.vals Wr.the_type Wr'.the_laws m) → length os ≡ length text.now → ent 𝓤 (⋆ 𝓛 (‵ (flft κw qw) ∷ ‵ (flft κt qt) ∷ ‵ (finally u8 text.ghost_name os) ∷ ‵ ((ShrSlice (named 0) κw T.the_row).own_val wear (s wear ∷ [])) ∷ [])) (Post (only (LL.vals Wr.the_type Wr'.the_laws m)))
   returns m os e₁ e₂ is len =
       qed 𝓛 (‵ (flft κw qw) ∷ ‵ (flft κt qt) ∷ ‵ (finally u8 text.name os) ∷ ‵ ((ShrSlice (named 0) κw T.the_row).own_val wear (s wear ∷ [])) ∷ []) ∵
       suffices ! _ (ends_at 𝓛 f.ended stayed (f.clauses 𝓛 mem run) (((κw, (κt, tt)), (qw, (qt, tt)), tt, a, at), tt) (only (LL.vals Wr.the_type Wr'.the_laws m)) m (tt, (tt, (os, tt))) (tt, (tt, (len, tt)))) $ says2 ! e₁ e₂ $
@@ -174,7 +174,7 @@ module _ {M : Type 1} {𝓤 : Ura M} (𝓛 : Logic 𝓤) (mem : Memory → SProp
       fjoin ! $ owned ! u64 (Is u64) (uint_Makes 𝓛 w64) n _ (refl, n-fits) $ fjoin ! $ frame ! $ owned ! Wr.the_row (Is Wr.the_row) ((LL.makes Wr.the_type Wr'.the_plain) 𝓛) m _ is $ done !
 
   -- all told
-  in_all : (r : Begun) (q : State) (us : List ℕ) → r ≡ told → page q us ≡ linedTo wear.now r.count (page r.state text.now) → finished r.number q us ≡ wearWritten n wear.now text.now
+  in_all : (r : Begun) (q : State) (us : List ℕ) → r ≡ told → page q us ≡ lined_to wear.now r.count (page r.state text.now) → finished r.number q us ≡ wear_written n wear.now text.now
   in_all r q us e e₁ =
       ap (λ (g : Page). finished r.number g.state g.text) e₁
       ∙ ap (λ (r' : Begun). finished r'.number (page_of wear.now text.now r').state (page_of wear.now text.now r').text) e ∙ all_told wear.now text.now n
@@ -249,9 +249,9 @@ module _ {M : Type 1} {𝓤 : Ura M} (𝓛 : Logic 𝓤) (mem : Memory → SProp
         calls_at ! fm (Lines 𝓛 mem run) known-lines (to-lines r ν δ) (and_then ! (load ! (from ! (fld ! refl (stop !))) (look_in ! 21 (sub ! 0 refl (whole !)))) (and_then ! (load ! (from ! (stop !)) (look ! 25 refl)) (and_then ! (load ! (from ! (stop !)) (look ! 11 refl)) (and_then ! (load ! (from ! (fld ! refl (stop !))) (look_in ! 21 (sub ! 1 refl (whole !)))) (no_more !))))) (λ w₂.
         use1 𝓛 (later (some (λ (q : State). ((‵ (flft κw qw) ⊛ (‵ (flft (ν ∷ []) full_share) ⊛ ‵ ftrue)) ⊛ ‵ ((St.the_row).own_val q (w₂ ∷ []))) ⊛ raw (ensured 𝓛 lines.ended (lines.clauses 𝓛 mem run) (κw, (ν ∷ [], tt)) (largs r δ) tt q)))) (id⊢ 𝓤 _) $ await ! tt $ pick ! (λ q. split ! $
         move ! (1 ∷ []) $
-        use1 𝓛 (some (λ (us : Unit {0} × (Unit {0} × (List ℕ × (Unit {0} × Unit {0})))). ‵ (lasts lines.ended (κw, (ν ∷ [], tt)) (largs r δ) us) ⊛ raw (fact 𝓤 (page q us.1.1.0 ≡ linedTo wear.now r.count (page r.state text.now))))) (id⊢ 𝓤 _) $ pick ! (λ us. split ! $
+        use1 𝓛 (some (λ (us : Unit {0} × (Unit {0} × (List ℕ × (Unit {0} × Unit {0})))). ‵ (lasts lines.ended (κw, (ν ∷ [], tt)) (largs r δ) us) ⊛ raw (fact 𝓤 (page q us.1.1.0 ≡ lined_to wear.now r.count (page r.state text.now))))) (id⊢ 𝓤 _) $ pick ! (λ us. split ! $
         move ! (1 ∷ []) $
-        heard ! (page q us.1.1.0 ≡ linedTo wear.now r.count (page r.state text.now)) (λ e₁. fsplit ! $
+        heard ! (page q us.1.1.0 ≡ lined_to wear.now r.count (page r.state text.now)) (λ e₁. fsplit ! $
         move ! (1 ∷ []) $
         fsplit ! $
         move ! (1 ∷ []) $

@@ -11,5 +11,5 @@ returns-2 : tie.Need-returns-2
 unfolding ◌and◌
 returns-2 c = rw c.if1.false
 
-pub both-spec : {M : Type 1} → statement M
-both-spec = tie.close (tie.spec returns returns-2)
+pub both_spec : {M : Type 1} → statement M
+both_spec = tie.close (tie.spec returns returns-2)

@@ -11,5 +11,5 @@ returns-2 : tie.Need-returns-2
 unfolding ◌or◌
 returns-2 c = rw c.if1.false
 
-pub either-spec : {M : Type 1} → statement M
-either-spec = tie.close (tie.spec returns returns-2)
+pub either_spec : {M : Type 1} → statement M
+either_spec = tie.close (tie.spec returns returns-2)

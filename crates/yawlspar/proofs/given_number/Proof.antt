@@ -1,7 +1,7 @@
 -- `yawlspar::given_number` meets its contract: it joins the tests in the definition's order.
 use borrow.Author.Rules.{rules}
-use Rattle.words.proofs.Tests.{orElse-none}
-use Rattle.yawlspar.specs.Face.{givenNumber}
+use Rattle.words.proofs.Tests.{or_else_none}
+use Rattle.yawlspar.specs.Face.{given_number}
 use Rattle.yawlspar.proofs.given_number.Statement.{statement}
 use Rattle.yawlspar.proofs.given_number.Tie as tie
 
@@ -36,11 +36,11 @@ number-or-requires-2 : tie.Need-number-or-requires-2
 number-or-requires-2 c κs = search rules
 
 returns : tie.Need-returns
-unfolding givenNumber
-returns c = rw (c.number-or2.ensures, c.before.number-or.ensures, orElse-none, c.before.before.both7.ensures, c.before.before.before.both6.ensures, c.before.before.before.before.both5.ensures, c.before.before.before.before.before.both4.ensures, c.before.before.before.before.before.before.both3.ensures, c.before.before.before.before.before.before.before.both2.ensures, c.before.before.before.before.before.before.before.before.both.ensures, c.before.before.before.before.before.before.before.before.before.Size-ok.ensures)
+unfolding given_number
+returns c = rw (c.number-or2.ensures, c.before.number-or.ensures, or_else_none, c.before.before.both7.ensures, c.before.before.before.both6.ensures, c.before.before.before.before.both5.ensures, c.before.before.before.before.before.both4.ensures, c.before.before.before.before.before.before.both3.ensures, c.before.before.before.before.before.before.before.both2.ensures, c.before.before.before.before.before.before.before.before.both.ensures, c.before.before.before.before.before.before.before.before.before.Size-ok.ensures)
 
-pub given-number-spec : {M : Type 1} → statement M
-given-number-spec =
+pub given_number_spec : {M : Type 1} → statement M
+given_number_spec =
     tie.close
     (tie.spec
     size-ok-requires

@@ -2,11 +2,11 @@
 use mathlib.Core.Path.{sym, ap, ◌∙◌}
 use borrow.Author.Tests.{not-true, not-false}
 use Rattle.record_bytes.specs.declared.Found.{Found}
-use Rattle.record_bytes.specs.Layout.{recordLength}
-use Rattle.record_bytes.specs.Read.{identityIn, recordIn}
-use Rattle.record_bytes.proofs.Back.{held-length}
-use Rattle.yawlspar.proofs.Face.{packs, unheld-answer, unheld-bytes, unheld-output, told-answer, told-bytes, told-output}
-use Rattle.yawlspar.proofs.FirstPlace.{first-packs}
+use Rattle.record_bytes.specs.Layout.{record_length}
+use Rattle.record_bytes.specs.Read.{identity_in, record_in}
+use Rattle.record_bytes.proofs.Back.{held_length}
+use Rattle.yawlspar.proofs.Face.{packs, unheld_answer, unheld_bytes, unheld_output, told_answer, told_bytes, told_output}
+use Rattle.yawlspar.proofs.FirstPlace.{first_packs}
 use borrow.Author.Rules.{rules}
 use native.Mathlib.Omega.{arith}
 use lib.Seq.{take_all}
@@ -27,10 +27,10 @@ same_length c = search rules
 
 returns : tie.Need-returns
 returns c =
-    let h = recordIn c.before.before.before.before.before.before.before.before.before.before.before.args.bytes.now in
+    let h = record_in c.before.before.before.before.before.before.before.before.before.before.before.args.bytes.now in
     let n = ap (λ (x : Found). x.ok) (sym c.before.before.before.before.read.ensures) ∙ not-true _ c.before.before.if1.true in
     let l = c.before.later-refusal.ensures in
-    (c.pack.ensures ∙ packs _ 0 (omega arith) ∙ rw l (unheld-answer h n _ _ _ _ _), (unheld-bytes h n _ _ _ _ _ _, unheld-output h n _ _ _ _ _))
+    (c.pack.ensures ∙ packs _ 0 (omega arith) ∙ rw l (unheld_answer h n _ _ _ _ _), (unheld_bytes h n _ _ _ _ _ _, unheld_output h n _ _ _ _ _))
 
 sub-identity-in : tie.Need-overflow-sub-identity-in
 sub-identity-in c = search rules
@@ -39,7 +39,7 @@ part-identity-in-start : tie.Need-slice-bounds-identity-in-start
 part-identity-in-start c = search rules
 
 part-identity-in-end : tie.Need-slice-bounds-identity-in-end
-part-identity-in-end c = omega (arith, held-length c.before.before.before.before.before.before.before.before.before.before.before.args.bytes.now (ap (λ (x : Found). x.ok) (sym c.before.before.before.before.read.ensures) ∙ not-false _ c.before.before.if1.false))
+part-identity-in-end c = omega (arith, held_length c.before.before.before.before.before.before.before.before.before.before.before.args.bytes.now (ap (λ (x : Found). x.ok) (sym c.before.before.before.before.read.ensures) ∙ not-false _ c.before.before.if1.false))
 
 identity-in-requires : tie.Need-identity-in-requires
 identity-in-requires c κs = search rules
@@ -67,13 +67,13 @@ returns-2 c =
     let bs = c.before.before.before.before.before.before.before.before.before.before.before.before.before.before.before.before.before.before.before.before.before.before.before.args.bytes.now in
     let f = c.before.before.before.before.before.before.before.before.before.before.before.before.before.before.before.before.read in
     let e = ap (λ (x : Found). x.ok) (sym c.before.before.before.before.before.before.before.before.before.before.before.before.before.before.before.before.read.ensures) ∙ not-false _ c.before.before.before.before.before.before.before.before.before.before.before.before.before.before.if1.false in
-    let d = c.before.before.before.before.before.before.before.before.before.before.identity-in.ensures ∙ ap identityIn (take_all recordLength bs (omega (arith, held-length bs e))) in
+    let d = c.before.before.before.before.before.before.before.before.before.before.identity-in.ensures ∙ ap identity_in (take_all record_length bs (omega (arith, held_length bs e))) in
     let t = c.before.before.before.before.before.before.before.before.before.both.ensures in
     let u = c.before.before.before.before.before.before.before.transact-part.ensures in
-    (c.pack2.ensures ∙ packs _ _ (rw u.0 (first-packs _ _ _ _ _ _ _ _)) ∙ told-answer bs e f.result f.ensures _ _ t _ _ _ _ _ u.0, (c.before.before.before.write-change.ensures ∙ told-bytes bs e f.result f.ensures _ _ t _ _ _ _ _ u.0, told-output bs e f.result f.ensures _ _ t _ d _ _ _ _ _ u.1))
+    (c.pack2.ensures ∙ packs _ _ (rw u.0 (first_packs _ _ _ _ _ _ _ _)) ∙ told_answer bs e f.result f.ensures _ _ t _ _ _ _ _ u.0, (c.before.before.before.write-change.ensures ∙ told_bytes bs e f.result f.ensures _ _ t _ _ _ _ _ u.0, told_output bs e f.result f.ensures _ _ t _ d _ _ _ _ _ u.1))
 
-pub yawlspar-transact-spec : {M : Type 1} → statement M
-yawlspar-transact-spec =
+pub yawlspar_transact_spec : {M : Type 1} → statement M
+yawlspar_transact_spec =
     tie.close
     (tie.spec
     read-requires

@@ -1,6 +1,6 @@
 -- `yawlspar_map::yawlspar_tick_map` meets its contract: what the ticks answer is packed.
 use mathlib.Core.Path.{◌∙◌}
-use Rattle.yawlspar_map.proofs.Face.{kept-answer}
+use Rattle.yawlspar_map.proofs.Face.{kept_answer}
 use borrow.Author.Rules.{rules}
 use Rattle.yawlspar_map.proofs.yawlspar_tick_map.Statement.{statement}
 use Rattle.yawlspar_map.proofs.yawlspar_tick_map.Tie as tie
@@ -26,10 +26,10 @@ same-length-4 c = search rules
 returns : tie.Need-returns
 returns c =
     let w = c.before.before.before.before.before.before.before.before.before.tick.ensures in
-    (c.pack.ensures ∙ kept-answer _ _ _ _ _ _ w.0, w.1)
+    (c.pack.ensures ∙ kept_answer _ _ _ _ _ _ w.0, w.1)
 
-pub yawlspar-tick-map-spec : {M : Type 1} → statement M
-yawlspar-tick-map-spec =
+pub yawlspar_tick_map_spec : {M : Type 1} → statement M
+yawlspar_tick_map_spec =
     tie.close
     (tie.spec
     tick-requires

@@ -38,8 +38,8 @@ returns-3 c = rw c.before.before.verdict2.given.1 c.pack2.ensures
 returns-4 : tie.Need-returns-4
 returns-4 c = rw c.before.verdict3.given.1 (sym (add-zero _))
 
-pub answer-spec : {M : Type 1} → statement M
-answer-spec =
+pub answer_spec : {M : Type 1} → statement M
+answer_spec =
     tie.close
     (tie.spec
     enum_told

@@ -1,7 +1,7 @@
 -- `yawlspar_script::yawlspar_check` meets its contract: what the check says is packed.
 use mathlib.Core.Path.{ap, ◌∙◌}
 use borrow.Author.Rules.{rules}
-use Rattle.yawlspar_script.specs.Face.{checkAnswer}
+use Rattle.yawlspar_script.specs.Face.{check_answer}
 use Rattle.yawlspar_script.proofs.yawlspar_check.Statement.{statement}
 use Rattle.yawlspar_script.proofs.yawlspar_check.Tie as tie
 
@@ -32,10 +32,10 @@ same-length-6 c = search rules
 returns : tie.Need-returns
 returns c =
     let w = c.before.before.before.before.before.before.before.before.before.before.before.before.before.check.ensures in
-    (c.answer.ensures ∙ ap checkAnswer w.0, w.1)
+    (c.answer.ensures ∙ ap check_answer w.0, w.1)
 
-pub yawlspar-check-spec : {M : Type 1} → statement M
-yawlspar-check-spec =
+pub yawlspar_check_spec : {M : Type 1} → statement M
+yawlspar_check_spec =
     tie.close
     (tie.spec
     check-requires

@@ -3,7 +3,7 @@ use Prim.Native.Nat.{◌%◌, ◌^◌}
 use mathlib.Core.Path.{ap, ◌∙◌}
 use Rattle.yawlspar.specs.Face.{packed}
 use Rattle.script.specs.declared.Ran.{Ran}
-use Rattle.yawlspar_script.specs.Face.{scriptAnswer}
+use Rattle.yawlspar_script.specs.Face.{script_answer}
 use borrow.Author.Rules.{rules}
 use Rattle.yawlspar_script.proofs.yawlspar_script.Statement.{statement}
 use Rattle.yawlspar_script.proofs.yawlspar_script.Tie as tie
@@ -36,14 +36,14 @@ same-length-6 : tie.Need-same-length-6
 same-length-6 c = search rules
 
 returns : tie.Need-returns
-unfolding scriptAnswer
+unfolding script_answer
 returns c =
     let w = c.before.before.before.before.before.before.before.before.before.before.before.before.before.before.run.ensures in
     let q = w.1 in
     (c.pack.ensures ∙ ap (λ (x : Ran). packed x.number (x.step % 2 ^ 56)) w.0, (q.0, (q.1.0, (q.1.1.0, (q.1.1.1.0, (q.1.1.1.1.0, q.1.1.1.1.1.0))))))
 
-pub yawlspar-script-spec : {M : Type 1} → statement M
-yawlspar-script-spec =
+pub yawlspar_script_spec : {M : Type 1} → statement M
+yawlspar_script_spec =
     tie.close
     (tie.spec
     slice-aggregate-run

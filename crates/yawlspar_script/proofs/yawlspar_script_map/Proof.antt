@@ -3,7 +3,7 @@ use Prim.Native.Nat.{◌%◌, ◌^◌}
 use mathlib.Core.Path.{ap, ◌∙◌}
 use Rattle.script.specs.declared.Ran.{Ran}
 use Rattle.yawlspar.specs.Face.{packed}
-use Rattle.yawlspar_script.specs.Face.{scriptAnswer}
+use Rattle.yawlspar_script.specs.Face.{script_answer}
 use borrow.Author.Rules.{rules}
 use Rattle.yawlspar_script.proofs.yawlspar_script_map.Statement.{statement}
 use Rattle.yawlspar_script.proofs.yawlspar_script_map.Tie as tie
@@ -36,13 +36,13 @@ same-length-7 : tie.Need-same-length-7
 same-length-7 c = search rules
 
 returns : tie.Need-returns
-unfolding scriptAnswer
+unfolding script_answer
 returns c =
     let w = c.before.before.before.before.before.before.before.before.before.before.before.before.before.before.before.script.ensures in
     (c.pack.ensures ∙ ap (λ (x : Ran). packed x.number (x.step % 2 ^ 56)) w.0, w.1)
 
-pub yawlspar-script-map-spec : {M : Type 1} → statement M
-yawlspar-script-map-spec =
+pub yawlspar_script_map_spec : {M : Type 1} → statement M
+yawlspar_script_map_spec =
     tie.close
     (tie.spec
     script-requires

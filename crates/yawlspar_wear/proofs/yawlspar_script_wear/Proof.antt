@@ -40,9 +40,9 @@ use Rattle.lent.proofs.Says.{says8}
 use Rattle.types.specs.declared.Wear.{Wear}
 use Rattle.types.specs.contracts.Wear as T
 use Rattle.paper.specs.Wear.{WearScripted}
-use Rattle.record_bytes.specs.Read.{recordIn}
+use Rattle.record_bytes.specs.Read.{record_in}
 use Rattle.script.specs.declared.Ran.{Ran}
-use Rattle.script.specs.InBytes.{scriptOf, ranOf, scriptBytes, heldWearScripted}
+use Rattle.script.specs.InBytes.{script_of, ran_of, script_bytes, held_wear_scripted}
 use Rattle.script.specs.contracts.Ran as R
 use Rattle.script.proofs.Ran.TheLaws as R'
 use Rattle.script.specs.contracts.run_wear as run-wear
@@ -54,7 +54,7 @@ use Rattle.yawlspar.specs.contracts.pack as pack
 use Rattle.yawlspar.proofs.pack.Symbol as pack-def
 use Rattle.yawlspar.proofs.pack.Symbol.{name as #yawlspar·pack}
 use Rattle.yawlspar.proofs.pack.Met as pack-thm
-use Rattle.yawlspar_wear.proofs.Face.{ran-answer}
+use Rattle.yawlspar_wear.proofs.Face.{ran_answer}
 use Rattle.yawlspar_wear.specs.contracts.yawlspar_script_wear.Key.{name as #yawlspar-wear·yawlspar-script-wear}
 use Rattle.yawlspar_wear.specs.contracts.yawlspar_script_wear as f
 use Rattle.yawlspar_wear.proofs.yawlspar_script_wear.Statement as stated
@@ -92,7 +92,7 @@ module _ {M : Type 1} {𝓤 : Ura M} (𝓛 : Logic 𝓤) (mem : Memory → SProp
 
   -- what the call comes to
   abbrev told : WearScripted
-  told = heldWearScripted (recordIn bytes.now) wp (scriptOf wp input.now lengths.now ticks.now) array.now rows.now output.now answers.now done'.now wear.now
+  told = held_wear_scripted (record_in bytes.now) wp (script_of wp input.now lengths.now ticks.now) array.now rows.now output.now answers.now done'.now wear.now
 
   abbrev to-run-wear : (Made 𝓛 mem run).Ghost
   to-run-wear = (((κ₀, (κ₁, (κ₂, (κ₃, (κ₄, (κ₅, (κ₆, (κ₇, tt)))))))), (q₀, (q₁, (q₂, (q₃, (q₄, (q₅, (q₆, (q₇, tt)))))))), tt, a, at), tt)
@@ -128,16 +128,16 @@ module _ {M : Type 1} {𝓤 : Ura M} (𝓛 : Logic 𝓤) (mem : Memory → SProp
   to-pack r = ((tt, tt, tt, (r.number, (r.step, tt)), (vint w8 r.number ∷ [], (vint w64 r.step ∷ [], tt))), tt)
 
   goes-pack : (r : Ran) → r.number < 2 ^ 8 → r.step < 2 ^ 64 → ent 𝓤 (emp 𝓤) ((Pack 𝓛 mem run).pre (to-pack r))
-  goes-pack r number_fits place-fits =
-      qed 𝓛 [] ∵ nothing ! $ owned ! usize (Is usize) (uint_Makes 𝓛 w64) r.step _ (refl, place-fits) $ fjoin ! $ owned ! u8 (Is u8) (uint_Makes 𝓛 w8) r.number _ (refl, number_fits) $ fjoin ! $ nothing ! $ join ! $ frame ! $ done !
+  goes-pack r number_fits place_fits =
+      qed 𝓛 [] ∵ nothing ! $ owned ! usize (Is usize) (uint_Makes 𝓛 w64) r.step _ (refl, place_fits) $ fjoin ! $ owned ! u8 (Is u8) (uint_Makes 𝓛 w8) r.number _ (refl, number_fits) $ fjoin ! $ nothing ! $ join ! $ frame ! $ done !
 
-  returns : (r : Ran) (m : ℕ) (bs xs ys os ns ds : List ℕ) (ws : List Wear) → r ≡ ranOf told.run → m ≡ packed r.number (r.step % 2 ^ 56) → m < 2 ^ 64 → bs ≡ scriptBytes (recordIn bytes.now) told.run bytes.now → xs ≡ told.run.board.array → ys ≡ told.run.board.rows → os ≡ told.run.output → ns ≡ told.run.answers → ds ≡ told.run.done → ws ≡ told.wear
+  returns : (r : Ran) (m : ℕ) (bs xs ys os ns ds : List ℕ) (ws : List Wear) → r ≡ ran_of told.run → m ≡ packed r.number (r.step % 2 ^ 56) → m < 2 ^ 64 → bs ≡ script_bytes (record_in bytes.now) told.run bytes.now → xs ≡ told.run.board.array → ys ≡ told.run.board.rows → os ≡ told.run.output → ns ≡ told.run.answers → ds ≡ told.run.done → ws ≡ told.wear
       → length bs ≡ length bytes.now → length xs ≡ length array.now → length ys ≡ length rows.now → length os ≡ length output.now → length ns ≡ length answers.now → length ds ≡ length done'.now → length ws ≡ length wear.now
       → ent 𝓤 (⋆ 𝓛 ((‵ (flft κ₀ q₀) ⊛ (‵ (flft κ₁ q₁) ⊛ (‵ (flft κ₂ q₂) ⊛ (‵ (flft κ₃ q₃) ⊛ (‵ (flft κ₄ q₄) ⊛ (‵ (flft κ₅ q₅) ⊛ (‵ (flft κ₆ q₆) ⊛ (‵ (flft κ₇ q₇) ⊛ ‵ ftrue)))))))) ∷ ‵ (finally u8 bytes.name bs) ∷ ‵ (finally u8 array.name xs) ∷ ‵ (finally u8 rows.name ys) ∷ ‵ (finally u8 output.name os) ∷ ‵ (finally u8 answers.name ns) ∷ ‵ (finally u16 done'.name ds) ∷ ‵ (finally T.the_row wear.name ws) ∷ ‵ ((ShrSlice (named 3) κ₃ u8).own_val input (s input ∷ [])) ∷ ‵ ((ShrSlice (named 3) κ₃ u16).own_val lengths (s lengths ∷ [])) ∷ ‵ ((ShrSlice (named 3) κ₃ u16).own_val ticks (s ticks ∷ [])) ∷ [])) (Post (vint w64 m))
   returns r m bs xs ys os ns ds ws e e₀ fits e₁ e₂ e₃ e₄ e₅ e₆ e₇ l₁ l₂ l₃ l₄ l₅ l₆ l₇ =
       qed 𝓛 ((‵ (flft κ₀ q₀) ⊛ (‵ (flft κ₁ q₁) ⊛ (‵ (flft κ₂ q₂) ⊛ (‵ (flft κ₃ q₃) ⊛ (‵ (flft κ₄ q₄) ⊛ (‵ (flft κ₅ q₅) ⊛ (‵ (flft κ₆ q₆) ⊛ (‵ (flft κ₇ q₇) ⊛ ‵ ftrue)))))))) ∷ ‵ (finally u8 bytes.name bs) ∷ ‵ (finally u8 array.name xs) ∷ ‵ (finally u8 rows.name ys) ∷ ‵ (finally u8 output.name os) ∷ ‵ (finally u8 answers.name ns) ∷ ‵ (finally u16 done'.name ds) ∷ ‵ (finally T.the_row wear.name ws) ∷ ‵ ((ShrSlice (named 3) κ₃ u8).own_val input (s input ∷ [])) ∷ ‵ ((ShrSlice (named 3) κ₃ u16).own_val lengths (s lengths ∷ [])) ∷ ‵ ((ShrSlice (named 3) κ₃ u16).own_val ticks (s ticks ∷ [])) ∷ []) ∵
       suffices ! _ (ends_at 𝓛 f.ended stayed (f.clauses 𝓛 mem run) (((κ₀, (κ₁, (κ₂, (κ₃, (κ₄, (κ₅, (κ₆, (κ₇, tt)))))))), (q₀, (q₁, (q₂, (q₃, (q₄, (q₅, (q₆, (q₇, tt)))))))), tt, a, at), tt) (vint w64 m) m (bs, (xs, (ys, (tt, (tt, (tt, (tt, (os, (ns, (ds, (ws, tt))))))))))) (l₁, (l₂, (l₃, (tt, (tt, (tt, (tt, (l₄, (l₅, (l₆, (l₇, tt)))))))))))) $
-      says8 ! (e₀ ∙ ran-answer told.run r e) e₁ e₂ e₃ e₄ e₅ e₆ e₇ $ frame ! $ nothing ! $
+      says8 ! (e₀ ∙ ran_answer told.run r e) e₁ e₂ e₃ e₄ e₅ e₆ e₇ $ frame ! $ nothing ! $
       move ! (7 ∷ 0 ∷ []) $
       fjoin ! $
       move ! (6 ∷ 0 ∷ []) $
@@ -215,9 +215,9 @@ module _ {M : Type 1} {𝓤 : Ura M} (𝓛 : Logic 𝓤) (mem : Memory → SProp
         calls_at ! fm (Made 𝓛 mem run) known-run-wear to-run-wear (and_then ! (load ! (from ! (stop !)) (look ! 30 refl)) (and_then ! (load ! (from ! (stop !)) (look ! 26 refl)) (and_then ! (load ! (from ! (stop !)) (look ! 22 refl)) (and_then ! (load ! (from ! (stop !)) (look ! 50 refl)) (and_then ! (load ! (from ! (stop !)) (look ! 48 refl)) (and_then ! (load ! (from ! (stop !)) (look ! 46 refl)) (and_then ! (load ! (from ! (stop !)) (look ! 44 refl)) (and_then ! (load ! (from ! (stop !)) (look ! 18 refl)) (and_then ! (load ! (from ! (stop !)) (look ! 14 refl)) (and_then ! (load ! (from ! (stop !)) (look ! 10 refl)) (and_then ! (load ! (from ! (stop !)) (look ! 6 refl)) (no_more !)))))))))))) (λ w.
         use1 𝓛 (later (some (λ (r : Ran). ((‵ (flft κ₀ q₀) ⊛ (‵ (flft κ₁ q₁) ⊛ (‵ (flft κ₂ q₂) ⊛ (‵ (flft κ₃ q₃) ⊛ (‵ (flft κ₄ q₄) ⊛ (‵ (flft κ₅ q₅) ⊛ (‵ (flft κ₆ q₆) ⊛ (‵ (flft κ₇ q₇) ⊛ ‵ ftrue)))))))) ⊛ ‵ ((R.the_row).own_val r (w ∷ []))) ⊛ raw (ensured 𝓛 run-wear.ended (run-wear.clauses 𝓛 mem run) (κ₀, (κ₁, (κ₂, (κ₃, (κ₄, (κ₅, (κ₆, (κ₇, tt)))))))) a tt r)))) (id⊢ 𝓤 _) $ await ! tt $ pick ! (λ r. split ! $
         move ! (1 ∷ []) $
-        use1 𝓛 (some (λ (us : List ℕ × (List ℕ × (List ℕ × (Unit {0} × (Unit {0} × (Unit {0} × (Unit {0} × (List ℕ × (List ℕ × (List ℕ × (List Wear × Unit {0}))))))))))). ‵ (lasts run-wear.ended (κ₀, (κ₁, (κ₂, (κ₃, (κ₄, (κ₅, (κ₆, (κ₇, tt)))))))) a us) ⊛ (raw (fact 𝓤 (r ≡ ranOf told.run)) ⊛ (raw (fact 𝓤 (us.0 ≡ scriptBytes (recordIn bytes.now) told.run bytes.now)) ⊛ (raw (fact 𝓤 (us.1.0 ≡ told.run.board.array)) ⊛ (raw (fact 𝓤 (us.1.1.0 ≡ told.run.board.rows)) ⊛ (raw (fact 𝓤 (us.1.1.1.1.1.1.1.0 ≡ told.run.output)) ⊛ (raw (fact 𝓤 (us.1.1.1.1.1.1.1.1.0 ≡ told.run.answers)) ⊛ (raw (fact 𝓤 (us.1.1.1.1.1.1.1.1.1.0 ≡ told.run.done)) ⊛ raw (fact 𝓤 (us.1.1.1.1.1.1.1.1.1.1.0 ≡ told.wear))))))))))) (id⊢ 𝓤 _) $ pick ! (λ us. split ! $
+        use1 𝓛 (some (λ (us : List ℕ × (List ℕ × (List ℕ × (Unit {0} × (Unit {0} × (Unit {0} × (Unit {0} × (List ℕ × (List ℕ × (List ℕ × (List Wear × Unit {0}))))))))))). ‵ (lasts run-wear.ended (κ₀, (κ₁, (κ₂, (κ₃, (κ₄, (κ₅, (κ₆, (κ₇, tt)))))))) a us) ⊛ (raw (fact 𝓤 (r ≡ ran_of told.run)) ⊛ (raw (fact 𝓤 (us.0 ≡ script_bytes (record_in bytes.now) told.run bytes.now)) ⊛ (raw (fact 𝓤 (us.1.0 ≡ told.run.board.array)) ⊛ (raw (fact 𝓤 (us.1.1.0 ≡ told.run.board.rows)) ⊛ (raw (fact 𝓤 (us.1.1.1.1.1.1.1.0 ≡ told.run.output)) ⊛ (raw (fact 𝓤 (us.1.1.1.1.1.1.1.1.0 ≡ told.run.answers)) ⊛ (raw (fact 𝓤 (us.1.1.1.1.1.1.1.1.1.0 ≡ told.run.done)) ⊛ raw (fact 𝓤 (us.1.1.1.1.1.1.1.1.1.1.0 ≡ told.wear))))))))))) (id⊢ 𝓤 _) $ pick ! (λ us. split ! $
         move ! (1 ∷ []) $
-        split ! $ heard ! (r ≡ ranOf told.run) (λ e. split ! $ heard ! (us.0 ≡ scriptBytes (recordIn bytes.now) told.run bytes.now) (λ e₁. split ! $ heard ! (us.1.0 ≡ told.run.board.array) (λ e₂. split ! $ heard ! (us.1.1.0 ≡ told.run.board.rows) (λ e₃. split ! $ heard ! (us.1.1.1.1.1.1.1.0 ≡ told.run.output) (λ e₄. split ! $ heard ! (us.1.1.1.1.1.1.1.1.0 ≡ told.run.answers) (λ e₅. split ! $ heard ! (us.1.1.1.1.1.1.1.1.1.0 ≡ told.run.done) (λ e₆. heard ! (us.1.1.1.1.1.1.1.1.1.1.0 ≡ told.wear) (λ e₇.
+        split ! $ heard ! (r ≡ ran_of told.run) (λ e. split ! $ heard ! (us.0 ≡ script_bytes (record_in bytes.now) told.run bytes.now) (λ e₁. split ! $ heard ! (us.1.0 ≡ told.run.board.array) (λ e₂. split ! $ heard ! (us.1.1.0 ≡ told.run.board.rows) (λ e₃. split ! $ heard ! (us.1.1.1.1.1.1.1.0 ≡ told.run.output) (λ e₄. split ! $ heard ! (us.1.1.1.1.1.1.1.1.0 ≡ told.run.answers) (λ e₅. split ! $ heard ! (us.1.1.1.1.1.1.1.1.1.0 ≡ told.run.done) (λ e₆. heard ! (us.1.1.1.1.1.1.1.1.1.1.0 ≡ told.wear) (λ e₇.
         move ! (0 ∷ []) $
         fsplit ! $ fsplit ! $
         move ! (1 ∷ []) $
@@ -291,9 +291,9 @@ module _ {M : Type 1} {𝓤 : Ura M} (𝓛 : Logic 𝓤) (mem : Memory → SProp
   script-wear-meets : (𝓣 : Tables 𝓤 H) → Triple 𝓤 (𝓣.C #script·run-wear) (Made 𝓛 mem run) → Triple 𝓤 (𝓣.C #yawlspar·pack) (Pack 𝓛 mem run) → Meets 𝓛 f.signature (WpFn 𝓤 H 𝓣.C 𝓣.Λ code.function) (f.spec 𝓛 mem run)
   script-wear-meets 𝓣 known-run-wear known-pack = walk_Meets 𝓛 f.ended stayed goes (f.clauses 𝓛 mem run) (WpFn 𝓤 H 𝓣.C 𝓣.Λ code.function) (WpFn-mono 𝓤 H 𝓛.laws 𝓣 code.function) (script-wear-walks 𝓣.C 𝓣.Λ (fm_of 𝓤 H 𝓛.laws 𝓣) known-run-wear known-pack)
 
-pub yawlspar-script-wear-spec : {M : Type 1} → stated.statement M
+pub yawlspar_script_wear_spec : {M : Type 1} → stated.statement M
 unfolding code.routine tables_of
-yawlspar-script-wear-spec 𝓤 𝓛 𝓜 𝓡 =
+yawlspar_script_wear_spec 𝓤 𝓛 𝓜 𝓡 =
     entered 𝓤 𝓛.H (triple_of 𝓛 f.signature (f.spec 𝓛 𝓜.mem 𝓡.run))
     (tables 𝓤 𝓛.H 𝓜 𝓡 code.env).C (tables 𝓤 𝓛.H 𝓜 𝓡 code.env).Λ #yawlspar-wear·yawlspar-script-wear code.function (code.unfolded 𝓤 𝓛.H 𝓜 𝓡)
     (script-wear-meets 𝓛 𝓜.mem 𝓡.run (tables_of 𝓤 𝓛.H 𝓜 (tables 𝓤 𝓛.H 𝓜 𝓡 code.env))

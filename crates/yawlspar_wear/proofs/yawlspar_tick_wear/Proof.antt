@@ -42,10 +42,10 @@ use Rattle.types.specs.contracts.Wear as T
 use Rattle.types.specs.contracts.Tally as S
 use Rattle.types.proofs.Tally.TheLaws as S'
 use Rattle.paper.specs.Wear.{WearTicked, worn}
-use Rattle.record_bytes.specs.Read.{recordIn}
-use Rattle.beside.specs.Beside.{boardBytes}
+use Rattle.record_bytes.specs.Read.{record_in}
+use Rattle.beside.specs.Beside.{board_bytes}
 use Rattle.counted.specs.declared.Counted.{Counted}
-use Rattle.counted.specs.InBytes.{heldWearTicked, countedOf}
+use Rattle.counted.specs.InBytes.{held_wear_ticked, counted_of}
 use Rattle.counted.specs.contracts.Counted as R
 use Rattle.counted.proofs.Counted.TheLaws as R'
 use Rattle.counted.specs.contracts.tick as tick
@@ -61,7 +61,7 @@ use Rattle.yawlspar.specs.contracts.pack as pack
 use Rattle.yawlspar.proofs.pack.Symbol as pack-def
 use Rattle.yawlspar.proofs.pack.Symbol.{name as #yawlspar·pack}
 use Rattle.yawlspar.proofs.pack.Met as pack-thm
-use Rattle.yawlspar_wear.proofs.Face.{counted-answer}
+use Rattle.yawlspar_wear.proofs.Face.{counted_answer}
 use Rattle.yawlspar_wear.specs.contracts.yawlspar_tick_wear.Key.{name as #yawlspar-wear·yawlspar-tick-wear}
 use Rattle.yawlspar_wear.specs.contracts.yawlspar_tick_wear as f
 use Rattle.yawlspar_wear.proofs.yawlspar_tick_wear.Statement as stated
@@ -108,14 +108,14 @@ module _ {M : Type 1} {𝓤 : Ura M} (𝓛 : Logic 𝓤) (mem : Memory → SProp
 
   -- what `tick` returns
   abbrev ticked : WearTicked
-  ticked = heldWearTicked (recordIn bytes.now) array.now rows.now n sectors
+  ticked = held_wear_ticked (record_in bytes.now) array.now rows.now n sectors
 
   abbrev told : Counted
-  told = countedOf ticked
+  told = counted_of ticked
 
   -- and what the buffers are then
   abbrev bytes-told : List ℕ
-  bytes-told = boardBytes (recordIn bytes.now) ticked.board bytes.now
+  bytes-told = board_bytes (record_in bytes.now) ticked.board bytes.now
 
   abbrev Args : Type 0
   Args = Bytes × (Bytes × (Bytes × (ℕ × (ℕ × Unit {0}))))
@@ -153,7 +153,7 @@ module _ {M : Type 1} {𝓤 : Ura M} (𝓛 : Logic 𝓤) (mem : Memory → SProp
   returns r m bs xs ys ws e e₀ fits e₁ e₂ e₃ e₄ l₁ l₂ l₃ l₄ =
       qed 𝓛 ((‵ (flft κ q) ⊛ ‵ ftrue) ∷ ‵ (finally u8 bytes.name bs) ∷ ‵ (finally u8 array.name xs) ∷ ‵ (finally u8 rows.name ys) ∷ ‵ (finally T.the_row wear.name ws) ∷ []) ∵
       suffices ! _ (ends_at 𝓛 f.ended stayed (f.clauses 𝓛 mem run) (((κ, tt), (q, tt), tt, a, at), tt) (vint w64 m) m (bs, (xs, (ys, (tt, (ws, tt))))) (l₁, (l₂, (l₃, (tt, (l₄, tt)))))) $
-      says5 ! (e₀ ∙ counted-answer (recordIn bytes.now) array.now rows.now n sectors r e) e₁ e₂ e₃ (e₄ ∙ ap (λ (r' : Counted). worn r'.tally wear.now) e) $ frame ! $
+      says5 ! (e₀ ∙ counted_answer (record_in bytes.now) array.now rows.now n sectors r e) e₁ e₂ e₃ (e₄ ∙ ap (λ (r' : Counted). worn r'.tally wear.now) e) $ frame ! $
       move ! (3 ∷ []) $ nothing ! $ move ! (1 ∷ 0 ∷ []) $ fjoin ! $ owned ! u64 (Is u64) (uint_Makes 𝓛 w64) n _ (refl, n-fits) $ fjoin ! $
       move ! (3 ∷ 0 ∷ []) $ fjoin ! $ move ! (2 ∷ 0 ∷ []) $ fjoin ! $ move ! (1 ∷ 0 ∷ []) $ fjoin ! $ frame ! $ owned ! u64 (Is u64) (uint_Makes 𝓛 w64) m _ (refl, fits) $ done !
 
@@ -254,9 +254,9 @@ module _ {M : Type 1} {𝓤 : Ura M} (𝓛 : Logic 𝓤) (mem : Memory → SProp
   tick-wear-meets : (𝓣 : Tables 𝓤 H) → Triple 𝓤 (𝓣.C #counted·tick) (Tick 𝓛 mem run) → Triple 𝓤 (𝓣.C #wear·keep) (Kept 𝓛 mem run) → Triple 𝓤 (𝓣.C #yawlspar·pack) (Pack 𝓛 mem run) → Meets 𝓛 f.signature (WpFn 𝓤 H 𝓣.C 𝓣.Λ code.function) (f.spec 𝓛 mem run)
   tick-wear-meets 𝓣 known-tick known-keep known-pack = walk_Meets 𝓛 f.ended stayed goes (f.clauses 𝓛 mem run) (WpFn 𝓤 H 𝓣.C 𝓣.Λ code.function) (WpFn-mono 𝓤 H 𝓛.laws 𝓣 code.function) (tick-wear-walks 𝓣.C 𝓣.Λ (fm_of 𝓤 H 𝓛.laws 𝓣) known-tick known-keep known-pack)
 
-pub yawlspar-tick-wear-spec : {M : Type 1} → stated.statement M
+pub yawlspar_tick_wear_spec : {M : Type 1} → stated.statement M
 unfolding code.routine tables_of
-yawlspar-tick-wear-spec 𝓤 𝓛 𝓜 𝓡 =
+yawlspar_tick_wear_spec 𝓤 𝓛 𝓜 𝓡 =
     entered 𝓤 𝓛.H (triple_of 𝓛 f.signature (f.spec 𝓛 𝓜.mem 𝓡.run))
     (tables 𝓤 𝓛.H 𝓜 𝓡 code.env).C (tables 𝓤 𝓛.H 𝓜 𝓡 code.env).Λ #yawlspar-wear·yawlspar-tick-wear code.function (code.unfolded 𝓤 𝓛.H 𝓜 𝓡)
     (tick-wear-meets 𝓛 𝓜.mem 𝓡.run (tables_of 𝓤 𝓛.H 𝓜 (tables 𝓤 𝓛.H 𝓜 𝓡 code.env))

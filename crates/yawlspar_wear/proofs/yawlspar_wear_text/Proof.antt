@@ -39,7 +39,7 @@ use denote.Exit.{yes}
 use Rattle.lent.proofs.Says.{says2}
 use Rattle.types.specs.declared.Wear.{Wear}
 use Rattle.types.specs.contracts.Wear as T
-use Rattle.paper.specs.WearText.{wearWritten, Written as Told}
+use Rattle.paper.specs.WearText.{wear_written, Written as Told}
 use Rattle.wear_text.specs.declared.Written.{Written}
 use Rattle.wear_text.specs.Page.{written_of}
 use Rattle.wear_text.specs.contracts.Written as R
@@ -53,7 +53,7 @@ use Rattle.yawlspar.specs.contracts.pack as pack
 use Rattle.yawlspar.proofs.pack.Symbol as pack-def
 use Rattle.yawlspar.proofs.pack.Symbol.{name as #yawlspar·pack}
 use Rattle.yawlspar.proofs.pack.Met as pack-thm
-use Rattle.yawlspar_wear.proofs.Face.{written-answer}
+use Rattle.yawlspar_wear.proofs.Face.{written_answer}
 use Rattle.yawlspar_wear.specs.contracts.yawlspar_wear_text.Key.{name as #yawlspar-wear·yawlspar-wear-text}
 use Rattle.yawlspar_wear.specs.contracts.yawlspar_wear_text as f
 use Rattle.yawlspar_wear.proofs.yawlspar_wear_text.Statement as stated
@@ -91,7 +91,7 @@ module _ {M : Type 1} {𝓤 : Ura M} (𝓛 : Logic 𝓤) (mem : Memory → SProp
 
   -- what the call comes to
   abbrev told : Told
-  told = wearWritten blocks wear.now text.now
+  told = wear_written blocks wear.now text.now
 
   abbrev to_write : (Made 𝓛 mem run).Ghost
   to_write = (((κ₀, (κ₁, tt)), (q₀, (q₁, tt)), tt, a, at), tt)
@@ -111,8 +111,8 @@ module _ {M : Type 1} {𝓤 : Ura M} (𝓛 : Logic 𝓤) (mem : Memory → SProp
   to-pack r = ((tt, tt, tt, (r.number, (r.bytes, tt)), (vint w8 r.number ∷ [], (vint w64 r.bytes ∷ [], tt))), tt)
 
   goes-pack : (r : Written) → r.number < 2 ^ 8 → r.bytes < 2 ^ 64 → ent 𝓤 (emp 𝓤) ((Pack 𝓛 mem run).pre (to-pack r))
-  goes-pack r number_fits place-fits =
-      qed 𝓛 [] ∵ nothing ! $ owned ! usize (Is usize) (uint_Makes 𝓛 w64) r.bytes _ (refl, place-fits) $ fjoin ! $ owned ! u8 (Is u8) (uint_Makes 𝓛 w8) r.number _ (refl, number_fits) $ fjoin ! $ nothing ! $ join ! $ frame ! $ done !
+  goes-pack r number_fits place_fits =
+      qed 𝓛 [] ∵ nothing ! $ owned ! usize (Is usize) (uint_Makes 𝓛 w64) r.bytes _ (refl, place_fits) $ fjoin ! $ owned ! u8 (Is u8) (uint_Makes 𝓛 w8) r.number _ (refl, number_fits) $ fjoin ! $ nothing ! $ join ! $ frame ! $ done !
 
   returns : (r : Written) (m : ℕ) (ts : List ℕ) → r ≡ written_of told → m ≡ packed r.number (r.bytes % 2 ^ 56) → m < 2 ^ 64 → ts ≡ told.text
       → length ts ≡ length text.now
@@ -120,7 +120,7 @@ module _ {M : Type 1} {𝓤 : Ura M} (𝓛 : Logic 𝓤) (mem : Memory → SProp
   returns r m ts e e₀ fits e₁ l₁ =
       qed 𝓛 ((‵ (flft κ₀ q₀) ⊛ (‵ (flft κ₁ q₁) ⊛ ‵ ftrue)) ∷ ‵ (finally u8 text.name ts) ∷ ‵ ((ShrSlice (named 0) κ₀ T.the_row).own_val wear (s wear ∷ [])) ∷ []) ∵
       suffices ! _ (ends_at 𝓛 f.ended stayed (f.clauses 𝓛 mem run) (((κ₀, (κ₁, tt)), (q₀, (q₁, tt)), tt, a, at), tt) (vint w64 m) m (tt, (tt, (ts, tt))) (tt, (tt, (l₁, tt)))) $
-      says2 ! (e₀ ∙ written-answer blocks wear.now text.now r e) e₁ $ frame ! $ nothing ! $
+      says2 ! (e₀ ∙ written_answer blocks wear.now text.now r e) e₁ $ frame ! $ nothing ! $
       move ! (1 ∷ 0 ∷ []) $
       fjoin ! $
       move ! (1 ∷ 0 ∷ []) $
@@ -198,9 +198,9 @@ module _ {M : Type 1} {𝓤 : Ura M} (𝓛 : Logic 𝓤) (mem : Memory → SProp
   wear-text-meets : (𝓣 : Tables 𝓤 H) → Triple 𝓤 (𝓣.C #wear-text·write) (Made 𝓛 mem run) → Triple 𝓤 (𝓣.C #yawlspar·pack) (Pack 𝓛 mem run) → Meets 𝓛 f.signature (WpFn 𝓤 H 𝓣.C 𝓣.Λ code.function) (f.spec 𝓛 mem run)
   wear-text-meets 𝓣 known-write known-pack = walk_Meets 𝓛 f.ended stayed goes (f.clauses 𝓛 mem run) (WpFn 𝓤 H 𝓣.C 𝓣.Λ code.function) (WpFn-mono 𝓤 H 𝓛.laws 𝓣 code.function) (wear-text-walks 𝓣.C 𝓣.Λ (fm_of 𝓤 H 𝓛.laws 𝓣) known-write known-pack)
 
-pub yawlspar-wear-text-spec : {M : Type 1} → stated.statement M
+pub yawlspar_wear_text_spec : {M : Type 1} → stated.statement M
 unfolding code.routine tables_of
-yawlspar-wear-text-spec 𝓤 𝓛 𝓜 𝓡 =
+yawlspar_wear_text_spec 𝓤 𝓛 𝓜 𝓡 =
     entered 𝓤 𝓛.H (triple_of 𝓛 f.signature (f.spec 𝓛 𝓜.mem 𝓡.run))
     (tables 𝓤 𝓛.H 𝓜 𝓡 code.env).C (tables 𝓤 𝓛.H 𝓜 𝓡 code.env).Λ #yawlspar-wear·yawlspar-wear-text code.function (code.unfolded 𝓤 𝓛.H 𝓜 𝓡)
     (wear-text-meets 𝓛 𝓜.mem 𝓡.run (tables_of 𝓤 𝓛.H 𝓜 (tables 𝓤 𝓛.H 𝓜 𝓡 code.env))

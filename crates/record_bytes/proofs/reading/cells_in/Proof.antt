@@ -50,8 +50,8 @@ returns : tie.Need-returns
 unfolding cells_in
 returns c = rw (c.before.before.number-in3.ensures, c.before.before.before.before.number-in2.ensures, c.before.before.before.before.before.before.number_in.ensures)
 
-pub cells-in-spec : {M : Type 1} → statement M
-cells-in-spec =
+pub cells_in_spec : {M : Type 1} → statement M
+cells_in_spec =
     tie.close
     (tie.spec
     sub-number-in

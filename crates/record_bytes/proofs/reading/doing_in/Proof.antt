@@ -5,8 +5,8 @@ use lib.ListN.{get_or}
 use Rattle.types.specs.declared.Phase.TheVariants.{Idle, Busy, Suspended, Nested}
 use Rattle.types.specs.declared.Work.TheVariants.{NoWork, At}
 use Rattle.words.proofs.Tests.{and_l, and_r}
-use Rattle.cells.proofs.Own.{own-told}
-use Rattle.record_bytes.proofs.Parts.{no-work, some-work, none-there, some-there, left-fails, doing-told}
+use Rattle.cells.proofs.Own.{own_told}
+use Rattle.record_bytes.proofs.Parts.{no_work, some_work, none_there, some_there, left_fails, doing_told}
 use borrow.Author.Rules.{rules}
 use native.Mathlib.Omega.{arith}
 use Rattle.record_bytes.proofs.reading.doing_in.Statement.{statement}
@@ -56,7 +56,7 @@ returns c =
     let x = c.before.before.before.before.before.before.before.before.before.cells_in in
     let y = c.before.before.before.before.before.before.before.cells-in2 in
     let t = sym c.before.before.before.before.both.ensures ∙ c.before.before.before.if1.true in
-    doing-told bs s.requires low x.result y.result x.ensures y.ensures NoWork NoWork Idle _ _ _ (no-work x.result (none-there x.result.kind (and_l _ _ t))) (no-work y.result (none-there y.result.kind (and_r _ _ t))) refl c.before.before.is_none.ensures c.before.is-none2.ensures c.both2.ensures
+    doing_told bs s.requires low x.result y.result x.ensures y.ensures NoWork NoWork Idle _ _ _ (no_work x.result (none_there x.result.kind (and_l _ _ t))) (no_work y.result (none_there y.result.kind (and_r _ _ t))) refl c.before.before.is_none.ensures c.before.is-none2.ensures c.both2.ensures
 
 operation-in-requires : tie.Need-operation-in-requires
 operation-in-requires c κs = search rules
@@ -79,9 +79,9 @@ returns-2 c =
     let y = c.before.before.before.before.before.before.before.before.before.cells-in2 in
     let o = c.before.before.before.operation-in in
     let f = c.before.before.before.before.if2.true in
-    let n = some-there x.result.kind (left-fails _ _ (sym c.before.before.before.before.before.before.both.ensures ∙ c.before.before.before.before.before.if1.false) f) in
-    let k = own-told x.result o.result _ o.ensures c.before.before.is-own.ensures in
-    doing-told bs s.requires low x.result y.result x.ensures y.ensures (At o.result) NoWork (Busy o.result) _ _ _ (some-work x.result o.result n o.ensures) (no-work y.result (none-there y.result.kind f)) refl k c.before.is-none3.ensures c.both3.ensures
+    let n = some_there x.result.kind (left_fails _ _ (sym c.before.before.before.before.before.before.both.ensures ∙ c.before.before.before.before.before.if1.false) f) in
+    let k = own_told x.result o.result _ o.ensures c.before.before.is-own.ensures in
+    doing_told bs s.requires low x.result y.result x.ensures y.ensures (At o.result) NoWork (Busy o.result) _ _ _ (some_work x.result o.result n o.ensures) (no_work y.result (none_there y.result.kind f)) refl k c.before.is-none3.ensures c.both3.ensures
 
 operation-in-requires-2 : tie.Need-operation-in-requires-2
 operation-in-requires-2 c κs = search rules
@@ -103,9 +103,9 @@ returns-3 c =
     let x = c.before.before.before.before.before.before.before.before.before.before.before.before.cells_in in
     let y = c.before.before.before.before.before.before.before.before.before.before.cells-in2 in
     let o = c.before.before.before.before.operation-in2 in
-    let n = some-there y.result.kind c.before.before.before.before.before.if2.false in
-    let k = own-told y.result o.result _ o.ensures c.before.before.before.is-own2.ensures in
-    doing-told bs s.requires low x.result y.result x.ensures y.ensures NoWork (At o.result) (Suspended o.result) _ _ _ (no-work x.result (none-there x.result.kind c.before.before.if3.true)) (some-work y.result o.result n o.ensures) refl c.before.is-none4.ensures k c.both4.ensures
+    let n = some_there y.result.kind c.before.before.before.before.before.if2.false in
+    let k = own_told y.result o.result _ o.ensures c.before.before.before.is-own2.ensures in
+    doing_told bs s.requires low x.result y.result x.ensures y.ensures NoWork (At o.result) (Suspended o.result) _ _ _ (no_work x.result (none_there x.result.kind c.before.before.if3.true)) (some_work y.result o.result n o.ensures) refl c.before.is-none4.ensures k c.both4.ensures
 
 operation-in-requires-3 : tie.Need-operation-in-requires-3
 operation-in-requires-3 c κs = search rules
@@ -125,14 +125,14 @@ returns-4 c =
     let y = c.before.before.before.before.before.before.before.before.before.before.before.cells-in2 in
     let o = c.before.before.operation-in3 in
     let e = c.before.before.before.before.before.operation-in2 in
-    let n = some-there x.result.kind c.before.before.before.if3.false in
-    let m = some-there y.result.kind c.before.before.before.before.before.before.if2.false in
-    let k = own-told x.result o.result _ o.ensures c.before.is-own3.ensures in
-    let b = own-told y.result e.result _ e.ensures c.before.before.before.before.is-own2.ensures in
-    doing-told bs s.requires low x.result y.result x.ensures y.ensures (At o.result) (At e.result) (Nested o.result e.result) _ _ _ (some-work x.result o.result n o.ensures) (some-work y.result e.result m e.ensures) refl k b c.both5.ensures
+    let n = some_there x.result.kind c.before.before.before.if3.false in
+    let m = some_there y.result.kind c.before.before.before.before.before.before.if2.false in
+    let k = own_told x.result o.result _ o.ensures c.before.is-own3.ensures in
+    let b = own_told y.result e.result _ e.ensures c.before.before.before.before.is-own2.ensures in
+    doing_told bs s.requires low x.result y.result x.ensures y.ensures (At o.result) (At e.result) (Nested o.result e.result) _ _ _ (some_work x.result o.result n o.ensures) (some_work y.result e.result m e.ensures) refl k b c.both5.ensures
 
-pub doing-in-spec : {M : Type 1} → statement M
-doing-in-spec =
+pub doing_in_spec : {M : Type 1} → statement M
+doing_in_spec =
     tie.close
     (tie.spec
     sub-cells-in

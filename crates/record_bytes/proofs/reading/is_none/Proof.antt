@@ -21,6 +21,6 @@ returns : tie.Need-returns
 returns c =
     rw (c.both4.ensures, c.before.both3.ensures, c.before.before.both2.ensures, c.before.before.before.both.ensures) (sym (none_told _))
 
-pub is-none-spec : {M : Type 1} → statement M
-is-none-spec =
+pub is_none_spec : {M : Type 1} → statement M
+is_none_spec =
     tie.close (tie.spec both-requires both-requires-2 both-requires-3 both-requires-4 returns)

@@ -1,6 +1,6 @@
 -- `record_bytes::reading::marks_in` meets its contract: it joins the three tests.
 use borrow.Author.Rules.{rules}
-use Rattle.record_bytes.specs.Read.{marksIn}
+use Rattle.record_bytes.specs.Read.{marks_in}
 use Rattle.record_bytes.proofs.reading.marks_in.Statement.{statement}
 use Rattle.record_bytes.proofs.reading.marks_in.Tie as tie
 
@@ -20,11 +20,11 @@ both-requires-2 : tie.Need-both-requires-2
 both-requires-2 c κs = search rules
 
 returns : tie.Need-returns
-unfolding marksIn
+unfolding marks_in
 returns c = rw (c.both2.ensures, c.before.both.ensures)
 
-pub marks-in-spec : {M : Type 1} → statement M
-marks-in-spec =
+pub marks_in_spec : {M : Type 1} → statement M
+marks_in_spec =
     tie.close
     (tie.spec
     shared-slice-read-wel

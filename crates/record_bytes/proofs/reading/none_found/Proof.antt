@@ -15,5 +15,5 @@ returns : tie.Need-returns
 unfolding nothing ◌and◌
 returns c = rw (c.fresh-part.ensures, c.before.no-stored.ensures)
 
-pub none-found-spec : {M : Type 1} → statement M
-none-found-spec = tie.close (tie.spec no-stored-requires fresh-part-requires returns)
+pub none_found_spec : {M : Type 1} → statement M
+none_found_spec = tie.close (tie.spec no-stored-requires fresh-part-requires returns)

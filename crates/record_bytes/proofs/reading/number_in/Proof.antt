@@ -1,5 +1,5 @@
 -- `record_bytes::reading::number_in` meets its contract: each byte times its place, and the sum of eight bytes fits.
-use Rattle.record_bytes.proofs.Laid.{eight-bytes}
+use Rattle.record_bytes.proofs.Laid.{eight_bytes}
 use borrow.Author.Rules.{rules}
 use native.Mathlib.Omega.{arith}
 use Rattle.record_bytes.proofs.reading.number_in.Statement.{statement}
@@ -96,10 +96,10 @@ add-result-7 : tie.Need-overflow-add-result-7
 add-result-7 c = omega (arith, c.before.before.before.before.before.before.before.before.before.before.before.before.before.before.wide.ensures, c.before.before.before.before.before.before.before.before.before.before.before.before.wide2.ensures, c.before.before.before.before.before.before.before.before.before.before.wide3.ensures, c.before.before.before.before.before.before.before.before.wide4.ensures, c.before.before.before.before.before.before.wide5.ensures, c.before.before.before.before.wide6.ensures, c.before.before.wide7.ensures, c.wide8.ensures, c.before.before.before.before.before.before.before.before.before.before.before.before.before.before.before.before.shared-slice-known.given 7, c.before.before.before.before.before.before.before.before.before.before.before.before.before.before.before.before.shared-slice-known.given 6, c.before.before.before.before.before.before.before.before.before.before.before.before.before.before.before.before.shared-slice-known.given 5, c.before.before.before.before.before.before.before.before.before.before.before.before.before.before.before.before.shared-slice-known.given 4, c.before.before.before.before.before.before.before.before.before.before.before.before.before.before.before.before.shared-slice-known.given 3, c.before.before.before.before.before.before.before.before.before.before.before.before.before.before.before.before.shared-slice-known.given 2, c.before.before.before.before.before.before.before.before.before.before.before.before.before.before.before.before.shared-slice-known.given 1, c.before.before.before.before.before.before.before.before.before.before.before.before.before.before.before.before.shared-slice-known.given 0)
 
 returns : tie.Need-returns
-returns c = rw (c.before.before.before.before.before.before.before.before.before.before.before.before.before.before.wide.ensures, c.before.before.before.before.before.before.before.before.before.before.before.before.wide2.ensures, c.before.before.before.before.before.before.before.before.before.before.wide3.ensures, c.before.before.before.before.before.before.before.before.wide4.ensures, c.before.before.before.before.before.before.wide5.ensures, c.before.before.before.before.wide6.ensures, c.before.before.wide7.ensures, c.wide8.ensures) (eight-bytes c.before.before.before.before.before.before.before.before.before.before.before.before.before.before.before.before.before.args.bytes.now c.before.before.before.before.before.before.before.before.before.before.before.before.before.before.before.before.before.requires)
+returns c = rw (c.before.before.before.before.before.before.before.before.before.before.before.before.before.before.wide.ensures, c.before.before.before.before.before.before.before.before.before.before.before.before.wide2.ensures, c.before.before.before.before.before.before.before.before.before.before.wide3.ensures, c.before.before.before.before.before.before.before.before.wide4.ensures, c.before.before.before.before.before.before.wide5.ensures, c.before.before.before.before.wide6.ensures, c.before.before.wide7.ensures, c.wide8.ensures) (eight_bytes c.before.before.before.before.before.before.before.before.before.before.before.before.before.before.before.before.before.args.bytes.now c.before.before.before.before.before.before.before.before.before.before.before.before.before.before.before.before.before.requires)
 
-pub number-in-spec : {M : Type 1} → statement M
-number-in-spec =
+pub number_in_spec : {M : Type 1} → statement M
+number_in_spec =
     tie.close
     (tie.spec
     shared-slice-read-wide

@@ -1,5 +1,5 @@
 -- `record_bytes::reading::part_in` meets its contract: every field is read at its place; two bytes are below 65,536.
-use Rattle.record_bytes.specs.Read.{partIn}
+use Rattle.record_bytes.specs.Read.{part_in}
 use Rattle.record_bytes.proofs.Laid.{two_bytes}
 use borrow.Author.Rules.{rules}
 use native.Mathlib.Omega.{arith}
@@ -46,13 +46,13 @@ shared-slice-read-t22 : tie.Need-shared-slice-read-t22
 shared-slice-read-t22 c = search rules
 
 returns : tie.Need-returns
-unfolding partIn
+unfolding part_in
 returns c =
     let s = c.before.before.before.before.before.before.before.before.before in
     rw (two_bytes s.args.bytes.now (omega (arith, s.requires)), c.before.before.before.before.before.stored-in.ensures)
 
-pub part-in-spec : {M : Type 1} → statement M
-part-in-spec =
+pub part_in_spec : {M : Type 1} → statement M
+part_in_spec =
     tie.close
     (tie.spec
     shared-slice-read-high

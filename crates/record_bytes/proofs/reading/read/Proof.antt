@@ -5,9 +5,9 @@ use lib.ListN.{get_or}
 use borrow.Author.Tests.{not-true, not-false}
 use Rattle.types.specs.declared.Phase.TheVariants.{Idle}
 use Rattle.words.proofs.Tests.{and_l, and_r}
-use Rattle.paper.specs.Soundness.{soundOf}
-use Rattle.record_bytes.specs.Layout.{running_at, haltedAt}
-use Rattle.record_bytes.proofs.Parts.{holds_not, unmarked, none-there, idle-held, idle-phase, idle-judged, lent-page, held-doing, doing-phase, found_some, found_none}
+use Rattle.paper.specs.Soundness.{sound_of}
+use Rattle.record_bytes.specs.Layout.{running_at, halted_at}
+use Rattle.record_bytes.proofs.Parts.{holds_not, unmarked, none_there, idle_held, idle_phase, idle_judged, lent_page, held_doing, doing_phase, found_some, found_none}
 use borrow.Author.Rules.{rules}
 use native.Mathlib.Omega.{arith}
 use Rattle.record_bytes.proofs.reading.read.Statement.{statement}
@@ -101,15 +101,15 @@ returns-3 c =
     let low : (j : ℕ) → get_or bs j 0 < 256 = λ j. omega (arith, c.before.before.before.before.before.before.before.before.before.before.before.before.before.before.before.before.before.before.before.shared-slice-known.given j) in
     let m = sym c.before.before.before.before.before.before.before.before.before.before.before.before.before.before.before.before.before.marks-in.ensures ∙ not-false _ c.before.before.before.before.before.before.before.before.before.before.before.before.before.before.before.before.if2.false in
     let t = sym c.before.before.before.before.before.before.before.before.before.before.before.before.before.both.ensures ∙ c.before.before.before.before.before.before.before.before.before.before.before.before.if3.true in
-    let r = none-there (get_or bs running_at 0) (and_l _ _ t) in
-    let h = none-there (get_or bs haltedAt 0) (and_r _ _ t) in
+    let r = none_there (get_or bs running_at 0) (and_l _ _ t) in
+    let h = none_there (get_or bs halted_at 0) (and_r _ _ t) in
     let x = c.before.before.before.before.before.before.before.before.before.before.cells_in in
     let y = c.before.before.before.before.before.before.before.cells-in2 in
     let n = c.before.before.before.before.before.before.before.before.before.is_none in
     let k = c.before.before.before.before.before.before.is-none2 in
-    let i = idle-held bs l low m r h x.result y.result x.ensures y.ensures n.result k.result n.ensures k.ensures ∙ sym c.before.before.before.before.before.both2.ensures in
-    let s = idle-judged _ _ _ _ _ (lent-page bs l low) c.before.before.zero-from.ensures c.is-sound-idle.ensures in
-    found_some bs _ Idle _ (i ∙ c.before.before.before.before.if4.true) c.before.part_in.ensures (idle-phase bs l low r h) s
+    let i = idle_held bs l low m r h x.result y.result x.ensures y.ensures n.result k.result n.ensures k.ensures ∙ sym c.before.before.before.before.before.both2.ensures in
+    let s = idle_judged _ _ _ _ _ (lent_page bs l low) c.before.before.zero-from.ensures c.is-sound-idle.ensures in
+    found_some bs _ Idle _ (i ∙ c.before.before.before.before.if4.true) c.before.part_in.ensures (idle_phase bs l low r h) s
 
 none-found-requires-3 : tie.Need-none-found-requires-3
 none-found-requires-3 c κs = search rules
@@ -122,13 +122,13 @@ returns-4 c =
     let low : (j : ℕ) → get_or bs j 0 < 256 = λ j. omega (arith, c.before.before.before.before.before.before.before.before.before.before.before.before.before.before.before.before.shared-slice-known.given j) in
     let m = sym c.before.before.before.before.before.before.before.before.before.before.before.before.before.before.marks-in.ensures ∙ not-false _ c.before.before.before.before.before.before.before.before.before.before.before.before.before.if2.false in
     let t = sym c.before.before.before.before.before.before.before.before.before.before.both.ensures ∙ c.before.before.before.before.before.before.before.before.before.if3.true in
-    let r = none-there (get_or bs running_at 0) (and_l _ _ t) in
-    let h = none-there (get_or bs haltedAt 0) (and_r _ _ t) in
+    let r = none_there (get_or bs running_at 0) (and_l _ _ t) in
+    let h = none_there (get_or bs halted_at 0) (and_r _ _ t) in
     let x = c.before.before.before.before.before.before.before.cells_in in
     let y = c.before.before.before.before.cells-in2 in
     let n = c.before.before.before.before.before.before.is_none in
     let k = c.before.before.before.is-none2 in
-    let i = idle-held bs l low m r h x.result y.result x.ensures y.ensures n.result k.result n.ensures k.ensures ∙ sym c.before.before.both2.ensures in
+    let i = idle_held bs l low m r h x.result y.result x.ensures y.ensures n.result k.result n.ensures k.ensures ∙ sym c.before.before.both2.ensures in
     found_none bs _ (i ∙ c.before.if4.false) c.none-found3.ensures
 
 doing-in-requires : tie.Need-doing-in-requires
@@ -157,9 +157,9 @@ returns-5 c =
     let low : (j : ℕ) → get_or bs j 0 < 256 = λ j. omega (arith, c.before.before.before.before.before.before.before.before.before.before.before.before.shared-slice-known.given j) in
     let m = sym c.before.before.before.before.before.before.before.before.before.before.marks-in.ensures ∙ not-false _ c.before.before.before.before.before.before.before.before.before.if2.false in
     let d = c.before.before.before.before.doing-in in
-    let e = held-doing bs l low m d.result d.ensures ∙ c.before.before.before.if5.true in
+    let e = held_doing bs l low m d.result d.ensures ∙ c.before.before.before.if5.true in
     let p = c.before.before.part-in2.ensures in
-    found_some bs _ _ _ e p (doing-phase bs l low d.result d.ensures) (c.is-sound-of.ensures ∙ ap (soundOf _ _) (lent-page bs l low))
+    found_some bs _ _ _ e p (doing_phase bs l low d.result d.ensures) (c.is-sound-of.ensures ∙ ap (sound_of _ _) (lent_page bs l low))
 
 none-found-requires-4 : tie.Need-none-found-requires-4
 none-found-requires-4 c κs = search rules
@@ -172,7 +172,7 @@ returns-6 c =
     let low : (j : ℕ) → get_or bs j 0 < 256 = λ j. omega (arith, c.before.before.before.before.before.before.before.before.before.before.shared-slice-known.given j) in
     let m = sym c.before.before.before.before.before.before.before.before.marks-in.ensures ∙ not-false _ c.before.before.before.before.before.before.before.if2.false in
     let d = c.before.before.doing-in in
-    found_none bs _ (held-doing bs l low m d.result d.ensures ∙ c.before.if5.false) c.none-found4.ensures
+    found_none bs _ (held_doing bs l low m d.result d.ensures ∙ c.before.if5.false) c.none-found4.ensures
 
 pub read_spec : {M : Type 1} → statement M
 read_spec =

@@ -1,5 +1,5 @@
 -- `record_bytes::writing::operation_at` meets its contract: the bytes are copied whole.
-use Rattle.runs.proofs.Copied.{copied-whole}
+use Rattle.runs.proofs.Copied.{copied_whole}
 use mathlib.Core.Path.{◌∙◌}
 use native.Mathlib.Omega.{arith}
 use borrow.Author.Rules.{rules}
@@ -13,7 +13,7 @@ copy-requires : tie.Need-copy-requires
 copy-requires c κs = search rules
 
 returns : tie.Need-returns
-returns c = c.before.copy.ensures.1 ∙ copied-whole c.before.before.before.before.args.bytes.now _ (omega (arith, c.before.before.before.before.requires))
+returns c = c.before.copy.ensures.1 ∙ copied_whole c.before.before.before.before.args.bytes.now _ (omega (arith, c.before.before.before.before.requires))
 
-pub operation-at-spec : {M : Type 1} → statement M
-operation-at-spec = tie.close (tie.spec slice-aggregate-copy copy-requires returns)
+pub operation_at_spec : {M : Type 1} → statement M
+operation_at_spec = tie.close (tie.spec slice-aggregate-copy copy-requires returns)

@@ -1,12 +1,12 @@
 -- `record_bytes::writing::write_change` meets its contract: an arm for each change; a buffer of another length is left.
-use Rattle.record_bytes.specs.Layout.{changeWritten}
+use Rattle.record_bytes.specs.Layout.{change_written}
 use borrow.Author.Tests.{eq-eqb, ne_eqb}
 use borrow.Author.Rules.{rules}
 use Rattle.record_bytes.proofs.writing.write_change.Statement.{statement}
 use Rattle.record_bytes.proofs.writing.write_change.Tie as tie
 
 returns : tie.Need-returns
-unfolding changeWritten
+unfolding change_written
 returns c = rw (ne_eqb _ _ c.if1.true)
 
 enum_told : tie.Need-enum-told
@@ -61,28 +61,28 @@ write-cleared-requires : tie.Need-write-cleared-requires
 write-cleared-requires c κs = search rules
 
 returns-2 : tie.Need-returns-2
-unfolding changeWritten
+unfolding change_written
 returns-2 c = rw (c.enum_told.given.1, eq-eqb _ _ c.before.before.if1.false)
 
 same_length : tie.Need-same-length
 same_length c = search rules
 
 returns-3 : tie.Need-returns-3
-unfolding changeWritten
+unfolding change_written
 returns-3 c = rw (c.before.before.change.given.1, eq-eqb _ _ c.before.before.before.before.if1.false, c.bit-of.ensures)
 
 same-length-2 : tie.Need-same-length-2
 same-length-2 c = search rules
 
 returns-4 : tie.Need-returns-4
-unfolding changeWritten
+unfolding change_written
 returns-4 c = rw (c.before.change2.given.1, eq-eqb _ _ c.before.before.before.if1.false)
 
 same-length-3 : tie.Need-same-length-3
 same-length-3 c = search rules
 
 returns-5 : tie.Need-returns-5
-unfolding changeWritten
+unfolding change_written
 returns-5 c = rw (c.before.before.before.before.before.change3.given.1, eq-eqb _ _ c.before.before.before.before.before.before.before.if1.false) c.before.before.write-part.ensures
 
 same-length-4 : tie.Need-same-length-4
@@ -95,25 +95,25 @@ same-length-5 : tie.Need-same-length-5
 same-length-5 c = search rules
 
 returns-7 : tie.Need-returns-7
-unfolding changeWritten
+unfolding change_written
 returns-7 c = rw (c.before.before.before.before.before.change5.given.1, eq-eqb _ _ c.before.before.before.before.before.before.before.if1.false) c.before.before.write-halted.ensures
 
 same-length-6 : tie.Need-same-length-6
 same-length-6 c = search rules
 
 returns-8 : tie.Need-returns-8
-unfolding changeWritten
+unfolding change_written
 returns-8 c = rw (c.before.before.before.before.before.change6.given.1, eq-eqb _ _ c.before.before.before.before.before.before.before.if1.false) c.before.before.write-resumed.ensures
 
 same-length-7 : tie.Need-same-length-7
 same-length-7 c = search rules
 
 returns-9 : tie.Need-returns-9
-unfolding changeWritten
+unfolding change_written
 returns-9 c = rw (c.before.before.before.before.before.change7.given.1, eq-eqb _ _ c.before.before.before.before.before.before.before.if1.false) c.before.before.write-cleared.ensures
 
-pub write-change-spec : {M : Type 1} → statement M
-write-change-spec =
+pub write_change_spec : {M : Type 1} → statement M
+write_change_spec =
     tie.close
     (tie.spec
     returns

@@ -1,8 +1,8 @@
 -- `record_bytes::writing::write_cleared` meets its contract: zeros are written where the part does what it does, what it is before, and zeros behind the identity.
 use Rattle.types.specs.declared.Phase.TheVariants.{Idle}
-use Rattle.paper.specs.Program.{noData}
-use Rattle.record_bytes.specs.Layout.{headerIdle}
-use Rattle.record_bytes.proofs.Laid.{phase-room, part-laid, idle-laid, idle-header-length, page-room, page-laid, idle-bytes, no-data-bytes}
+use Rattle.paper.specs.Program.{no_data}
+use Rattle.record_bytes.specs.Layout.{header_idle}
+use Rattle.record_bytes.proofs.Laid.{phase_room, part_laid, idle_laid, idle_header_length, page_room, page_laid, idle_bytes, no_data_bytes}
 use lib.ListN.{replicate}
 use mathlib.Core.Path.{◌∙◌, ap}
 use Prim.Native.Nat.{ℕ}
@@ -45,14 +45,14 @@ returns c =
     let s = c.before.before.before.before.before.before.before.before.before.before.before.before.before in
     let bs = s.args.bytes.now in
     let p = s.args.part in
-    let e = c.before.before.before.before.before.before.before.before.before.before.fill.ensures ∙ ap (λ (n : ℕ). replicate n 0) (phase-room bs s.requires) ∙ idle-bytes in
-    let h = c.before.before.before.before.before.before.write-part.ensures ∙ part-laid bs s.requires Idle _ e p ∙ idle-laid bs s.requires p in
-    let l = idle-header-length bs s.requires p in
-    let z = c.before.before.fill2.ensures ∙ ap (λ (n : ℕ). replicate n 0) (page-room bs (headerIdle p bs) _ l s.requires h) ∙ no-data-bytes in
-    page-laid bs (headerIdle p bs) _ l s.requires h _ noData z
+    let e = c.before.before.before.before.before.before.before.before.before.before.fill.ensures ∙ ap (λ (n : ℕ). replicate n 0) (phase_room bs s.requires) ∙ idle_bytes in
+    let h = c.before.before.before.before.before.before.write-part.ensures ∙ part_laid bs s.requires Idle _ e p ∙ idle_laid bs s.requires p in
+    let l = idle_header_length bs s.requires p in
+    let z = c.before.before.fill2.ensures ∙ ap (λ (n : ℕ). replicate n 0) (page_room bs (header_idle p bs) _ l s.requires h) ∙ no_data_bytes in
+    page_laid bs (header_idle p bs) _ l s.requires h _ no_data z
 
-pub write-cleared-spec : {M : Type 1} → statement M
-write-cleared-spec =
+pub write_cleared_spec : {M : Type 1} → statement M
+write_cleared_spec =
     tie.close
     (tie.spec
     sub-fill

@@ -1,5 +1,5 @@
 -- `record_bytes::writing::write_halted` meets its contract: what ran is copied to where what is suspended stands, and zeros to its place.
-use Rattle.record_bytes.specs.Layout.{operationLength, worksLaid}
+use Rattle.record_bytes.specs.Layout.{operation_length, works_laid}
 use lib.ListN.{replicate}
 use mathlib.Core.Path.{◌∙◌, ap}
 use mathlib.Core.List.{List}
@@ -29,10 +29,10 @@ same_length c = search rules
 returns : tie.Need-returns
 returns c =
     let s = c.before.before.before.before.before.before.before.before in
-    c.before.before.write-works.ensures ∙ ap (λ (x : List ℕ). worksLaid s.args.part (replicate operationLength 0) x s.args.bytes.now) c.before.before.before.before.operation-at.ensures
+    c.before.before.write-works.ensures ∙ ap (λ (x : List ℕ). works_laid s.args.part (replicate operation_length 0) x s.args.bytes.now) c.before.before.before.before.operation-at.ensures
 
-pub write-halted-spec : {M : Type 1} → statement M
-write-halted-spec =
+pub write_halted_spec : {M : Type 1} → statement M
+write_halted_spec =
     tie.close
     (tie.spec
     sub-operation-at

@@ -4,9 +4,9 @@ use mathlib.Core.Path.{◌∙◌, ap}
 use Prim.Native.Nat.{ℕ}
 use borrow.Author.Tests.{eq-eqb, ne_eqb}
 use Rattle.types.specs.declared.Phase.TheVariants.{Idle}
-use Rattle.paper.specs.Program.{noData}
-use Rattle.record_bytes.specs.Layout.{partBytes, phaseBytes, recordBytes, written}
-use Rattle.record_bytes.proofs.Laid.{signed-length, signed-as}
+use Rattle.paper.specs.Program.{no_data}
+use Rattle.record_bytes.specs.Layout.{part_bytes, phase_bytes, record_bytes, written}
+use Rattle.record_bytes.proofs.Laid.{signed_length, signed_as}
 use borrow.Author.Rules.{rules}
 use Rattle.record_bytes.proofs.writing.write_idle.Statement.{statement}
 use Rattle.record_bytes.proofs.writing.write_idle.Tie as tie
@@ -31,17 +31,17 @@ write-cleared-requires : tie.Need-write-cleared-requires
 write-cleared-requires c κs = search rules
 
 same_length : tie.Need-same-length
-same_length c = search (rules, signed-length c.before.before.before.before.before.before.args.bytes.now c.before.before.before.before.before.before.args.identity)
+same_length c = search (rules, signed_length c.before.before.before.before.before.before.args.bytes.now c.before.before.before.before.before.before.args.identity)
 
 returns-2 : tie.Need-returns-2
-unfolding written recordBytes
+unfolding written record_bytes
 returns-2 c =
     let s = c.before.before.before.before.before.before in
     let l = c.before.before.before.before.if1.false in
-    rw (eq-eqb _ _ l) (c.before.before.write-cleared.ensures ∙ ap (λ (x : List ℕ). ((partBytes s.args.part ++ phaseBytes Idle) ++ x) ++ noData) (signed-as s.args.bytes.now s.args.identity l))
+    rw (eq-eqb _ _ l) (c.before.before.write-cleared.ensures ∙ ap (λ (x : List ℕ). ((part_bytes s.args.part ++ phase_bytes Idle) ++ x) ++ no_data) (signed_as s.args.bytes.now s.args.identity l))
 
-pub write-idle-spec : {M : Type 1} → statement M
-write-idle-spec =
+pub write_idle_spec : {M : Type 1} → statement M
+write_idle_spec =
     tie.close
     (tie.spec
     returns

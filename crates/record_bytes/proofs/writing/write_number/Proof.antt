@@ -2,7 +2,7 @@
 use mathlib.Core.Path.{◌∙◌, ap}
 use lib.ListN.{length}
 use native.Mathlib.Omega.{arith}
-use Rattle.runs.proofs.Copied.{copied-whole}
+use Rattle.runs.proofs.Copied.{copied_whole}
 use borrow.Author.Rules.{rules}
 use Rattle.record_bytes.proofs.writing.write_number.Statement.{statement}
 use Rattle.record_bytes.proofs.writing.write_number.Tie as tie
@@ -22,8 +22,8 @@ same_length c = search rules
 returns : tie.Need-returns
 returns c =
     let h = c.before.before.before.before.before.high-first-bytes in
-    c.before.before.copy.ensures.1 ∙ copied-whole h.result c.before.before.before.before.before.before.before.args.bytes.now (omega (arith, c.before.before.before.before.before.before.before.requires, ap length h.ensures)) ∙ h.ensures
+    c.before.before.copy.ensures.1 ∙ copied_whole h.result c.before.before.before.before.before.before.before.args.bytes.now (omega (arith, c.before.before.before.before.before.before.before.requires, ap length h.ensures)) ∙ h.ensures
 
-pub write-number-spec : {M : Type 1} → statement M
-write-number-spec =
+pub write_number_spec : {M : Type 1} → statement M
+write_number_spec =
     tie.close (tie.spec high-first-bytes-requires slice-aggregate-copy copy-requires same_length returns)

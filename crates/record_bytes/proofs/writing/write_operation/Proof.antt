@@ -1,6 +1,6 @@
 -- `record_bytes::writing::write_operation` meets its contract: over zeros each cell is written in its place.
-use Rattle.record_bytes.proofs.Laid.{operation-length, first-length, base-length, count-length, cells-laid}
-use Rattle.record_bytes.specs.Layout.{operationBytes}
+use Rattle.record_bytes.proofs.Laid.{operation_length_lem, first_length, base_length, count_length, cells_laid}
+use Rattle.record_bytes.specs.Layout.{operation_bytes}
 use lib.ListN.{length, replicate}
 use mathlib.Core.Path.{◌∙◌, sym, ap}
 use Prim.Native.Nat.{ℕ}
@@ -28,7 +28,7 @@ part-write-number-start : tie.Need-slice-bounds-write-number-start
 part-write-number-start c = search rules
 
 part-write-number-end : tie.Need-slice-bounds-write-number-end
-part-write-number-end c = omega (arith, first-length c.before.before.before.before.Cells-of.result _ (c.before.before.fill.ensures ∙ ap (λ (n : ℕ). replicate n 0) c.before.before.before.before.before.before.requires))
+part-write-number-end c = omega (arith, first_length c.before.before.before.before.Cells-of.result _ (c.before.before.fill.ensures ∙ ap (λ (n : ℕ). replicate n 0) c.before.before.before.before.before.before.requires))
 
 write-number-requires : tie.Need-write-number-requires
 write-number-requires c κs = search rules
@@ -40,7 +40,7 @@ part-write-number-start-2 : tie.Need-slice-bounds-write-number-start-2
 part-write-number-start-2 c = search rules
 
 part-write-number-end-2 : tie.Need-slice-bounds-write-number-end-2
-part-write-number-end-2 c = omega (arith, base-length c.before.before.before.before.before.before.before.before.Cells-of.result _ (c.before.before.before.before.before.before.fill.ensures ∙ ap (λ (n : ℕ). replicate n 0) c.before.before.before.before.before.before.before.before.before.before.requires) _ c.before.before.write-number.ensures)
+part-write-number-end-2 c = omega (arith, base_length c.before.before.before.before.before.before.before.before.Cells-of.result _ (c.before.before.before.before.before.before.fill.ensures ∙ ap (λ (n : ℕ). replicate n 0) c.before.before.before.before.before.before.before.before.before.before.requires) _ c.before.before.write-number.ensures)
 
 write-number-requires-2 : tie.Need-write-number-requires-2
 write-number-requires-2 c κs = search rules
@@ -52,19 +52,19 @@ part-write-number-start-3 : tie.Need-slice-bounds-write-number-start-3
 part-write-number-start-3 c = search rules
 
 part-write-number-end-3 : tie.Need-slice-bounds-write-number-end-3
-part-write-number-end-3 c = omega (arith, count-length c.before.before.before.before.before.before.before.before.before.before.before.before.Cells-of.result _ (c.before.before.before.before.before.before.before.before.before.before.fill.ensures ∙ ap (λ (n : ℕ). replicate n 0) c.before.before.before.before.before.before.before.before.before.before.before.before.before.before.requires) _ c.before.before.before.before.before.before.write-number.ensures _ c.before.before.write-number2.ensures)
+part-write-number-end-3 c = omega (arith, count_length c.before.before.before.before.before.before.before.before.before.before.before.before.Cells-of.result _ (c.before.before.before.before.before.before.before.before.before.before.fill.ensures ∙ ap (λ (n : ℕ). replicate n 0) c.before.before.before.before.before.before.before.before.before.before.before.before.before.before.requires) _ c.before.before.before.before.before.before.write-number.ensures _ c.before.before.write-number2.ensures)
 
 write-number-requires-3 : tie.Need-write-number-requires-3
 write-number-requires-3 c κs = search rules
 
 same_length : tie.Need-same-length
-same_length c = ap length (cells-laid c.before.before.before.before.before.before.before.before.before.before.before.before.before.before.before.before.Cells-of.result _ (c.before.before.before.before.before.before.before.before.before.before.before.before.before.before.fill.ensures ∙ ap (λ (n : ℕ). replicate n 0) c.before.before.before.before.before.before.before.before.before.before.before.before.before.before.before.before.before.before.requires) _ c.before.before.before.before.before.before.before.before.before.before.write-number.ensures _ c.before.before.before.before.before.before.write-number2.ensures _ c.before.before.write-number3.ensures) ∙ operation-length _ ∙ sym c.before.before.before.before.before.before.before.before.before.before.before.before.before.before.before.before.before.before.requires
+same_length c = ap length (cells_laid c.before.before.before.before.before.before.before.before.before.before.before.before.before.before.before.before.Cells-of.result _ (c.before.before.before.before.before.before.before.before.before.before.before.before.before.before.fill.ensures ∙ ap (λ (n : ℕ). replicate n 0) c.before.before.before.before.before.before.before.before.before.before.before.before.before.before.before.before.before.before.requires) _ c.before.before.before.before.before.before.before.before.before.before.write-number.ensures _ c.before.before.before.before.before.before.write-number2.ensures _ c.before.before.write-number3.ensures) ∙ operation_length_lem _ ∙ sym c.before.before.before.before.before.before.before.before.before.before.before.before.before.before.before.before.before.before.requires
 
 returns : tie.Need-returns
-returns c = cells-laid c.before.before.before.before.before.before.before.before.before.before.before.before.before.before.before.before.Cells-of.result _ (c.before.before.before.before.before.before.before.before.before.before.before.before.before.before.fill.ensures ∙ ap (λ (n : ℕ). replicate n 0) c.before.before.before.before.before.before.before.before.before.before.before.before.before.before.before.before.before.before.requires) _ c.before.before.before.before.before.before.before.before.before.before.write-number.ensures _ c.before.before.before.before.before.before.write-number2.ensures _ c.before.before.write-number3.ensures ∙ ap operationBytes c.before.before.before.before.before.before.before.before.before.before.before.before.before.before.before.before.Cells-of.ensures
+returns c = cells_laid c.before.before.before.before.before.before.before.before.before.before.before.before.before.before.before.before.Cells-of.result _ (c.before.before.before.before.before.before.before.before.before.before.before.before.before.before.fill.ensures ∙ ap (λ (n : ℕ). replicate n 0) c.before.before.before.before.before.before.before.before.before.before.before.before.before.before.before.before.before.before.requires) _ c.before.before.before.before.before.before.before.before.before.before.write-number.ensures _ c.before.before.before.before.before.before.write-number2.ensures _ c.before.before.write-number3.ensures ∙ ap operation_bytes c.before.before.before.before.before.before.before.before.before.before.before.before.before.before.before.before.Cells-of.ensures
 
-pub write-operation-spec : {M : Type 1} → statement M
-write-operation-spec =
+pub write_operation_spec : {M : Type 1} → statement M
+write_operation_spec =
     tie.close
     (tie.spec
     cells-of-requires

@@ -2,7 +2,7 @@
 use mathlib.Core.Path.{◌∙◌}
 use borrow.Author.Tests.{eq-eqb}
 use borrow.Author.Rules.{rules}
-use Rattle.paper.specs.Program.{noData}
+use Rattle.paper.specs.Program.{no_data}
 use Rattle.record_bytes.proofs.writing.write_page.Statement.{statement}
 use Rattle.record_bytes.proofs.writing.write_page.Tie as tie
 
@@ -34,11 +34,11 @@ same-length-2 : tie.Need-same-length-2
 same-length-2 c = search rules
 
 returns-3 : tie.Need-returns-3
-unfolding noData
+unfolding no_data
 returns-3 c = rw c.before.before.before.before.enum-told2.given.1 (c.before.before.fill.ensures ∙ rw c.before.before.before.before.before.before.before.before.requires)
 
-pub write-page-spec : {M : Type 1} → statement M
-write-page-spec =
+pub write_page_spec : {M : Type 1} → statement M
+write_page_spec =
     tie.close
     (tie.spec
     enum_told

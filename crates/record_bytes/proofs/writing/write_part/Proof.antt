@@ -1,8 +1,8 @@
 -- `record_bytes::writing::write_part` meets its contract: what the part is is copied over the first bytes.
 use mathlib.Core.Path.{◌∙◌, ap}
 use lib.ListN.{length}
-use Rattle.record_bytes.specs.Layout.{partLength}
-use Rattle.record_bytes.proofs.Laid.{copied-over, part_length}
+use Rattle.record_bytes.specs.Layout.{part_length}
+use Rattle.record_bytes.proofs.Laid.{copied_over, part_length_lem}
 use borrow.Author.Rules.{rules}
 use Rattle.record_bytes.proofs.writing.write_part.Statement.{statement}
 use Rattle.record_bytes.proofs.writing.write_part.Tie as tie
@@ -22,8 +22,8 @@ same_length c = search rules
 returns : tie.Need-returns
 returns c =
     let p = c.before.before.before.before.before.part_bytes in
-    c.before.before.copy.ensures.1 ∙ rw (← p.ensures) (copied-over c.before.before.before.before.before.before.before.args.bytes.now p.result partLength (ap length p.ensures ∙ part_length _))
+    c.before.before.copy.ensures.1 ∙ rw (← p.ensures) (copied_over c.before.before.before.before.before.before.before.args.bytes.now p.result part_length (ap length p.ensures ∙ part_length_lem _))
 
-pub write-part-spec : {M : Type 1} → statement M
-write-part-spec =
+pub write_part_spec : {M : Type 1} → statement M
+write_part_spec =
     tie.close (tie.spec part-bytes-requires slice-aggregate-copy copy-requires same_length returns)

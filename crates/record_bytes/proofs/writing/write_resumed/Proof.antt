@@ -1,5 +1,5 @@
 -- `record_bytes::writing::write_resumed` meets its contract: what was suspended is copied to where what runs stands, and zeros to its place.
-use Rattle.record_bytes.specs.Layout.{operationLength, worksLaid}
+use Rattle.record_bytes.specs.Layout.{operation_length, works_laid}
 use lib.ListN.{replicate}
 use mathlib.Core.Path.{◌∙◌, ap}
 use mathlib.Core.List.{List}
@@ -29,10 +29,10 @@ same_length c = search rules
 returns : tie.Need-returns
 returns c =
     let s = c.before.before.before.before.before.before.before.before in
-    c.before.before.write-works.ensures ∙ ap (λ (x : List ℕ). worksLaid s.args.part x (replicate operationLength 0) s.args.bytes.now) c.before.before.before.before.operation-at.ensures
+    c.before.before.write-works.ensures ∙ ap (λ (x : List ℕ). works_laid s.args.part x (replicate operation_length 0) s.args.bytes.now) c.before.before.before.before.operation-at.ensures
 
-pub write-resumed-spec : {M : Type 1} → statement M
-write-resumed-spec =
+pub write_resumed_spec : {M : Type 1} → statement M
+write_resumed_spec =
     tie.close
     (tie.spec
     sub-operation-at

@@ -1,5 +1,5 @@
 -- `record_bytes::writing::write_running` meets its contract: what runs is written in its place, and what the part is before; all else stays.
-use Rattle.record_bytes.proofs.Laid.{part-kept}
+use Rattle.record_bytes.proofs.Laid.{part_kept}
 use mathlib.Core.Path.{◌∙◌}
 use borrow.Author.Rules.{rules}
 use Rattle.record_bytes.proofs.writing.write_running.Statement.{statement}
@@ -24,10 +24,10 @@ same_length : tie.Need-same-length
 same_length c = search rules
 
 returns : tie.Need-returns
-returns c = c.before.before.write-part.ensures ∙ part-kept c.before.before.before.before.before.before.before.before.before.args.bytes.now c.before.before.before.before.before.before.before.before.before.requires c.before.before.before.before.before.before.before.before.before.args.work _ c.before.before.before.before.before.before.write-work.ensures c.before.before.before.before.before.before.before.before.before.args.part
+returns c = c.before.before.write-part.ensures ∙ part_kept c.before.before.before.before.before.before.before.before.before.args.bytes.now c.before.before.before.before.before.before.before.before.before.requires c.before.before.before.before.before.before.before.before.before.args.work _ c.before.before.before.before.before.before.write-work.ensures c.before.before.before.before.before.before.before.before.before.args.part
 
-pub write-running-spec : {M : Type 1} → statement M
-write-running-spec =
+pub write_running_spec : {M : Type 1} → statement M
+write_running_spec =
     tie.close
     (tie.spec
     sub-write-work

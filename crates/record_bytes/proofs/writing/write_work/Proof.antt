@@ -1,5 +1,5 @@
 -- `record_bytes::writing::write_work` meets its contract: zeros, or the cells of the operation.
-use Rattle.record_bytes.proofs.Laid.{none-bytes}
+use Rattle.record_bytes.proofs.Laid.{none_bytes}
 use lib.ListN.{replicate}
 use mathlib.Core.Path.{◌∙◌, ap}
 use Prim.Native.Nat.{ℕ}
@@ -23,7 +23,7 @@ same_length : tie.Need-same-length
 same_length c = search rules
 
 returns : tie.Need-returns
-returns c = rw c.before.before.before.before.enum_told.given.1 (c.before.before.fill.ensures ∙ ap (λ (n : ℕ). replicate n 0) c.before.before.before.before.before.before.before.requires ∙ none-bytes)
+returns c = rw c.before.before.before.before.enum_told.given.1 (c.before.before.fill.ensures ∙ ap (λ (n : ℕ). replicate n 0) c.before.before.before.before.before.before.before.requires ∙ none_bytes)
 
 same-length-2 : tie.Need-same-length-2
 same-length-2 c = search rules
@@ -31,8 +31,8 @@ same-length-2 c = search rules
 returns-2 : tie.Need-returns-2
 returns-2 c = rw c.before.before.before.before.before.work.given.1 c.before.before.write-operation.ensures
 
-pub write-work-spec : {M : Type 1} → statement M
-write-work-spec =
+pub write_work_spec : {M : Type 1} → statement M
+write_work_spec =
     tie.close
     (tie.spec
     enum_told

@@ -1,7 +1,7 @@
 -- `record_bytes::writing::write_works` meets its contract: both are copied to their places, and what the part is before.
-use Rattle.record_bytes.specs.Layout.{operationLength}
-use Rattle.record_bytes.proofs.Laid.{running-room, put-room, works-put}
-use Rattle.runs.proofs.Copied.{copied-whole}
+use Rattle.record_bytes.specs.Layout.{operation_length}
+use Rattle.record_bytes.proofs.Laid.{running_room, put_room, works_put}
+use Rattle.runs.proofs.Copied.{copied_whole}
 use lib.ListN.{length}
 use mathlib.Core.Path.{◌≡◌, ◌∙◌}
 use native.Mathlib.Omega.{arith}
@@ -51,14 +51,14 @@ returns c =
     let bs = s.args.bytes.now in
     let w = s.args.t2 in
     let h = s.args.t3 in
-    let la : length w ≡ operationLength = search rules in
-    let lb : length h ≡ operationLength = search rules in
-    let ey = c.before.before.before.before.before.before.before.before.before.before.before.copy.ensures.1 ∙ copied-whole w _ (omega (arith, la, running-room bs s.requires)) in
-    let ez = c.before.before.before.before.before.before.copy2.ensures.1 ∙ copied-whole h _ (omega (arith, lb, put-room bs s.requires w _ la ey)) in
-    c.before.before.write-part.ensures ∙ works-put bs s.requires w _ la ey h _ ez s.args.part
+    let la : length w ≡ operation_length = search rules in
+    let lb : length h ≡ operation_length = search rules in
+    let ey = c.before.before.before.before.before.before.before.before.before.before.before.copy.ensures.1 ∙ copied_whole w _ (omega (arith, la, running_room bs s.requires)) in
+    let ez = c.before.before.before.before.before.before.copy2.ensures.1 ∙ copied_whole h _ (omega (arith, lb, put_room bs s.requires w _ la ey)) in
+    c.before.before.write-part.ensures ∙ works_put bs s.requires w _ la ey h _ ez s.args.part
 
-pub write-works-spec : {M : Type 1} → statement M
-write-works-spec =
+pub write_works_spec : {M : Type 1} → statement M
+write_works_spec =
     tie.close
     (tie.spec
     slice-aggregate-copy

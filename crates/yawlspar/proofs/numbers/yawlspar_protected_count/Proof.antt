@@ -14,5 +14,5 @@ cast-result c = search rules
 returns : tie.Need-returns
 returns c = ap (λ (b : Blocks). b.count) c.before.protected-blocks.ensures
 
-pub yawlspar-protected-count-spec : {M : Type 1} → statement M
-yawlspar-protected-count-spec = tie.close (tie.spec protected-blocks-requires cast-result returns)
+pub yawlspar_protected_count_spec : {M : Type 1} → statement M
+yawlspar_protected_count_spec = tie.close (tie.spec protected-blocks-requires cast-result returns)

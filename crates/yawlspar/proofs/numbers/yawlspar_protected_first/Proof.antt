@@ -14,5 +14,5 @@ cast-result c = search rules
 returns : tie.Need-returns
 returns c = ap (λ (b : Blocks). b.first) c.before.protected-blocks.ensures
 
-pub yawlspar-protected-first-spec : {M : Type 1} → statement M
-yawlspar-protected-first-spec = tie.close (tie.spec protected-blocks-requires cast-result returns)
+pub yawlspar_protected_first_spec : {M : Type 1} → statement M
+yawlspar_protected_first_spec = tie.close (tie.spec protected-blocks-requires cast-result returns)
