@@ -1,1 +1,2 @@
 // Request 13: which scripts a check accepts. It has no function.
+#![tactic(auto)]

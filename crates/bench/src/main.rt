@@ -1,5 +1,6 @@
 // The program bench: up to 65,536 bytes of standard input, run line by line on the 1-block part. What it prints for
 // an input is at most four times as long (proofs/Fits.antt of bench_lines).
+#![tactic(auto)]
 use libc::{STDIN_FILENO, STDOUT_FILENO};
 
 // Runs what was read, and writes what it prints.

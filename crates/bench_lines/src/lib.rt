@@ -1,4 +1,5 @@
 // The lines of the program bench, run on a part: what each does with it, and what is printed for it.
+#![tactic(auto)]
 ghost use Rattle.std.specs.Prelude.{◌≡◌, [], ◌+◌, ◌*◌, ◌≤◌, min, length, drop};
 ghost use Rattle.words.specs.Logic.{when_zero};
 ghost use Rattle.paper.specs.Sizes.{array_bytes, rows_bytes, transaction_limit};
@@ -15,14 +16,14 @@ const INPUT_MOST: usize = 65536;
 const PAIRS_MOST: usize = 64;
 
 // What lines leave: the record, and the place after what was printed.
-#[derive(Drop)]
+#[derive(Clone, Copy)]
 struct Ran {
     next: Record,
     printed: usize,
 }
 
 // What bench answers: the number of a refusal, or 0, and how many bytes it printed.
-#[derive(Drop)]
+#[derive(Clone, Copy)]
 pub struct Benched {
     pub number: u8,
     pub printed: usize,

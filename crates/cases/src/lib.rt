@@ -1,1 +1,2 @@
 // The cases worked on paper, proved against the definitions. It has no function.
+#![tactic(auto)]

@@ -1,11 +1,12 @@
 // An operation in plain numbers, its cells, and the operation of cells. One that is made into cells comes back.
+#![tactic(auto)]
 ghost use Rattle.std.specs.Prelude.{◌≡◌};
 ghost use Rattle.cells.specs.Operations.{program_kind, erase_kind, write_kind, cells_of, program_in, erase_in, write_in, operation_of, operation_in, own};
 
 use types::{EraseUnit, Memory, Operation, Register};
 
 // The kind of an operation, and its cells. What an operation does not have is 0.
-#[derive(Drop)]
+#[derive(Clone, Copy)]
 pub struct Cells {
     pub kind: u8,
     pub value: u8,

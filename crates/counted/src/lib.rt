@@ -1,5 +1,6 @@
 // Ticks that are lent wear records, on the record that bytes hold: as the plain call, and what they count. The records
 // themselves are not lent here: their number is judged, and the tally says what becomes of them.
+#![tactic(auto)]
 ghost use Rattle.std.specs.Prelude.{◌≡◌, length};
 ghost use Rattle.words.specs.Logic.{when_zero};
 ghost use Rattle.paper.specs.Wear.{no_tally, tally_of};
@@ -10,7 +11,7 @@ ghost use Rattle.counted.specs.InBytes.{held_wear_ticked, counted_of, wear_refus
 use types::{Reached, Tally};
 
 // What ticks answer: the number, how many of them did work, and what they count.
-#[derive(Drop)]
+#[derive(Clone, Copy)]
 pub struct Counted {
     pub number: u8,
     pub done: usize,

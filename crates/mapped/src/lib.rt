@@ -1,4 +1,5 @@
 // Ticks and scripts that are lent a map of blank pages, on the record that bytes hold: as the plain calls, and the map is kept.
+#![tactic(auto)]
 ghost use Rattle.std.specs.Prelude.{◌≡◌, length};
 ghost use Rattle.record_bytes.specs.Read.{record_in};
 ghost use Rattle.script.specs.InBytes.{script_of, ran_of};
@@ -8,7 +9,7 @@ ghost use Rattle.beside.specs.Beside.{board_bytes};
 use script::Ran;
 
 // What ticks answer: the number, and how many of them did work.
-#[derive(Drop)]
+#[derive(Clone, Copy)]
 pub struct Kept {
     pub number: u8,
     pub done: usize,

@@ -1,4 +1,6 @@
 // What a part does: what runs, what is suspended, and the phases that follow.
+#![tactic(auto)]
+
 ghost use Rattle.std.specs.Prelude.{◌≡◌};
 ghost use Rattle.paper.specs.Phases.{running, halted, is_program, is_erase, erase_halted, is_busy, is_suspended, is_idle, phase_of, running_in, working_on, rest_of, suspended_in, resumed_in};
 

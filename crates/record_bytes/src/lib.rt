@@ -1,6 +1,7 @@
 // A record in bytes: a header, every field at its place, and the 256 bytes of page data.
 // The bytes are a record's own: no two strings of bytes hold one record.
 // `writing` and `reading` are the two ways; `places` says where each field stands.
+#![tactic(auto)]
 pub mod places;
 pub mod reading;
 pub mod writing;
@@ -9,7 +10,7 @@ use types::{Part, Phase};
 
 // What bytes hold, but for identity and page data, which stay where they are: the part and the phase of a record, and whether
 // the record is sound; or none where ok is false.
-#[derive(Drop)]
+#[derive(Clone, Copy)]
 pub struct Found {
     pub ok: bool,
     pub sound: bool,
@@ -18,7 +19,7 @@ pub struct Found {
 }
 
 // What bytes say that a part does, and whether they are the bytes of that.
-#[derive(Drop)]
+#[derive(Clone, Copy)]
 pub struct Doing {
     pub ok: bool,
     pub phase: Phase,

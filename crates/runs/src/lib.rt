@@ -1,4 +1,6 @@
 // Bytes in runs: set to one value all over, written from a source that is read round and round, scanned, or compared.
+#![tactic(auto)]
+
 ghost use Rattle.std.specs.Prelude.{◌≡◌, ◌≤◌, min, ltb, length, drop, replicate};
 ghost use Rattle.runs.specs.Chunks.{chunk};
 ghost use Rattle.words.specs.Lists.{driven, all_zero, first_of, differ_at};
@@ -32,8 +34,8 @@ fn copy_chunk(source: &[u8], output: &mut [u8])
 {
     let n = source.len();
     let mut between = [0u8; CHUNK];
-    bytes::copy(source, &mut between);
-    bytes::copy(&between[0..n], output);
+    between[0..n].copy_from_slice(source);
+    output.copy_from_slice(&between[0..n]);
 }
 
 // The source copied over as many bytes, in chunks.

@@ -1,5 +1,6 @@
 // A whole script in one call: transactions, and ticks after each, on the record that bytes hold. It is judged once, before
 // the first step. The steps leave it in its bytes: each reads what it needs there, and writes what it changes.
+#![tactic(auto)]
 ghost use Rattle.std.specs.Prelude.{◌≡◌, true, cond, [], ◌+◌, ◌≤◌, ◌<◌, eqb, length};
 ghost use Rattle.types.specs.declared.Memory.TheVariants.{Array, Rows};
 ghost use Rattle.words.specs.Logic.{◌or_else◌, when_zero};
@@ -19,14 +20,14 @@ use record_bytes::places;
 use types::{Change, Identity, Reached, Tally, Wear, Work, Worked};
 
 // What a script answers: the number that refuses or stops it, 0 where none does, and the step.
-#[derive(Drop)]
+#[derive(Clone, Copy)]
 pub struct Ran {
     pub number: u8,
     pub step: usize,
 }
 
 // What a step gives: its transaction's answer, the number that stops the script, or 0, and what its ticks reached.
-#[derive(Drop)]
+#[derive(Clone, Copy)]
 struct Stepped {
     answer: u8,
     number: u8,
@@ -34,7 +35,7 @@ struct Stepped {
 }
 
 // What steps carry: the number that stops the script, or 0, the step, and where the next one begins.
-#[derive(Drop)]
+#[derive(Clone, Copy)]
 struct State {
     number: u8,
     step: usize,
@@ -42,14 +43,14 @@ struct State {
 }
 
 // What a turn gives: what the steps carry on, and what the step's ticks reached.
-#[derive(Drop)]
+#[derive(Clone, Copy)]
 struct Turned {
     state: State,
     reached: Reached,
 }
 
 // What steps that count wear carry: the same, and what the last one's ticks count.
-#[derive(Drop)]
+#[derive(Clone, Copy)]
 struct Counting {
     number: u8,
     step: usize,
@@ -58,7 +59,7 @@ struct Counting {
 }
 
 // What is judged of a script but for its size: whether the bytes hold a record, the record's size, and 2, 7, 4, 5 or 0.
-#[derive(Drop)]
+#[derive(Clone, Copy)]
 struct Judged {
     ok: bool,
     blocks: u16,
@@ -67,7 +68,7 @@ struct Judged {
 
 // How a script that is lent wear records begins: its refusal is the number that its steps begin with. The identity of the
 // record, whether WP# is high, and how many steps to make.
-#[derive(Drop)]
+#[derive(Clone, Copy)]
 struct Begun {
     start: Counting,
     identity: Identity,

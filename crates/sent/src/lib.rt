@@ -1,4 +1,5 @@
 // What a transaction names, and the operation that it begins.
+#![tactic(auto)]
 ghost use Rattle.std.specs.Prelude.{◌≡◌, cond, ◌+◌, ◌-◌, ◌%◌, eqb, length, get_or};
 ghost use Rattle.paper.specs.Sizes.{page_bytes};
 ghost use Rattle.paper.specs.Address.{address_count, address_sent, address_in, row_at, fourth_ok, names_row, row_ok, row_base, row_byte, place_in};

@@ -1,4 +1,6 @@
 // The sizes of a part.
+#![tactic(auto)]
+
 ghost use Rattle.std.specs.Prelude.{◌≡◌};
 ghost use Rattle.paper.specs.Sizes.{is_large, size_ok};
 

@@ -1,5 +1,6 @@
 // The values of the model, named as in the specification: the record of a part with its phase and
 // operation, the rows of the command table, and what the calls answer.
+#![tactic(auto)]
 
 // A page, and a row, have 256 bytes, a block 65,536, the rows 1,024.
 pub const PAGE_BYTES: usize = 256;
@@ -19,33 +20,33 @@ pub const LARGE_TICKS_MOST: usize = 131072;
 pub const BANK_BYTES: usize = 16777216;
 
 // The two memories of a part: the array of blocks, and the four information rows.
-#[derive(Drop)]
+#[derive(Clone, Copy)]
 pub enum Memory {
     Array,
     Rows,
 }
 
 // So many blocks of the array, from the first of them on.
-#[derive(Drop)]
+#[derive(Clone, Copy)]
 pub struct Blocks {
     pub first: u16,
     pub count: u16,
 }
 
 // A cell of the block table: the first protected block, and how many there are from it.
-#[derive(Drop)]
+#[derive(Clone, Copy)]
 pub struct Cell(pub u16, pub u16);
 
 // A row of the block table, its cells in the order in which the sizes are printed: 8, 4 and 2 Mbit, and then 1 block.
-#[derive(Drop)]
+#[derive(Clone, Copy)]
 pub struct BlockRow(pub Cell, pub Cell, pub Cell, pub Cell);
 
 // A row of the block table of the large part: with the top or bottom bit 0, and 1.
-#[derive(Drop)]
+#[derive(Clone, Copy)]
 pub struct LargeRow(pub Cell, pub Cell);
 
 // What an erase takes: SER, BER32, BER64, CER or the row erase.
-#[derive(Drop)]
+#[derive(Clone, Copy)]
 pub enum EraseUnit {
     Sector,
     Block32,
@@ -55,7 +56,7 @@ pub enum EraseUnit {
 }
 
 // The registers that a command writes.
-#[derive(Drop)]
+#[derive(Clone, Copy)]
 pub enum Register {
     Status,
     Function,
@@ -64,7 +65,7 @@ pub enum Register {
 
 // What a part is busy with or suspended from. A base is the place in its memory of the unit's or
 // the page's first byte; done counts the ticks done.
-#[derive(Drop)]
+#[derive(Clone, Copy)]
 pub enum Operation {
     // PP or the row program: count bytes of page data, the first of which goes to the page's place start.
     Program {
@@ -88,7 +89,7 @@ pub enum Operation {
 
 // A part is idle, busy with one operation, or suspended from one; or it is busy with the first of two, the inner program,
 // and suspended from the second, an erase. What ticks go on with stands at one place so, whichever it is.
-#[derive(Drop)]
+#[derive(Clone, Copy)]
 pub enum Phase {
     Idle,
     Busy(Operation),
@@ -97,14 +98,14 @@ pub enum Phase {
 }
 
 // An operation, or none: what runs, what is suspended, what a transaction begins.
-#[derive(Drop)]
+#[derive(Clone, Copy)]
 pub enum Work {
     NoWork,
     At(Operation),
 }
 
 // The identity bytes M (maker), T (type), C (capacity) and D (device).
-#[derive(Drop)]
+#[derive(Clone, Copy)]
 pub struct Identity {
     pub maker: u8,
     pub kind: u8,
@@ -114,7 +115,7 @@ pub struct Identity {
 
 // The registers of a part: their stored bits, which power-up takes and reset keeps, and among them those that
 // other fields define (WIP, WEL, ESUS and PSUS). Of the extended read register it is the stored byte.
-#[derive(Drop)]
+#[derive(Clone, Copy)]
 pub struct Stored {
     pub status: u8,
     pub function: u8,
@@ -123,7 +124,7 @@ pub struct Stored {
 
 // What a part is, whatever it does. The live byte of the extended read register has its bits 7..5 and the error bits:
 // 3 E_ERR, 2 P_ERR, 1 PROT_E. The bank address register has bit 7 EXTADD and bit 0, the bank bit.
-#[derive(Drop)]
+#[derive(Clone, Copy)]
 pub struct Part {
     pub blocks: u16,
     pub stored: Stored,
@@ -135,7 +136,7 @@ pub struct Part {
 }
 
 // The record of a part: what it is, what it does, its identity, which no call changes, and the 256 bytes of page data.
-#[derive(Drop)]
+#[derive(Clone, Copy)]
 pub struct Record {
     pub part: Part,
     pub phase: Phase,
@@ -144,14 +145,14 @@ pub struct Record {
 }
 
 // How an address is sent after the code: three bytes, which are an address in the upper bank where it is true; or four.
-#[derive(Drop)]
+#[derive(Clone, Copy)]
 pub enum Addressing {
     Three(bool),
     Four,
 }
 
 // What becomes of page data: it is as it was; what was sent, behind an address that was sent so; or zero.
-#[derive(Drop)]
+#[derive(Clone, Copy)]
 pub enum Data {
     Kept,
     Sent(Addressing),
@@ -159,7 +160,7 @@ pub enum Data {
 }
 
 // What a call makes of a record.
-#[derive(Drop)]
+#[derive(Clone, Copy)]
 pub enum Change {
     // The record stays as it was.
     Same,
@@ -181,7 +182,7 @@ pub enum Change {
 
 // The commands, in the order of the command table; then those of the extended read register; then those of the large
 // part: with four address bytes, the program of which 12h is taken at rest alone, and of the bank address register.
-#[derive(Drop)]
+#[derive(Clone, Copy)]
 pub enum Command {
     Read,
     FastRead,
@@ -225,21 +226,21 @@ pub enum Command {
 }
 
 // What decoding a first byte gives: a command, or that the byte is in no row of the table.
-#[derive(Drop)]
+#[derive(Clone, Copy)]
 pub enum Decoded {
     Known(Command),
     Unknown,
 }
 
 // A command's length, the code counted.
-#[derive(Drop)]
+#[derive(Clone, Copy)]
 pub enum Length {
     Exactly(usize),
     AtLeast(usize),
 }
 
 // What a command drives.
-#[derive(Drop)]
+#[derive(Clone, Copy)]
 pub enum Source {
     None,
     ArrayBytes,
@@ -254,7 +255,7 @@ pub enum Source {
 }
 
 // What an executed command does with the record.
-#[derive(Drop)]
+#[derive(Clone, Copy)]
 pub enum Effect {
     Looks,
     Enables,
@@ -276,7 +277,7 @@ pub enum Effect {
 
 // When a command is taken: at rest, awake and idle; also while an erase is suspended, ESUS 1; also while suspended; also
 // while busy; whenever the part is awake; or also while suspended or asleep.
-#[derive(Drop)]
+#[derive(Clone, Copy)]
 pub enum Taken {
     Rest,
     Esus,
@@ -288,7 +289,7 @@ pub enum Taken {
 
 // What the address bytes of a command name: nothing, also where it has none; a place of the array, with three bytes; a
 // far place of the array, with four; a byte in a row.
-#[derive(Drop)]
+#[derive(Clone, Copy)]
 pub enum Named {
     Bare,
     Place,
@@ -298,7 +299,7 @@ pub enum Named {
 
 // What a command wants of the state: nothing, something running that can be suspended, something to resume, or the
 // reset armed.
-#[derive(Drop)]
+#[derive(Clone, Copy)]
 pub enum Wanted {
     Any,
     Running,
@@ -308,7 +309,7 @@ pub enum Wanted {
 
 // A row of the command table: the length, whether WEL is needed, when the command is taken, what its address names,
 // what it wants of the state, what it drives and from which place, and what it does.
-#[derive(Drop)]
+#[derive(Clone, Copy)]
 pub struct Columns {
     pub length: Length,
     pub wel: bool,
@@ -321,14 +322,14 @@ pub struct Columns {
 }
 
 // What power-up answers.
-#[derive(Drop)]
+#[derive(Clone, Copy)]
 pub struct PoweredUp {
     pub next: Record,
     pub number: u8,
 }
 
 // What a transaction answers: the record after it, its number, and the first driven place.
-#[derive(Drop)]
+#[derive(Clone, Copy)]
 pub struct Answer {
     pub next: Record,
     pub number: u8,
@@ -336,7 +337,7 @@ pub struct Answer {
 }
 
 // What a transaction answers, with what it makes of the record and not the record.
-#[derive(Drop)]
+#[derive(Clone, Copy)]
 pub struct Outcome {
     pub change: Change,
     pub number: u8,
@@ -344,7 +345,7 @@ pub struct Outcome {
 }
 
 // What a tick call answers: the record after it, its number, and how many ticks did work.
-#[derive(Drop)]
+#[derive(Clone, Copy)]
 pub struct Ticked {
     pub next: Record,
     pub number: u8,
@@ -352,7 +353,7 @@ pub struct Ticked {
 }
 
 // What a tick call answers, with what it makes of the record and not the record.
-#[derive(Drop)]
+#[derive(Clone, Copy)]
 pub struct Waited {
     pub change: Change,
     pub number: u8,
@@ -360,14 +361,14 @@ pub struct Waited {
 }
 
 // What a tick call reached: what ran before it, if anything did, and how many ticks of that did work.
-#[derive(Drop)]
+#[derive(Clone, Copy)]
 pub struct Reached {
     pub work: Work,
     pub count: usize,
 }
 
 // What a tick call answers, but for the record, which is kept in bytes: its number, and what it reached.
-#[derive(Drop)]
+#[derive(Clone, Copy)]
 pub struct Worked {
     pub number: u8,
     pub reached: Reached,
@@ -375,7 +376,7 @@ pub struct Worked {
 
 // What a sector has gone through: its erases, and the programs of its pages.
 #[repr(C)]
-#[derive(Drop)]
+#[derive(Clone, Copy)]
 pub struct Wear {
     pub erases: u32,
     pub programs: u32,
@@ -383,7 +384,7 @@ pub struct Wear {
 
 // What the ticks of a call count: an erase for each of so many sectors, from the first on, and, where it is true, a program
 // for the sector at.
-#[derive(Drop)]
+#[derive(Clone, Copy)]
 pub struct Tally {
     pub first: usize,
     pub erases: usize,
@@ -393,7 +394,7 @@ pub struct Tally {
 
 // What a check of a script says: yes; a step, the first that fails, or the number of steps where none does but the part is
 // not idle; the first address that differs; or the number that refuses it.
-#[derive(Drop)]
+#[derive(Clone, Copy)]
 pub enum Verdict {
     Yes,
     Step(usize),
@@ -402,7 +403,7 @@ pub enum Verdict {
 }
 
 // What a query of a map of blank pages says: a page, the first that is blank; that none is; or the number that refuses it.
-#[derive(Drop)]
+#[derive(Clone, Copy)]
 pub enum Blank {
     Page(usize),
     NoPage,
@@ -410,7 +411,7 @@ pub enum Blank {
 }
 
 // What a line of the bench says: a transaction, with WP# high where it is true; so many ticks; or neither.
-#[derive(Drop)]
+#[derive(Clone, Copy)]
 pub enum Line {
     Transaction(bool),
     Ticks(usize),

@@ -1,4 +1,5 @@
 // The text of wear records: a line for each sector, then the largest and the total of each count.
+#![tactic(auto)]
 ghost use Rattle.std.specs.Prelude.{◌≡◌, ◌≤◌, length};
 ghost use Rattle.paper.specs.Numbers.{wear_text_number};
 ghost use Rattle.paper.specs.WearText.{larger, wear_written};
@@ -7,7 +8,7 @@ ghost use Rattle.wear_text.specs.Page.{page, lined, lined_to, begun_of, finished
 use types::Wear;
 
 // What the call answers: the number, and how many bytes of text there are.
-#[derive(Drop)]
+#[derive(Clone, Copy)]
 pub struct Written {
     pub number: u8,
     pub bytes: usize,
@@ -15,7 +16,7 @@ pub struct Written {
 
 // What is carried from line to line: where the next one goes; of the erases and of the programs so far the largest, le and lp,
 // and the total, te and tp.
-#[derive(Drop)]
+#[derive(Clone, Copy)]
 struct State {
     at: usize,
     le: u32,
@@ -25,7 +26,7 @@ struct State {
 }
 
 // What is settled before the first line: the state, how many lines there are, and the number of a refusal or 0.
-#[derive(Drop)]
+#[derive(Clone, Copy)]
 struct Begun {
     state: State,
     count: usize,

@@ -1,6 +1,7 @@
 // The model for C, which include/yawlspar.h declares, but for scripts: the three calls on a record that is kept in bytes, and
 // the functions on numbers. A call reads part and phase, is made, and writes what it makes of the record over the bytes;
 // page data stays where it is.
+#![tactic(auto)]
 pub mod numbers;
 
 ghost use Rattle.std.specs.Prelude.{◌≡◌, ◌%◌, ◌^◌, length};

@@ -1,6 +1,7 @@
 // A map of blank pages for C, which include/yawlspar.h declares: made from the array, searched, and kept by ticks. It is a static
 // library of its own, for the speed of calls without a map (docs/SPEED.md), and a part of the archive that C links. A script with a
 // map stands beside the other scripts.
+#![tactic(auto)]
 ghost use Rattle.std.specs.Prelude.{◌≡◌, length};
 ghost use Rattle.paper.specs.Numbers.{rebuild_number};
 ghost use Rattle.paper.specs.Map.{rebuilt, queried};

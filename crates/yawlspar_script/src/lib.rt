@@ -1,5 +1,6 @@
 // Scripts, with a map of blank pages and without, and checks for C, which include/yawlspar.h declares. They are a static library of
 // their own, for the speed of single calls (docs/SPEED.md), and a part of the archive that C links.
+#![tactic(auto)]
 ghost use Rattle.std.specs.Prelude.{◌≡◌, ◌+◌, ◌*◌, ◌%◌, ◌^◌, ◌≤◌};
 ghost use Rattle.record_bytes.specs.Read.{record_in};
 ghost use Rattle.script.specs.InBytes.{script_of, held_script, script_bytes};

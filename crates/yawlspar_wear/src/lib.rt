@@ -1,5 +1,6 @@
 // Wear records for C, which include/yawlspar.h declares: kept by ticks and by a script, and their text. It is a static library of
 // its own, for the speed of calls without them (docs/SPEED.md), and a part of the archive that C links.
+#![tactic(auto)]
 ghost use Rattle.std.specs.Prelude.{◌≡◌, length};
 ghost use Rattle.paper.specs.Wear.{worn};
 ghost use Rattle.paper.specs.WearText.{wear_written};
