@@ -1,5 +1,6 @@
 // Numbers as bytes, high byte first, and addresses, which are sent so.
 #![tactic(auto)]
+
 ghost use Rattle.std.specs.Prelude.{◌≡◌, min, take};
 ghost use Rattle.paper.specs.Address.{high_first, address_bytes};
 ghost use Rattle.address.specs.Bytes.{high_first_bytes};

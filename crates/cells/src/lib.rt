@@ -1,5 +1,6 @@
 // An operation in plain numbers, its cells, and the operation of cells. One that is made into cells comes back.
 #![tactic(auto)]
+
 ghost use Rattle.std.specs.Prelude.{◌≡◌};
 ghost use Rattle.cells.specs.Operations.{program_kind, erase_kind, write_kind, cells_of, program_in, erase_in, write_in, operation_of, operation_in, own};
 

@@ -1,5 +1,6 @@
 // The command table's first column: one match over all codes.
 #![tactic(auto)]
+
 ghost use Rattle.std.specs.Prelude.{◌≡◌, cond};
 ghost use Rattle.types.specs.declared.Decoded.TheVariants.{Known, Unknown};
 ghost use Rattle.paper.specs.Table.{decoded};

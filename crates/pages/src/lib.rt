@@ -1,5 +1,6 @@
 // Pages: the place of a byte in its page, the units of erases, and a page that is erased.
 #![tactic(auto)]
+
 ghost use Rattle.std.specs.Prelude.{◌≡◌};
 ghost use Rattle.paper.specs.Program.{page_place};
 ghost use Rattle.paper.specs.Erase.{memory_of, unit_pages, unit_base, page_erased};

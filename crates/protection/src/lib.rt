@@ -1,5 +1,6 @@
 // Protection: which blocks a code protects, which rows are locked, and when the pin bars a status write.
 #![tactic(auto)]
+
 ghost use Rattle.std.specs.Prelude.{◌≡◌, ◌%◌, leb};
 ghost use Rattle.paper.specs.BlockTable.{block_row, large_row, cell_of, large_cell_of};
 ghost use Rattle.paper.specs.Protection.{blocks_of, code_most, question, among, locked, barred};

@@ -1,5 +1,6 @@
 // The refusals of the transaction and the tick call, the numbers 1 to 6, in the paper's order.
 #![tactic(auto)]
+
 ghost use Rattle.std.specs.Prelude.{◌≡◌};
 ghost use Rattle.words.specs.Logic.{◌or_else◌};
 ghost use Rattle.paper.specs.Sizes.{tick_limit};

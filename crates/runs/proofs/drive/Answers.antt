@@ -76,7 +76,7 @@ loop-done-preserved c =
     let m : l.here + r - l.here ≡ r = omega arith in
     let n : a.from + l.done + r - (a.from + l.done) ≡ r = omega arith in
     let came = c.copy.ensures ∙ ap (λ (k : ℕ). take k (drop l.here s)) m in
-    let more : put_mid (a.from + l.done) (a.from + l.done + r - (a.from + l.done)) l.output c.copy.new.1.0 ≡ laid o a.from (l.done + r) (round s a.at) =
+    let more : put_mid (a.from + l.done) (a.from + l.done + r - (a.from + l.done)) l.output c.copy.new.output ≡ laid o a.from (l.done + r) (round s a.at) =
     rw (came, n, l.invariant.0) (round_more o s a.at a.from l.done l.here r w.room w.inside here) in (
       more,
       ap length more ∙ length_laid o a.from (l.done + r) (round s a.at) (omega (arith, w.room)),

@@ -22,5 +22,5 @@ returns-in-1 c =
 pub returns-in_default : goal.returns-in_default
 unfolding size_ok ◌or◌
 returns-in_default c =
-    let r = c.in_default.rest.1 in
+    let r = c.in_default.in_default-own.rest.1 in
     rw (ne_eqb _ 1 (λ e. r (inl e)), ne_eqb _ 4 (λ e. r (inr (inl e))), ne_eqb _ 8 (λ e. r (inr (inr (inl e)))), ne_eqb _ 16 (λ e. r (inr (inr (inr (inl e))))), ne_eqb _ 512 (λ e. r (inr (inr (inr (inr e))))))

@@ -5,8 +5,7 @@ use native.Mathlib.Nat.{div-eq_of_lt}
 use native.Mathlib.Omega.{arith}
 use lib.Pow.{pow_mono}
 use Rattle.paper.specs.Protection.{locked}
-use Rattle.protection.proofs.is_locked.Statement.{statement}
-use Rattle.protection.proofs.is_locked.Tie as tie
+use Rattle.protection.proofs.is_locked.Goals as goal
 
 -- a byte has no bit above its eighth
 no_bit : (x k : ℕ) → x < 256 → 4 ≤ k → x / 2 ^ (4 + k) ≡ 0
@@ -14,25 +13,22 @@ no_bit x k h l =
     let p : 2 ^ 8 ≤ 2 ^ (4 + k) = pow_mono {i = 8} {j = 4 + k} (omega arith) in
     div-eq_of_lt (omega arith)
 
-returns : tie.Need-returns
+pub returns-in-0 : goal.returns-in-0
 unfolding locked
-returns c = rw c.match.keys1
+returns-in-0 c = rw c.in-0.is
 
-returns-2 : tie.Need-returns-2
+pub returns-in-1 : goal.returns-in-1
 unfolding locked
-returns-2 c = rw c.match.keys2
+returns-in-1 c = rw c.in-1.is
 
-returns-3 : tie.Need-returns-3
+pub returns-in-2 : goal.returns-in-2
 unfolding locked
-returns-3 c = rw c.match.keys3
+returns-in-2 c = rw c.in-2.is
 
-returns-4 : tie.Need-returns-4
+pub returns-in-3 : goal.returns-in-3
 unfolding locked
-returns-4 c = rw c.match.keys4
+returns-in-3 c = rw c.in-3.is
 
-returns-5 : tie.Need-returns-5
+pub returns-in_default : goal.returns-in_default
 unfolding locked
-returns-5 c = rw (no_bit c.before.args.function c.before.args.row (omega arith) (omega (arith, c.match.rest)))
-
-pub is_locked_spec : {M : Type 1} → statement M
-is_locked_spec = tie.close (tie.spec returns returns-2 returns-3 returns-4 returns-5)
+returns-in_default c = rw (no_bit c.args.function c.args.row (omega arith) (omega (arith, c.in_default.in_default-own.rest)))
