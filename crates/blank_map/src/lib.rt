@@ -1,5 +1,6 @@
 // A map of blank pages: one bit per page, low bit first. It is made from the array, searched, and kept after ticks.
 #![tactic(auto)]
+
 ghost use Rattle.std.specs.Prelude.{◌≡◌, true, cond, ◌+◌, ◌*◌, ◌/◌, ◌%◌, ◌^◌, ◌<◌, ◌≤◌, min, eqb, leb, length, get_or};
 ghost use Rattle.words.specs.Logic.{◌and◌};
 ghost use Rattle.words.specs.Lists.{all_below, first_of, up_to};

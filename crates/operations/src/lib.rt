@@ -1,5 +1,6 @@
 // An operation: its ticks, its target, and what it keeps.
 #![tactic(auto)]
+
 ghost use Rattle.std.specs.Prelude.{◌≡◌, ◌+◌, leb};
 ghost use Rattle.types.specs.declared.Operation.TheVariants.{Program, Erase};
 ghost use Rattle.words.specs.Logic.{◌and◌};

@@ -1,5 +1,6 @@
 // What the programs print: text put into an output from a place on, as far as the output goes.
 #![tactic(auto)]
+
 ghost use Rattle.std.specs.Prelude.{◌≡◌, [], ◌∷◌, ◌++◌, ◌<◌};
 ghost use Rattle.paper.specs.Bench.{space, digit, hex_digit, leading, decimal, hex_pairs, place_text, answer_text, ticks_text, other_text};
 ghost use Rattle.paper.specs.WearText.{five_digits, wide_decimal, counts_text, is_full, wear_line, sums_text};

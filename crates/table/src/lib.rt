@@ -1,5 +1,6 @@
 // The command table.
 #![tactic(auto)]
+
 ghost use Rattle.std.specs.Prelude.{◌≡◌};
 ghost use Rattle.paper.specs.Table.{line, columns, addressing, taken_asleep, taken_busy, taken_suspended, length_ok, drives};
 ghost use Rattle.paper.specs.Reads.{first_driven};

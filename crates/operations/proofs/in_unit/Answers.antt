@@ -1,0 +1,14 @@
+-- `operations::in_unit` meets its contract: each arm is a clause of the definition, and a unit's size fits.
+use Rattle.paper.proofs.Pages.{unit_pages_le}
+use borrow.Author.Rules.{rules}
+use native.Mathlib.Omega.{arith}
+use Rattle.operations.proofs.in_unit.Goals as goal
+
+pub overflow_mul-size : goal.overflow_mul-size
+overflow_mul-size c =
+    let u = c.in-Erase.unit in
+    let a = c.args in
+    omega (arith, c.unit_pages-size.ensures, unit_pages_le u a.blocks (omega arith))
+
+pub returns-in-Erase : goal.returns-in-Erase
+returns-in-Erase c = rw (c.in-Erase.is, c.both.ensures, c.lies_within.ensures, c.same_memory-same.ensures, c.unit_memory.ensures, c.unit_pages-size.ensures)

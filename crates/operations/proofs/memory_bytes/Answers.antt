@@ -1,0 +1,6 @@
+-- `operations::memory_bytes` meets its contract: each arm is a clause of the definition.
+use borrow.Author.Rules.{rules}
+use Rattle.operations.proofs.memory_bytes.Goals as goal
+
+pub returns-in-Array : goal.returns-in-Array
+returns-in-Array c = rw c.in-Array.is

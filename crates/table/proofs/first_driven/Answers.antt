@@ -1,0 +1,6 @@
+-- `table::first_driven` meets its contract: where something is driven the answer is the lesser of its first place and n, else n.
+use borrow.Author.Rules.{rules}
+use Rattle.table.proofs.first_driven.Goals as goal
+
+pub returns-then-drives_any : goal.returns-then-drives_any
+returns-then-drives_any c = rw (← c.drives_any.ensures, c.if-drives_any.true) c.lesser.ensures
