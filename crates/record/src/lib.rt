@@ -1,5 +1,6 @@
 // The record: how a part is made, and power-up.
 #![tactic(auto)]
+
 ghost use Rattle.std.specs.Prelude.{◌≡◌, ◌+◌, ◌*◌};
 ghost use Rattle.words.specs.Logic.{bit};
 ghost use Rattle.paper.specs.Program.{no_data};

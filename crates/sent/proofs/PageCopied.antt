@@ -43,7 +43,7 @@ module _ (f : ℕ) (i : List ℕ) where
   pub page_copied : (first over count : ℕ) → first ≡ min f (length i) → over ≡ passed → count ≡ kept
       → let from = first + over in
       let s = take (from + count - from) (drop from i) in
-      take (length s) s ++ drop (length s) no_data ≡ page_data (drop f i)
+      s ++ drop count no_data ≡ page_data (drop f i)
   unfolding page_data no_data
   page_copied first over count p q r =
       let k : kept ≤ length i = simp length-drop (omega arith) in
@@ -51,4 +51,4 @@ module _ (f : ℕ) (i : List ℕ) where
       let e : first + over + count - (first + over) ≡ kept = omega (arith, r) in
       let l : length (drop (length i - kept) i) ≡ kept = length-drop (length i - kept) i ∙ omega (arith, k) in
       let w : take kept (drop (length i - kept) i) ≡ drop (length i - kept) i = take_all kept (drop (length i - kept) i) (omega (arith, l)) in
-      rw (e, z, w, take-length, l, drop_replicate kept page_bytes 0 (omega arith), last_kept_as _ refl)
+      rw (e, z, w, r, drop_replicate kept page_bytes 0 (omega arith), last_kept_as _ refl)

@@ -1,5 +1,6 @@
 // What a transaction names, and the operation that it begins.
 #![tactic(auto)]
+
 ghost use Rattle.std.specs.Prelude.{◌≡◌, cond, ◌+◌, ◌-◌, ◌%◌, eqb, length, get_or};
 ghost use Rattle.paper.specs.Sizes.{page_bytes};
 ghost use Rattle.paper.specs.Address.{address_count, address_sent, address_in, row_at, fourth_ok, names_row, row_ok, row_base, row_byte, place_in};
@@ -155,8 +156,8 @@ pub fn write_page_data(form: Addressing, input: &[u8], page: &mut [u8])
     let first = words::lesser(data_place(form), input.len());
     let passed = passed_count(form, input);
     let from = first + passed;
-    let end = from + kept_count(form, input);
-    bytes::copy(&input[from..end], page);
+    let kept = kept_count(form, input);
+    page[..kept].copy_from_slice(&input[from..from + kept]);
 }
 
 // The same, as a page of its own.

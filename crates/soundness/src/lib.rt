@@ -1,5 +1,6 @@
 // When a record is sound.
 #![tactic(auto)]
+
 ghost use Rattle.std.specs.Prelude.{◌≡◌};
 ghost use Rattle.types.specs.declared.Phase.TheVariants.{Idle};
 ghost use Rattle.words.specs.Logic.{◌and◌};

@@ -10,10 +10,10 @@ pub returns-then-both : goal.returns-then-both
 unfolding line_of
 returns-then-both c =
     let d = c in
-    let l = d.before.before.before.before.before.before.before.args.line.now in
-    let most = d.before.before.before.before.before.before.before.args.most in
-    let e = rest_is l d.before.before.before.before.before.lesser.result d.before.before.before.before.before.lesser.ensures in
-    let t = said (pairs_ok most) (begins letter_t l) _ _ _ true _ _ e d.before.both.ensures d.before.before.begins-with.ensures d.before.before.before.pairs-ok.ensures d.if1.true in
+    let l = c.args.line.now in
+    let most = c.args.most in
+    let e = rest_is l c.lesser-start.result c.lesser-start.ensures in
+    let t = said (pairs_ok most) (begins letter_t l) _ _ _ true _ _ e c.both.ensures c.begins_with.ensures c.pairs_ok-pairs.ensures c.if-both.true in
     rw t
 
 pub returns-then-both-2 : goal.returns-then-both-2

@@ -1,0 +1,6 @@
+-- `record::make` meets its contract: the registers are made anew, the rest stays.
+use borrow.Author.Rules.{rules}
+use Rattle.record.proofs.make.Goals as goal
+
+pub returns : goal.returns
+returns c = rw c.registers_in-registers.ensures
