@@ -1,5 +1,6 @@
 // What a command that is executed, or barred with 28, makes of the record, and the record after a change.
 #![tactic(auto)]
+
 ghost use Rattle.std.specs.Prelude.{◌≡◌};
 ghost use Rattle.paper.specs.Records.{marked, resting, with_live, with_bank};
 ghost use Rattle.paper.specs.Registers.{bank_turned};

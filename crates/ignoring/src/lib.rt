@@ -1,5 +1,6 @@
 // Why a command is ignored: the numbers 21 to 28, in the paper's order.
 #![tactic(auto)]
+
 ghost use Rattle.std.specs.Prelude.{◌≡◌, not};
 ghost use Rattle.words.specs.Logic.{◌or◌};
 ghost use Rattle.paper.specs.Phases.{erase_halted, is_suspended};

@@ -2,6 +2,7 @@
 // The bytes are a record's own: no two strings of bytes hold one record.
 // `writing` and `reading` are the two ways; `places` says where each field stands.
 #![tactic(auto)]
+
 pub mod places;
 pub mod reading;
 pub mod writing;

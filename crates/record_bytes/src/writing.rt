@@ -41,7 +41,7 @@ fn write_part(part: Part, bytes: &mut [u8])
     ensures { bytes.new ≡ part_bytes part ++ drop part_length bytes.old }
 {
     let front = part_bytes(part);
-    bytes::copy(&front, bytes);
+    bytes[..places::RUNNING].copy_from_slice(&front);
 }
 
 // A number written over eight bytes.
@@ -50,7 +50,7 @@ fn write_number(number: usize, bytes: &mut [u8])
     ensures { bytes.new ≡ high_first_bytes 8 number }
 {
     let eight = address::high_first_bytes(number);
-    bytes::copy(&eight, bytes);
+    bytes.copy_from_slice(&eight);
 }
 
 // The cells of an operation, written over its bytes.
@@ -97,7 +97,7 @@ fn operation_at(bytes: &[u8]) -> [u8; places::OPERATION_BYTES]
     ensures { result ≡ bytes.now }
 {
     let mut copied = [0u8; places::OPERATION_BYTES];
-    bytes::copy(bytes, &mut copied);
+    copied.copy_from_slice(bytes);
     copied
 }
 
@@ -111,8 +111,8 @@ fn write_works(
     requires { length bytes.old ≡ record_length }
     ensures { bytes.new ≡ works_laid part running halted bytes.old }
 {
-    bytes::copy(&running, &mut bytes[places::RUNNING..places::HALTED]);
-    bytes::copy(&halted, &mut bytes[places::HALTED..places::MAKER]);
+    bytes[places::RUNNING..places::HALTED].copy_from_slice(&running);
+    bytes[places::HALTED..places::MAKER].copy_from_slice(&halted);
     write_part(part, bytes);
 }
 

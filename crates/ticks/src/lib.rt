@@ -1,6 +1,7 @@
 // Ticks. A call works out how many of its ticks find something to do, does those in one run over the
 // memory that the operation is of, and tells once what becomes of the record.
 #![tactic(auto)]
+
 ghost use Rattle.std.specs.Prelude.{◌≡◌, cond, ◌+◌, ◌*◌, ◌^◌, ◌≤◌, ◌<◌, length};
 ghost use Rattle.types.specs.declared.Memory.TheVariants.{Array, Rows};
 ghost use Rattle.types.specs.declared.Work.TheVariants.{At};

@@ -1,5 +1,6 @@
 // A transaction: array and rows are lent shared, so that it cannot write them.
 #![tactic(auto)]
+
 ghost use Rattle.std.specs.Prelude.{◌≡◌, true, false, [], ◌∷◌, ◌<◌, length, take, drop};
 ghost use Rattle.types.specs.declared.Decoded.TheVariants.{Known};
 ghost use Rattle.types.specs.declared.Change.TheVariants.{Marked};
