@@ -1,5 +1,6 @@
 // What a call is lent beside the part's memory, as a map or wear records: judged by the array, whose size 1 judges.
 #![tactic(auto)]
+
 ghost use Rattle.std.specs.Prelude.{◌≡◌};
 ghost use Rattle.record_bytes.specs.Read.{record_in};
 ghost use Rattle.beside.specs.Beside.{beside_refusal};
