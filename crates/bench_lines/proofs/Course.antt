@@ -11,7 +11,7 @@ use Rattle.types.specs.declared.Record.{Record}
 use Rattle.types.specs.declared.Answer.{Answer}
 use Rattle.types.specs.declared.PoweredUp.{PoweredUp}
 use Rattle.types.specs.declared.Line.TheVariants.{Transaction}
-use Rattle.bytes.specs.Bytes.{index_of, index_after, slice}
+use Rattle.bench_lines.specs.LineEnd.{index_of, index_after}
 use Rattle.paper.specs.Sizes.{array_bytes, rows_bytes}
 use Rattle.paper.specs.Erase.{erased_byte}
 use Rattle.paper.specs.Reads.{undriven, undriven_byte}
@@ -93,11 +93,6 @@ pub record Goes (most : ℕ) (input : List ℕ) (b₀ : Board) (o₀ : List ℕ)
 
 pub goes_start : (most : ℕ) (input : List ℕ) (b : Board) (o : List ℕ) → Goes most input b o 0 b o 0
 goes_start most input b o = record { board = refl; text = λ o' at' p. p; fits = omega arith; same = refl }
-
--- where a line ends that was looked for up to the input's end
-pub line_end : (input : List ℕ) (from end : ℕ) → end ≡ from + index_of LF (slice from (length input) input) → end ≡ from + index_of LF (drop from input)
-unfolding slice
-line_end input from end e = e ∙ rw (take-length input)
 
 module _ (most : ℕ) (input : List ℕ) (b₀ : Board) (o₀ : List ℕ) (from : ℕ) (b : Board) (o : List ℕ) (at : ℕ) (g : Goes most input b₀ o₀ from b o at) where
   -- a line further

@@ -1,12 +1,14 @@
 // The lines of the program bench, run on a part: what each does with it, and what is printed for it.
 #![tactic(auto)]
+
 ghost use Rattle.std.specs.Prelude.{◌≡◌, [], ◌+◌, ◌*◌, ◌≤◌, min, length, drop};
 ghost use Rattle.words.specs.Logic.{when_zero};
 ghost use Rattle.paper.specs.Sizes.{array_bytes, rows_bytes, transaction_limit};
 ghost use Rattle.paper.specs.Board.{board_of, sent_to, after_ticks};
-ghost use Rattle.paper.specs.Bench.{pairs, line_of, sent_text, waited_text, line_text, line_after, lines_of, text_of, board_after, bench_board, bench_text, bench_after};
+ghost use Rattle.paper.specs.Bench.{LF, pairs, line_of, sent_text, waited_text, line_text, line_after, lines_of, text_of, board_after, bench_board, bench_text, bench_after};
 ghost use Rattle.printing.specs.Printed.{Prints};
 ghost use Rattle.bench_lines.specs.Lent.{lent_number};
+ghost use Rattle.bench_lines.specs.LineEnd.{index_of};
 
 use types::{Identity, Line, Record};
 
@@ -120,6 +122,20 @@ fn run_line(
     }
 }
 
+// The place where a line ends that begins at a place of an input: at its LF, or where the input ends.
+fn line_end(input: &[u8], from: usize) -> usize
+    ensures { result ≡ from + index_of LF (drop from input.now) }
+{
+    let mut end = from;
+    while end < input.len() {
+        if input[end] == b'\n' {
+            return end;
+        }
+        end += 1;
+    }
+    end
+}
+
 // The place after a line that ends at a place of an input of n bytes.
 fn after(end: usize, n: usize) -> usize
     ensures { result ≡ min (end + 1) n }
@@ -157,7 +173,7 @@ fn run(
     let n = input.len();
     let mut from = 0;
     while from < n {
-        let end = bytes::scan::find(input, from, n, b'\n');
+        let end = line_end(input, from);
         let next = ran.next;
         let at = ran.printed;
         ran = run_line(

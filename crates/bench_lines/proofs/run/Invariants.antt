@@ -1,0 +1,16 @@
+use Rattle.bench_lines.proofs.Course.{Goes, goes_start, goes_on, goes_end, line_end}
+use Rattle.paper.specs.Board.{board_of}
+use lib.ListN.{length}
+use mathlib.Core.Path.{◌≡◌, refl, sym, ◌∙◌}
+use Prim.Native.Nat.{◌-◌}
+use borrow.Author.Rules.{rules}
+use native.Mathlib.Omega.{arith}
+use Rattle.bench_lines.proofs.run.Given as goal
+
+abbrev pub invariant-loop-from : goal.invariant-loop-from
+invariant-loop-from l =
+    Goes l.most l.input (board_of l.initial.ran.next l.initial.array l.initial.rows) l.initial.output l.from (board_of l.ran.next l.array l.rows) l.output l.ran.printed × (length l.array ≡ length l.initial.array) × (length l.rows ≡ length l.initial.rows) × (length l.sent ≡ 4096) × (length l.back ≡ 4096)
+
+abbrev pub decreases-loop-from : goal.decreases-loop-from
+decreases-loop-from l =
+    length l.input - l.from
