@@ -4,5 +4,4 @@ pub mod OneStep
 pub mod InBytes
 pub mod Counted
 pub mod WearInBytes
-pub mod ByHand
 pub mod Tight
