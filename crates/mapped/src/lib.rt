@@ -1,10 +1,10 @@
 // Ticks and scripts that are lent a map of blank pages, on the record that bytes hold: as the plain calls, and the map is kept.
 #![tactic(auto)]
+
 ghost use Rattle.std.specs.Prelude.{◌≡◌, length};
 ghost use Rattle.record_bytes.specs.Read.{record_in};
 ghost use Rattle.script.specs.InBytes.{script_of, ran_of};
-ghost use Rattle.mapped.specs.InBytes.{held_map_ticked, kept_of, held_map_scripted, map_refusal};
-ghost use Rattle.beside.specs.Beside.{board_bytes};
+ghost use Rattle.mapped.specs.InBytes.{held_map_ticked, kept_of, held_map_scripted, board_bytes, map_refusal};
 
 use script::Ran;
 
@@ -23,7 +23,15 @@ const MAPPED: usize = 2048;
 fn map_refusal(bytes: &[u8], array: usize, map: usize) -> u8
     ensures { result ≡ map_refusal (record_in bytes.now) array map }
 {
-    beside::refusal(bytes, map == array / MAPPED, array, 36)
+    if map == array / MAPPED {
+        return 0;
+    }
+    let found = record_bytes::reading::read(bytes);
+    if !found.ok {
+        return 0;
+    }
+    let part = found.part;
+    refusals::size_number_or(part.blocks, array, 36)
 }
 
 // So many ticks of the record that bytes hold, which is written over them, and the map is kept. Refused, with 1, 36, 2, 5 or 6,

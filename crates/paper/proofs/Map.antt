@@ -2,7 +2,7 @@
 use Prim.Native.Nat.{ℕ, ◌+◌, ◌*◌, ◌/◌, ◌<◌}
 use mathlib.Core.Path.{◌≡◌, refl, sym, ap, ◌∙◌}
 use mathlib.Core.Bool.{Bool, true, false, cond}
-use mathlib.Core.List.{List, [], ◌∷◌}
+use mathlib.Core.List.{List, [], ◌∷◌, ◌++◌}
 use native.Mathlib.Omega.{arith}
 use lib.ListN.{length}
 use Rattle.types.specs.declared.Memory.TheVariants.{Array}
@@ -157,3 +157,8 @@ module _ (cs : List Call) (b : Board) (m : List ℕ) (own : Own b) (r : Right m 
 -- ticks alone
 pub ticks_right : (n : ℕ) (b : Board) (m : List ℕ) → Own b → Right m b.array → Right (map_after_call (ticks n) b m) (after_ticks b n).array
 ticks_right n b m own r = calls_right (ticks n ∷ []) b m own r
+
+-- calls and then others
+pub maps_append : (cs ds : List Call) (b : Board) (m : List ℕ) → map_after_calls (cs ++ ds) b m ≡ map_after_calls ds (after_calls cs b) (map_after_calls cs b m)
+maps_append [] ds b m = refl
+maps_append (c ∷ cs) ds b m = maps_append cs ds (after_call c b) (map_after_call c b m)

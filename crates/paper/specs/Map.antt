@@ -1,5 +1,5 @@
 -- A map of blank pages: one bit per page of the array, low bit first, set exactly when the page is all FFh.
-use Rattle.std.specs.Prelude.{ℕ, ◌+◌, ◌*◌, ◌<◌, ◌≡◌, List, [], ◌∷◌, Bool, cond, length, get_or, eqb, ltb, leb}
+use Rattle.std.specs.Prelude.{ℕ, zero, suc, ◌+◌, ◌*◌, ◌<◌, ◌≡◌, List, [], ◌∷◌, Bool, cond, length, get_or, eqb, ltb, leb}
 use Rattle.types.specs.declared.Record.{Record}
 use Rattle.types.specs.declared.Reached.{Reached}
 use Rattle.types.specs.declared.Blank.{Blank}
@@ -13,8 +13,8 @@ use Rattle.paper.specs.Soundness.{sound}
 use Rattle.paper.specs.Numbers.{map_number, rebuild_number, query_number, map_tick_number, map_script_refusal}
 use Rattle.paper.specs.Reached.{reached, work_first, work_pages}
 use Rattle.paper.specs.History.{Call, transaction, ticks}
-use Rattle.paper.specs.Board.{Board, waited, after_ticks, over_calls}
-use Rattle.paper.specs.Script.{Script, Scripted, over_steps, unstepped, refusal_of, scripted, script_calls}
+use Rattle.paper.specs.Board.{Board, waited, after_call, after_ticks}
+use Rattle.paper.specs.Script.{Script, Scripted, calls_at, after_steps, unstepped, refusal_of, scripted, script_calls}
 
 -- page q of an array is all FFh
 unfoldable pub blank_page : List ℕ → ℕ → Bool
@@ -56,7 +56,8 @@ map_after_call (ticks n) b m = kept (reached b.state (waited b n)) (after_ticks 
 
 -- and after a list of calls
 abbrev pub map_after_calls : List Call → Board → List ℕ → List ℕ
-map_after_calls cs b m = over_calls map_after_call cs b m
+map_after_calls [] b m = m
+map_after_calls (c ∷ cs) b m = map_after_calls cs (after_call c b) (map_after_call c b m)
 
 -- what ticks that are lent a map give: the part after them, the map, the number, and how many ticks did work
 pub record MapTicked : Type 0 where
@@ -78,7 +79,11 @@ map_ticked b n m =
 
 -- a map after the first k steps of a script, up to and including the one that stops it
 abbrev pub map_steps : Script → ℕ → Scripted → List ℕ → List ℕ
-map_steps s k w m = over_steps map_after_call s k w m
+map_steps s zero w m = m
+map_steps s (suc k) w m =
+    when_zero (after_steps s k w).number
+    (map_after_calls (calls_at s k (after_steps s k w)) (after_steps s k w).board (map_steps s k w m))
+    (map_steps s k w m)
 
 -- and after the whole: refused, it is as it was
 unfoldable pub script_map : Bool → Script → Board → List ℕ → List ℕ → List ℕ → List ℕ → List ℕ
