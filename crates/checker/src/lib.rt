@@ -1,5 +1,6 @@
 // A check of the flasher's script: a whole script in one call, on the record that bytes hold, against a wanted image.
 #![tactic(auto)]
+
 ghost use Rattle.std.specs.Prelude.{◌≡◌, length};
 ghost use Rattle.paper.specs.Phases.{is_idle};
 ghost use Rattle.paper.specs.Check.{verdict_on};

@@ -45,10 +45,10 @@ unfolding verdict_on
 said n image w =
     said_as n (differing_address w.board.array image) (length image) (failing_step n w) (ltb (failing_step n w) n) (not (ends_idle w)) (ltb (differing_address w.board.array image) (length image))
 
-told_as_lem : (s : Script) (b : Board) (o n d image : List ℕ) (t : Bool) → eqb (check_refusal_of true s b o n d image) 0 ≡ t → Told (checked true s b o n d image).verdict
+told_as : (s : Script) (b : Board) (o n d image : List ℕ) (t : Bool) → eqb (check_refusal_of true s b o n d image) 0 ≡ t → Told (checked true s b o n d image).verdict
 unfolding checked
-told_as_lem s b o n d image true e = rw e (said (length s.lengths) image _)
-told_as_lem s b o n d image false e = rw e (eqb-false _ _ e)
+told_as s b o n d image true e = rw e (said (length s.lengths) image _)
+told_as s b o n d image false e = rw e (eqb-false _ _ e)
 
 -- so 0 is told for yes alone
 zero_yes : (v : Verdict) → Told v → check_answer v ≡ 0 → v ≡ Yes
@@ -81,7 +81,7 @@ module _ (l : Lent) (p : Record) (wp : ℕ) (i ls ts o n d image : List ℕ) (h 
 
     heard_yes : g.answer ≡ 0 → judged.verdict ≡ Yes
     heard_yes z =
-        zero_yes judged.verdict (told_as_lem its (board_in l p) o n d image (eqb (check_refusal_of true its (board_in l p) o n d image) 0) refl) (sym answer_is ∙ z)
+        zero_yes judged.verdict (told_as its (board_in l p) o n d image (eqb (check_refusal_of true its (board_in l p) o n d image) 0) refl) (sym answer_is ∙ z)
 
 pub accepts_from_c : AcceptsFromC
 accepts_from_c =

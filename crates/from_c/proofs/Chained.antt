@@ -14,7 +14,7 @@ use Rattle.paper.proofs.CallKept.{call_size}
 use Rattle.yawlspar.specs.Face.{packed}
 use Rattle.history.specs.Run.{done}
 use Rattle.history.specs.Course.{Step, sent, waited, course_of}
-use Rattle.from_c.specs.Driven.{Lent, CCall, transact, tick, script, check, tick_map, script_map, tick_wear, script_wear, call_of, calls_of, Driven, ended, calls, heard, packed_steps, told_by, own_course, told_of, InMemory, AllInMemory, is_plain}
+use Rattle.from_c.specs.Driven.{Lent, CCall, transact, tick, script, check, tick_map, script_map, call_of, calls_of, Driven, ended, calls, heard, packed_steps, told_by, own_course, told_of, InMemory, AllInMemory, is_plain}
 use Rattle.from_c.specs.Holding.{Holding}
 use Rattle.from_c.proofs.Leads.{Leads, leads_told, leads_on}
 use Rattle.from_c.proofs.Stands.{stands}
@@ -69,8 +69,6 @@ plain_by (script wp i ls ts o n d) h ss = absurd (false≢true h)
 plain_by (check wp i ls ts o n d image) h ss = absurd (false≢true h)
 plain_by (tick_map n k) h ss = refl
 plain_by (script_map wp i ls ts o n d k) h ss = absurd (false≢true h)
-plain_by (tick_wear n ws) h ss = refl
-plain_by (script_wear wp i ls ts o n d ws) h ss = absurd (false≢true h)
 
 plain_told : (cs : List CCall) (p : Record) → every is_plain cs ≡ true → told_of cs p ≡ packed_steps (own_course (calls_of cs p) p)
 plain_told [] p h = refl
@@ -88,8 +86,6 @@ plain_small (script wp i ls ts o n d) h = absurd (false≢true h)
 plain_small (check wp i ls ts o n d image) h = absurd (false≢true h)
 plain_small (tick_map n k) h = tt
 plain_small (script_map wp i ls ts o n d k) h = absurd (false≢true h)
-plain_small (tick_wear n ws) h = tt
-plain_small (script_wear wp i ls ts o n d ws) h = absurd (false≢true h)
 
 plain_all : (cs : List CCall) → every is_plain cs ≡ true → AllInMemory cs
 plain_all [] h = tt

@@ -1,4 +1,4 @@
--- Chained calls from C are made of calls: what the contracts of yawlspar_transact, yawlspar_tick, yawlspar_script, yawlspar_check, yawlspar_tick_map, yawlspar_script_map, yawlspar_tick_wear, yawlspar_script_wear and yawlspar_power_up allow are their steps and their start, and what that of yawlspar_map_rebuild allows is the map that they begin with.
+-- Chained calls from C are made of calls: what the contracts of yawlspar_transact, yawlspar_tick, yawlspar_script, yawlspar_check, yawlspar_tick_map, yawlspar_script_map and yawlspar_power_up allow are their steps and their start, and what that of yawlspar_map_rebuild allows is the map that they begin with.
 use mathlib.Core.Path.{◌≡◌, refl}
 use mathlib.Core.List.{List, [], ◌∷◌}
 use lib.ListN.{length}
@@ -14,16 +14,14 @@ use Rattle.yawlspar_script.proofs.yawlspar_check.Reads as yawlspar-check
 use Rattle.yawlspar_map.proofs.yawlspar_map_rebuild.Reads as yawlspar-map-rebuild
 use Rattle.yawlspar_map.proofs.yawlspar_tick_map.Reads as yawlspar-tick-map
 use Rattle.yawlspar_script.proofs.yawlspar_script_map.Reads as yawlspar-script-map
-use Rattle.yawlspar_wear.proofs.ByHand.yawlspar_tick_wear as yawlspar-tick-wear
-use Rattle.yawlspar_wear.proofs.ByHand.yawlspar_script_wear as yawlspar-script-wear
-use Rattle.from_c.specs.Driven.{Lent, lent, CCall, transact, tick, script, check, tick_map, script_map, tick_wear, script_wear, Driven, calls}
+use Rattle.from_c.specs.Driven.{Lent, lent, CCall, transact, tick, script, check, tick_map, script_map, Driven, calls}
 
 -- bytes, array, rows, level, input and output are a call's arguments
 pub transact_drives : Follows yawlspar-transact.Learnt (λ κ a x s.
     (cs : List CCall) (m : Lent) → Driven (lent s.0.now a.1.0.now a.1.1.0.now) cs m
     → Driven (lent a.0.now a.1.0.now a.1.1.0.now) (transact a.1.1.1.0 a.1.1.1.1.0.now a.1.1.1.1.1.0.now ∷ cs) m)
 transact_drives κ a x s l cs m r =
-    calls {l = lent a.0.now a.1.0.now a.1.1.0.now} {c = transact a.1.1.1.0 a.1.1.1.1.0.now a.1.1.1.1.1.0.now} (record { answer = x; buffers = s.1.1.1.1.1.0.now ∷ []; wear = []; left = lent s.0.now a.1.0.now a.1.1.0.now })
+    calls {l = lent a.0.now a.1.0.now a.1.1.0.now} {c = transact a.1.1.1.0 a.1.1.1.1.0.now a.1.1.1.1.1.0.now} (record { answer = x; buffers = s.1.1.1.1.1.0.now ∷ []; left = lent s.0.now a.1.0.now a.1.1.0.now })
     (rw (l.0, l.1.0, l.1.1) refl) r
 
 -- bytes, array, rows and ticks are
@@ -31,7 +29,7 @@ pub tick_drives : Follows yawlspar-tick.Learnt (λ κ a x s.
     (cs : List CCall) (m : Lent) → Driven (lent s.0.now s.1.0.now s.1.1.0.now) cs m
     → Driven (lent a.0.now a.1.0.now a.1.1.0.now) (tick a.1.1.1.0 ∷ cs) m)
 tick_drives κ a x s l cs m r =
-    calls {l = lent a.0.now a.1.0.now a.1.1.0.now} {c = tick a.1.1.1.0} (record { answer = x; buffers = []; wear = []; left = lent s.0.now s.1.0.now s.1.1.0.now })
+    calls {l = lent a.0.now a.1.0.now a.1.1.0.now} {c = tick a.1.1.1.0} (record { answer = x; buffers = []; left = lent s.0.now s.1.0.now s.1.1.0.now })
     (rw (l.0, l.1.0, l.1.1.0, l.1.1.1) refl) r
 
 -- bytes, array, rows, level, input, lengths, tick counts, output, answers and ticks done are
@@ -40,7 +38,7 @@ pub script_drives : Follows yawlspar-script.Learnt (λ κ a x s.
     → Driven (lent a.0.now a.1.0.now a.1.1.0.now) (script a.1.1.1.0 a.1.1.1.1.0.now a.1.1.1.1.1.0.now a.1.1.1.1.1.1.0.now a.1.1.1.1.1.1.1.0.now a.1.1.1.1.1.1.1.1.0.now a.1.1.1.1.1.1.1.1.1.0.now ∷ cs) m)
 script_drives κ a x s l cs m r =
     calls {l = lent a.0.now a.1.0.now a.1.1.0.now} {c = script a.1.1.1.0 a.1.1.1.1.0.now a.1.1.1.1.1.0.now a.1.1.1.1.1.1.0.now a.1.1.1.1.1.1.1.0.now a.1.1.1.1.1.1.1.1.0.now a.1.1.1.1.1.1.1.1.1.0.now}
-    (record { answer = x; buffers = s.1.1.1.1.1.1.1.0.now ∷ s.1.1.1.1.1.1.1.1.0.now ∷ s.1.1.1.1.1.1.1.1.1.0.now ∷ []; wear = []; left = lent s.0.now s.1.0.now s.1.1.0.now })
+    (record { answer = x; buffers = s.1.1.1.1.1.1.1.0.now ∷ s.1.1.1.1.1.1.1.1.0.now ∷ s.1.1.1.1.1.1.1.1.1.0.now ∷ []; left = lent s.0.now s.1.0.now s.1.1.0.now })
     (rw (l.0, l.1.0, l.1.1.0, l.1.1.1.0, l.1.1.1.1.0, l.1.1.1.1.1.0, l.1.1.1.1.1.1) refl) r
 
 -- and an image, of a check
@@ -49,7 +47,7 @@ pub check_drives : Follows yawlspar-check.Learnt (λ κ a x s.
     → Driven (lent a.0.now a.1.0.now a.1.1.0.now) (check a.1.1.1.0 a.1.1.1.1.0.now a.1.1.1.1.1.0.now a.1.1.1.1.1.1.0.now a.1.1.1.1.1.1.1.0.now a.1.1.1.1.1.1.1.1.0.now a.1.1.1.1.1.1.1.1.1.0.now a.1.1.1.1.1.1.1.1.1.1.0.now ∷ cs) m)
 check_drives κ a x s l cs m r =
     calls {l = lent a.0.now a.1.0.now a.1.1.0.now} {c = check a.1.1.1.0 a.1.1.1.1.0.now a.1.1.1.1.1.0.now a.1.1.1.1.1.1.0.now a.1.1.1.1.1.1.1.0.now a.1.1.1.1.1.1.1.1.0.now a.1.1.1.1.1.1.1.1.1.0.now a.1.1.1.1.1.1.1.1.1.1.0.now}
-    (record { answer = x; buffers = s.1.1.1.1.1.1.1.0.now ∷ s.1.1.1.1.1.1.1.1.0.now ∷ s.1.1.1.1.1.1.1.1.1.0.now ∷ []; wear = []; left = lent s.0.now s.1.0.now s.1.1.0.now })
+    (record { answer = x; buffers = s.1.1.1.1.1.1.1.0.now ∷ s.1.1.1.1.1.1.1.1.0.now ∷ s.1.1.1.1.1.1.1.1.1.0.now ∷ []; left = lent s.0.now s.1.0.now s.1.1.0.now })
     (rw (l.0, l.1.0, l.1.1.0, l.1.1.1.0, l.1.1.1.1.0, l.1.1.1.1.1.0, l.1.1.1.1.1.1) refl) r
 
 -- bytes, array, rows, ticks and a map are
@@ -57,7 +55,7 @@ pub tick_map_drives : Follows yawlspar-tick-map.Learnt (λ κ a x s.
     (cs : List CCall) (m : Lent) → Driven (lent s.0.now s.1.0.now s.1.1.0.now) cs m
     → Driven (lent a.0.now a.1.0.now a.1.1.0.now) (tick_map a.1.1.1.0 a.1.1.1.1.0.now ∷ cs) m)
 tick_map_drives κ a x s l cs m r =
-    calls {l = lent a.0.now a.1.0.now a.1.1.0.now} {c = tick_map a.1.1.1.0 a.1.1.1.1.0.now} (record { answer = x; buffers = s.1.1.1.1.0.now ∷ []; wear = []; left = lent s.0.now s.1.0.now s.1.1.0.now })
+    calls {l = lent a.0.now a.1.0.now a.1.1.0.now} {c = tick_map a.1.1.1.0 a.1.1.1.1.0.now} (record { answer = x; buffers = s.1.1.1.1.0.now ∷ []; left = lent s.0.now s.1.0.now s.1.1.0.now })
     (rw (l.0, l.1.0, l.1.1.0, l.1.1.1.0, l.1.1.1.1) refl) r
 
 -- and of a script with a map, what a script's are, and the map
@@ -66,24 +64,7 @@ pub script_map_drives : Follows yawlspar-script-map.Learnt (λ κ a x s.
     → Driven (lent a.0.now a.1.0.now a.1.1.0.now) (script_map a.1.1.1.0 a.1.1.1.1.0.now a.1.1.1.1.1.0.now a.1.1.1.1.1.1.0.now a.1.1.1.1.1.1.1.0.now a.1.1.1.1.1.1.1.1.0.now a.1.1.1.1.1.1.1.1.1.0.now a.1.1.1.1.1.1.1.1.1.1.0.now ∷ cs) m)
 script_map_drives κ a x s l cs m r =
     calls {l = lent a.0.now a.1.0.now a.1.1.0.now} {c = script_map a.1.1.1.0 a.1.1.1.1.0.now a.1.1.1.1.1.0.now a.1.1.1.1.1.1.0.now a.1.1.1.1.1.1.1.0.now a.1.1.1.1.1.1.1.1.0.now a.1.1.1.1.1.1.1.1.1.0.now a.1.1.1.1.1.1.1.1.1.1.0.now}
-    (record { answer = x; buffers = s.1.1.1.1.1.1.1.0.now ∷ s.1.1.1.1.1.1.1.1.0.now ∷ s.1.1.1.1.1.1.1.1.1.0.now ∷ s.1.1.1.1.1.1.1.1.1.1.0.now ∷ []; wear = []; left = lent s.0.now s.1.0.now s.1.1.0.now })
-    (rw (l.0, l.1.0, l.1.1.0, l.1.1.1.0, l.1.1.1.1.0, l.1.1.1.1.1.0, l.1.1.1.1.1.1.0, l.1.1.1.1.1.1.1) refl) r
-
--- bytes, array, rows, ticks and wear records are
-pub tick_wear_drives : Follows yawlspar-tick-wear.Learnt (λ κ a x s.
-    (cs : List CCall) (m : Lent) → Driven (lent s.0.now s.1.0.now s.1.1.0.now) cs m
-    → Driven (lent a.0.now a.1.0.now a.1.1.0.now) (tick_wear a.1.1.1.0 a.1.1.1.1.0.now ∷ cs) m)
-tick_wear_drives κ a x s l cs m r =
-    calls {l = lent a.0.now a.1.0.now a.1.1.0.now} {c = tick_wear a.1.1.1.0 a.1.1.1.1.0.now} (record { answer = x; buffers = []; wear = s.1.1.1.1.0.now; left = lent s.0.now s.1.0.now s.1.1.0.now })
-    (rw (l.0, l.1.0, l.1.1.0, l.1.1.1.0, l.1.1.1.1) refl) r
-
--- and of a script those of a script, and the wear records
-pub script_wear_drives : Follows yawlspar-script-wear.Learnt (λ κ a x s.
-    (cs : List CCall) (m : Lent) → Driven (lent s.0.now s.1.0.now s.1.1.0.now) cs m
-    → Driven (lent a.0.now a.1.0.now a.1.1.0.now) (script_wear a.1.1.1.0 a.1.1.1.1.0.now a.1.1.1.1.1.0.now a.1.1.1.1.1.1.0.now a.1.1.1.1.1.1.1.0.now a.1.1.1.1.1.1.1.1.0.now a.1.1.1.1.1.1.1.1.1.0.now a.1.1.1.1.1.1.1.1.1.1.0.now ∷ cs) m)
-script_wear_drives κ a x s l cs m r =
-    calls {l = lent a.0.now a.1.0.now a.1.1.0.now} {c = script_wear a.1.1.1.0 a.1.1.1.1.0.now a.1.1.1.1.1.0.now a.1.1.1.1.1.1.0.now a.1.1.1.1.1.1.1.0.now a.1.1.1.1.1.1.1.1.0.now a.1.1.1.1.1.1.1.1.1.0.now a.1.1.1.1.1.1.1.1.1.1.0.now}
-    (record { answer = x; buffers = s.1.1.1.1.1.1.1.0.now ∷ s.1.1.1.1.1.1.1.1.0.now ∷ s.1.1.1.1.1.1.1.1.1.0.now ∷ []; wear = s.1.1.1.1.1.1.1.1.1.1.0.now; left = lent s.0.now s.1.0.now s.1.1.0.now })
+    (record { answer = x; buffers = s.1.1.1.1.1.1.1.0.now ∷ s.1.1.1.1.1.1.1.1.0.now ∷ s.1.1.1.1.1.1.1.1.1.0.now ∷ s.1.1.1.1.1.1.1.1.1.1.0.now ∷ []; left = lent s.0.now s.1.0.now s.1.1.0.now })
     (rw (l.0, l.1.0, l.1.1.0, l.1.1.1.0, l.1.1.1.1.0, l.1.1.1.1.1.0, l.1.1.1.1.1.1.0, l.1.1.1.1.1.1.1) refl) r
 
 -- bytes, blocks, maker, kind, capacity, device, status, function and extended are

@@ -9,7 +9,6 @@ use Rattle.types.specs.declared.Memory.TheVariants.{Array, Rows}
 use Rattle.types.specs.declared.Record.{Record}
 use Rattle.types.specs.declared.Answer.{Answer}
 use Rattle.types.specs.declared.Ticked.{Ticked}
-use Rattle.types.specs.declared.Wear.{Wear}
 use Rattle.words.specs.Logic.{◌and◌}
 use Rattle.words.proofs.Tests.{and_r, and_true}
 use Rattle.paper.specs.Soundness.{sound}
@@ -17,7 +16,6 @@ use Rattle.paper.specs.Calls.{transacted, transacted_output, ticked, ticked_memo
 use Rattle.paper.specs.Board.{board_of}
 use Rattle.paper.specs.Script.{Scripted, scripted}
 use Rattle.paper.specs.Map.{MapTicked, MapScripted, map_ticked, map_scripted}
-use Rattle.paper.specs.Wear.{worn, no_tally, WearTicked, WearScripted, wear_ticked, wear_scripted}
 use Rattle.paper.proofs.Numbers.{transaction_taken}
 use Rattle.record_bytes.specs.Layout.{record_bytes}
 use Rattle.record_bytes.specs.Read.{held, record_in, on_held}
@@ -26,15 +24,13 @@ use Rattle.ticks.proofs.InBytes.{unheld_tick_bytes, unheld_memory}
 use Rattle.yawlspar.specs.Face.{packed, transact_answer, transact_bytes, transact_output, tick_answer}
 use Rattle.yawlspar_script.specs.Face.{script_answer}
 use Rattle.yawlspar_map.specs.Face.{map_tick_answer}
-use Rattle.yawlspar_wear.specs.Face.{wear_tick_answer}
 use Rattle.yawlspar.proofs.Face.{unheld_bytes}
 use Rattle.yawlspar.proofs.Refused.{refused_bytes}
-use Rattle.script.specs.InBytes.{script_of, held_script, script_bytes, held_wear_scripted}
-use Rattle.counted.specs.InBytes.{held_wear_ticked}
+use Rattle.script.specs.InBytes.{script_of, held_script, script_bytes}
 use Rattle.checker.specs.InBytes.{held_check}
 use Rattle.checker.proofs.InBytes.{same_run, image_left}
 use Rattle.mapped.specs.InBytes.{held_map_ticked, held_map_scripted}
-use Rattle.from_c.specs.Driven.{Lent, lent, CCall, transact, tick, script, check, tick_map, script_map, tick_wear, script_wear, gives}
+use Rattle.from_c.specs.Driven.{Lent, lent, CCall, transact, tick, script, check, tick_map, script_map, gives}
 
 -- the bytes hold the record p
 module _ (l : Lent) (p : Record) (e : record_in l.bytes ≡ held p) where
@@ -81,7 +77,7 @@ module _ (l : Lent) (p : Record) (e : record_in l.bytes ≡ held p) where
     abbrev pub came : Scripted
     came = scripted (sound p and leb wp 1) (script_of wp i ls ts) (board_of p l.array l.rows) o n d
 
-    pub held_script_lem : gives (script wp i ls ts o n d) l ≡ record { answer = script_answer came; buffers = came.output ∷ came.answers ∷ came.done ∷ []; wear = []; left = lent (record_bytes came.board.state) came.board.array came.board.rows }
+    pub held_script_lem : gives (script wp i ls ts o n d) l ≡ record { answer = script_answer came; buffers = came.output ∷ came.answers ∷ came.done ∷ []; left = lent (record_bytes came.board.state) came.board.array came.board.rows }
     unfolding on_held held_script
     held_script_lem = rw e refl
 
@@ -90,34 +86,16 @@ module _ (l : Lent) (p : Record) (e : record_in l.bytes ≡ held p) where
       abbrev pub came_map : MapScripted
       came_map = map_scripted (sound p and leb wp 1) (script_of wp i ls ts) (board_of p l.array l.rows) o n d k
 
-      pub held_script_map : gives (script_map wp i ls ts o n d k) l ≡ record { answer = script_answer came_map.run; buffers = came_map.run.output ∷ came_map.run.answers ∷ came_map.run.done ∷ came_map.map ∷ []; wear = []; left = lent (record_bytes came_map.run.board.state) came_map.run.board.array came_map.run.board.rows }
+      pub held_script_map : gives (script_map wp i ls ts o n d k) l ≡ record { answer = script_answer came_map.run; buffers = came_map.run.output ∷ came_map.run.answers ∷ came_map.run.done ∷ came_map.map ∷ []; left = lent (record_bytes came_map.run.board.state) came_map.run.board.array came_map.run.board.rows }
       unfolding on_held held_map_scripted
       held_script_map = rw e refl
-
-    -- with wear records
-    module _ (ws : List Wear) where
-      abbrev pub came_wear : WearScripted
-      came_wear = wear_scripted (sound p and leb wp 1) (script_of wp i ls ts) (board_of p l.array l.rows) o n d ws
-
-      pub held_script_wear : gives (script_wear wp i ls ts o n d ws) l ≡ record { answer = script_answer came_wear.run; buffers = came_wear.run.output ∷ came_wear.run.answers ∷ came_wear.run.done ∷ []; wear = came_wear.wear; left = lent (record_bytes came_wear.run.board.state) came_wear.run.board.array came_wear.run.board.rows }
-      unfolding on_held held_wear_scripted
-      held_script_wear = rw e refl
-
-  -- ticks with wear records
-  module _ (n : ℕ) (ws : List Wear) where
-    abbrev pub ran_wear : WearTicked
-    ran_wear = wear_ticked (board_of p l.array l.rows) n (length ws)
-
-    pub held_tick_wear : gives (tick_wear n ws) l ≡ record { answer = wear_tick_answer ran_wear; buffers = []; wear = worn ran_wear.tally ws; left = lent (record_bytes ran_wear.board.state) ran_wear.board.array ran_wear.board.rows }
-    unfolding on_held held_wear_ticked
-    held_tick_wear = rw e refl
 
   -- ticks with a map
   module _ (n : ℕ) (k : List ℕ) where
     abbrev pub ran_map : MapTicked
     ran_map = map_ticked (board_of p l.array l.rows) n k
 
-    pub held_tick_map : gives (tick_map n k) l ≡ record { answer = map_tick_answer ran_map; buffers = ran_map.map ∷ []; wear = []; left = lent (record_bytes ran_map.board.state) ran_map.board.array ran_map.board.rows }
+    pub held_tick_map : gives (tick_map n k) l ≡ record { answer = map_tick_answer ran_map; buffers = ran_map.map ∷ []; left = lent (record_bytes ran_map.board.state) ran_map.board.array ran_map.board.rows }
     unfolding on_held held_map_ticked
     held_tick_map = rw e refl
 
@@ -137,14 +115,6 @@ unheld_script_map wp i ls ts o n d k l e = rw e refl
 unheld_tick_map : (n : ℕ) (k : List ℕ) (l : Lent) → (record_in l.bytes).ok ≡ false → (gives (tick_map n k) l).left ≡ l
 unfolding on_held held_map_ticked
 unheld_tick_map n k l e = rw e refl
-
-unheld_script_wear : (wp : ℕ) (i ls ts o n d : List ℕ) (ws : List Wear) (l : Lent) → (record_in l.bytes).ok ≡ false → (gives (script_wear wp i ls ts o n d ws) l).left ≡ l
-unfolding on_held held_wear_scripted
-unheld_script_wear wp i ls ts o n d ws l e = rw e refl
-
-unheld_tick_wear : (n : ℕ) (ws : List Wear) (l : Lent) → (record_in l.bytes).ok ≡ false → (gives (tick_wear n ws) l).left ≡ l
-unfolding on_held held_wear_ticked
-unheld_tick_wear n ws l e = rw e refl
 
 -- a check leaves what its script leaves; with an image that is not as long as the array it leaves all as it was
 module _ (wp : ℕ) (i ls ts o n d image : List ℕ) (l : Lent) where
@@ -174,5 +144,3 @@ unheld_left (script wp i ls ts o n d) l e = unheld_script wp i ls ts o n d l e
 unheld_left (check wp i ls ts o n d image) l e = unheld_check wp i ls ts o n d image l e
 unheld_left (tick_map n k) l e = unheld_tick_map n k l e
 unheld_left (script_map wp i ls ts o n d k) l e = unheld_script_map wp i ls ts o n d k l e
-unheld_left (tick_wear n ws) l e = unheld_tick_wear n ws l e
-unheld_left (script_wear wp i ls ts o n d ws) l e = unheld_script_wear wp i ls ts o n d ws l e

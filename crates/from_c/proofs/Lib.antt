@@ -11,6 +11,4 @@ pub mod Contracts
 pub mod LawsFromC
 pub mod RestartFromC
 pub mod AcceptsFromC
-pub mod Kept
 pub mod MapFromC
-pub mod WearFromC

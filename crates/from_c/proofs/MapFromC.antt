@@ -15,27 +15,24 @@ use Rattle.paper.specs.Soundness.{sound}
 use Rattle.paper.specs.Numbers.{map_number, rebuild_number}
 use Rattle.paper.specs.History.{Call, transaction, ticks, history, record_after_calls}
 use Rattle.paper.specs.Board.{Board, after_calls}
-use Rattle.paper.specs.Map.{Right, rebuilt, map_after_call, map_after_calls}
+use Rattle.paper.specs.Map.{Right, rebuilt, map_after_calls}
 use Rattle.paper.proofs.Kept.{powered_fresh}
-use Rattle.paper.proofs.Map.{calls_length}
+use Rattle.paper.proofs.Map.{calls_length, maps_append}
 use Rattle.history.proofs.Told.{run_told}
 use Rattle.history.proofs.Joined.{run_folded}
 use Rattle.script.specs.InBytes.{script_of}
 use Rattle.yawlspar.specs.Face.{Asked, identity_of, registers_of, up_of, power_up_answer, power_up_bytes}
 use Rattle.map_laws.specs.MapLaws.{Framed}
-use Rattle.history.proofs.Beside.{own_size}
-use Rattle.map_laws.proofs.Stands.{ticks_stand, scripts_stand}
+use Rattle.map_laws.proofs.Stands.{own_size, ticks_stand, scripts_stand}
 use Rattle.map_laws.proofs.MapLaws.{laws}
-use Rattle.from_c.specs.Driven.{Lent, lent, CCall, transact, tick, script, check, tick_map, script_map, tick_wear, script_wear, Given, gives, call_of, calls_of, Driven, ended, calls}
+use Rattle.from_c.specs.Driven.{Lent, lent, CCall, transact, tick, script, check, tick_map, script_map, Given, gives, call_of, calls_of, Driven, ended, calls}
 use Rattle.from_c.specs.Holding.{Holding}
 use Rattle.from_c.specs.LawsFromC.{board_in}
-use Rattle.from_c.specs.MapFromC.{LendsMap, map_left, KeepsMap, MapFromC}
+use Rattle.from_c.specs.MapFromC.{LendsMap, map_left, KeepsMap, DrivesMap, MapFromC}
 use Rattle.from_c.proofs.Held.{held_script_map, held_tick_map}
 use Rattle.from_c.proofs.Holding.{in_bytes, holding_own}
 use Rattle.from_c.proofs.Leads.{Leads, leads_told}
 use Rattle.from_c.proofs.Stands.{stands}
-use Rattle.from_c.specs.Kept.{Drives}
-use Rattle.from_c.proofs.Kept.{kept_exact, kept_driven}
 use Rattle.from_c.proofs.Chained.{driven_run}
 use Rattle.from_c.proofs.FromC.{up_unrefused, up_holds}
 use Rattle.from_c.proofs.LawsFromC.{level_call}
@@ -59,19 +56,58 @@ module _ (l : Lent) (p : Record) (h : Holding l p) where
       ap (λ (g : Given). get_or g.buffers 3 []) (held_script_map l p (in_bytes h) wp i ls ts o n d m)
       ∙ (scripts_stand (sound p and leb wp 1) (script_of wp i ls ts) (board_in l p) o n d m (holding_own h)).map
       ∙ ap (map_after_calls (call_of (script_map wp i ls ts o n d m) p) (board_in l p)) u
-  kind_map (tick_wear n ws) k u = absurd u
-  kind_map (script_wear wp i ls ts o n d ws) k u = absurd u
 
+-- and those after it
 map_exact : {l m : Lent} {cs : List CCall} (chain : Driven l cs m) (p : Record) → Holding l p → (k j : List ℕ) → KeepsMap chain k j → j ≡ map_after_calls (calls_of cs p) (board_in l p) k
-map_exact = kept_exact LendsMap map_left map_after_call kind_map
+map_exact ended p h k j u = u
+map_exact (calls {l} {m} {c} {cs} g e rest) p h k j u =
+    let s = (stands l p h c g e).leads in
+    let q = record_after_calls (call_of c p) p in
+    map_exact rest s.next s.holding (map_left c g k) j u.1
+    ∙ ap (λ (r : Record). map_after_calls (calls_of cs r) (board_in g.left s.next) (map_left c g k)) (leads_told s h)
+    ∙ ap (λ (b : Board). map_after_calls (calls_of cs q) b (map_left c g k)) (run_folded s.run)
+    ∙ ap (map_after_calls (calls_of cs q) (after_calls (call_of c p) (board_in l p))) (ap (λ (x : Given). map_left c x k) e ∙ kind_map l p h c k u.0)
+    ∙ sym (maps_append (call_of c p) (calls_of cs q) (board_in l p) k)
+
+-- a call from C that stands for one call and keeps the map, and those after it
+module _ (l : Lent) (p : Record) (h : Holding l p) (c : CCall) (d : Call) (one : call_of c p ≡ d ∷ []) (k : List ℕ) (u : LendsMap c k) where
+  first : Leads l p (call_of c p) (gives c l).left
+  first = (stands l p h c (gives c l) refl).leads
+
+  still_fits : length k ≡ map_bytes p.part.blocks → length (map_left c (gives c l) k) ≡ map_bytes first.next.part.blocks
+  still_fits e =
+      ap (λ (x : List ℕ). length x) (kind_map l p h c k u)
+      ∙ calls_length (call_of c p) (board_in l p) k
+      ∙ e
+      ∙ ap map_bytes (sym (run_told first.run h.is_sound h.array h.rows).size)
+
+  drives_on : (cs : List Call) → DrivesMap (gives c l).left first.next cs (map_left c (gives c l) k) → DrivesMap l p (d ∷ cs) k
+  drives_on cs t =
+      record {
+        made = c ∷ t.made;
+        stands = ap (λ (q : Record). call_of c p ++ calls_of t.made q) (sym (leads_told first h)) ∙ ap (λ (ds : List Call). call_of c p ++ ds) t.stands ∙ ap (λ (ds : List Call). ds ++ cs) one;
+        after = t.after;
+        chain = calls (gives c l) refl t.chain;
+        last = t.last;
+        keeps = (u, t.keeps);
+      }
 
 fitting_ticks : (n : ℕ) (p : Record) (k : List ℕ) → length k ≡ map_bytes p.part.blocks → call_of (tick_map n k) p ≡ ticks n ∷ []
 unfolding map_number unless
 fitting_ticks n p k e = rw (eq-eqb _ _ e) refl
 
-map_driven : (cs : List Call) (l : Lent) (p : Record) (k : List ℕ) → Holding l p → length k ≡ map_bytes p.part.blocks → Drives LendsMap map_left l p cs k
-map_driven =
-    kept_driven LendsMap map_left map_after_call kind_map (λ n k. length k ≡ map_bytes n) (λ cs b n k e. calls_length cs b k ∙ e) (λ wp i o k. tt) tick_map (λ n k. refl) fitting_ticks
+map_driven : (cs : List Call) (l : Lent) (p : Record) (k : List ℕ) → Holding l p → length k ≡ map_bytes p.part.blocks → DrivesMap l p cs k
+map_driven [] l p k h e = record { made = []; stands = refl; after = l; chain = ended; last = k; keeps = refl }
+map_driven (transaction wp i o ∷ cs) l p k h e =
+    let c = transact (bit wp) i (replicate o 0) in
+    let one = level_call wp i o p in
+    let s = first l p h c (transaction wp i o) one k tt in
+    drives_on l p h c (transaction wp i o) one k tt cs (map_driven cs (gives c l).left s.next k s.holding (still_fits l p h c (transaction wp i o) one k tt e))
+map_driven (ticks n ∷ cs) l p k h e =
+    let c = tick_map n k in
+    let one = fitting_ticks n p k e in
+    let s = first l p h c (ticks n) one k refl in
+    drives_on l p h c (ticks n) one k refl cs (map_driven cs (gives c l).left s.next (map_left c (gives c l) k) s.holding (still_fits l p h c (ticks n) one k refl e))
 
 module _ (l m : Lent) (p : Record) (cs : List CCall) (k j : List ℕ) (h : Holding l p) (chain : Driven l cs m) (keeps : KeepsMap chain k j) where
   array_is : m.array ≡ (after_calls (calls_of cs p) (board_in l p)).array

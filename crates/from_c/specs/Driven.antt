@@ -2,7 +2,6 @@
 use Rattle.std.specs.Prelude.{ℕ, zero, suc, ◌/◌, ◌%◌, ◌^◌, ◌<◌, ◌≡◌, Bool, true, false, cond, List, [], ◌∷◌, ◌++◌, eqb, leb, length, get_or}
 use Rattle.types.specs.declared.Memory.TheVariants.{Array, Rows}
 use Rattle.types.specs.declared.Record.{Record}
-use Rattle.types.specs.declared.Wear.{Wear}
 use Rattle.words.specs.Logic.{◌and◌}
 use Rattle.paper.specs.Sizes.{array_bytes, rows_bytes}
 use Rattle.paper.specs.Soundness.{sound}
@@ -10,19 +9,15 @@ use Rattle.paper.specs.History.{Call, transaction, ticks, record_after_calls}
 use Rattle.paper.specs.Script.{Scripted, script_calls}
 use Rattle.paper.specs.Check.{Checked, check_calls}
 use Rattle.paper.specs.Map.{MapTicked, MapScripted, map_tick_calls, map_script_calls}
-use Rattle.paper.specs.Wear.{worn, WearTicked, WearScripted, wear_tick_calls, wear_script_calls}
 use Rattle.history.specs.Course.{Step, sent, waited, course_of}
 use Rattle.record_bytes.specs.Read.{record_in}
 use Rattle.ticks.specs.InBytes.{tick_bytes, tick_memory}
 use Rattle.yawlspar.specs.Face.{packed, transact_answer, transact_bytes, transact_output, tick_answer}
 use Rattle.yawlspar_script.specs.Face.{script_answer, check_answer}
 use Rattle.yawlspar_map.specs.Face.{map_tick_answer}
-use Rattle.yawlspar_wear.specs.Face.{wear_tick_answer}
-use Rattle.script.specs.InBytes.{script_of, held_script, script_bytes, held_wear_scripted}
-use Rattle.counted.specs.InBytes.{held_wear_ticked}
+use Rattle.script.specs.InBytes.{script_of, held_script, script_bytes}
 use Rattle.checker.specs.InBytes.{held_check}
-use Rattle.mapped.specs.InBytes.{held_map_ticked, held_map_scripted}
-use Rattle.beside.specs.Beside.{board_bytes}
+use Rattle.mapped.specs.InBytes.{held_map_ticked, held_map_scripted, board_bytes}
 
 -- what every call is lent: the record's bytes, the array and the rows
 pub record Lent : Type 0 where
@@ -35,7 +30,7 @@ lent bs xs rs = record { bytes = bs; array = xs; rows = rs }
 
 -- a call from C: a transaction with the number that stands for the level of WP#, its input, and its output buffer as it is lent; so many ticks;
 -- a script with that number, its input, its lengths and its tick counts, and as they are lent its output buffer and the lists for the answers and the ticks done; a check of such a script, with an image;
--- ticks, or such a script, with a map of blank pages as it is lent; or with wear records as they are lent
+-- or ticks, or such a script, with a map of blank pages as it is lent
 pub data CCall : Type 0 where
   transact : ℕ → List ℕ → List ℕ → CCall
   tick : ℕ → CCall
@@ -43,20 +38,17 @@ pub data CCall : Type 0 where
   check : ℕ → List ℕ → List ℕ → List ℕ → List ℕ → List ℕ → List ℕ → List ℕ → CCall
   tick_map : ℕ → List ℕ → CCall
   script_map : ℕ → List ℕ → List ℕ → List ℕ → List ℕ → List ℕ → List ℕ → List ℕ → CCall
-  tick_wear : ℕ → List Wear → CCall
-  script_wear : ℕ → List ℕ → List ℕ → List ℕ → List ℕ → List ℕ → List ℕ → List Wear → CCall
 
--- what a call gives to C: its answer, the buffers that are its own, in their order, the wear records that it is lent, none where it is lent none, and what every call is lent, all as it leaves them
+-- what a call gives to C: its answer, the buffers that are its own, in their order, and what every call is lent, all as it leaves them
 pub record Given : Type 0 where
   pub answer : ℕ
   pub buffers : List (List ℕ)
-  pub wear : List Wear
   pub left : Lent
 
 -- what a script that comes to w leaves, and its answer with that
 abbrev pub script_gives : Lent → ℕ → Scripted → Given
 script_gives l answer w =
-    record { answer = answer; buffers = w.output ∷ w.answers ∷ w.done ∷ []; wear = []; left = lent (script_bytes (record_in l.bytes) w l.bytes) w.board.array w.board.rows }
+    record { answer = answer; buffers = w.output ∷ w.answers ∷ w.done ∷ []; left = lent (script_bytes (record_in l.bytes) w l.bytes) w.board.array w.board.rows }
 
 -- what a check of it gives
 abbrev pub check_gives : Lent → Checked → Given
@@ -65,35 +57,24 @@ check_gives l c = script_gives l (check_answer c.verdict) c.run
 -- what ticks with a map give, and a script with one
 abbrev pub map_tick_gives : Lent → MapTicked → Given
 map_tick_gives l w =
-    record { answer = map_tick_answer w; buffers = w.map ∷ []; wear = []; left = lent (board_bytes (record_in l.bytes) w.board l.bytes) w.board.array w.board.rows }
+    record { answer = map_tick_answer w; buffers = w.map ∷ []; left = lent (board_bytes (record_in l.bytes) w.board l.bytes) w.board.array w.board.rows }
 
 abbrev pub map_script_gives : Lent → MapScripted → Given
 map_script_gives l w =
-    record { answer = script_answer w.run; buffers = w.run.output ∷ w.run.answers ∷ w.run.done ∷ w.map ∷ []; wear = []; left = lent (board_bytes (record_in l.bytes) w.run.board l.bytes) w.run.board.array w.run.board.rows }
-
--- what ticks with the wear records ws give, and a script with some
-abbrev pub wear_tick_gives : Lent → List Wear → WearTicked → Given
-wear_tick_gives l ws w =
-    record { answer = wear_tick_answer w; buffers = []; wear = worn w.tally ws; left = lent (board_bytes (record_in l.bytes) w.board l.bytes) w.board.array w.board.rows }
-
-abbrev pub wear_script_gives : Lent → WearScripted → Given
-wear_script_gives l w =
-    record { answer = script_answer w.run; buffers = w.run.output ∷ w.run.answers ∷ w.run.done ∷ []; wear = w.wear; left = lent (script_bytes (record_in l.bytes) w.run l.bytes) w.run.board.array w.run.board.rows }
+    record { answer = script_answer w.run; buffers = w.run.output ∷ w.run.answers ∷ w.run.done ∷ w.map ∷ []; left = lent (board_bytes (record_in l.bytes) w.run.board l.bytes) w.run.board.array w.run.board.rows }
 
 -- what a call's contract allows it to give
 abbrev pub gives : CCall → Lent → Given
 gives (transact wp i o) l =
-    record { answer = transact_answer (record_in l.bytes) (length l.array) (length l.rows) wp i (length o); buffers = transact_output (record_in l.bytes) l.array l.rows wp i o ∷ []; wear = []; left = lent (transact_bytes (record_in l.bytes) (length l.array) (length l.rows) wp i (length o) l.bytes) l.array l.rows }
+    record { answer = transact_answer (record_in l.bytes) (length l.array) (length l.rows) wp i (length o); buffers = transact_output (record_in l.bytes) l.array l.rows wp i o ∷ []; left = lent (transact_bytes (record_in l.bytes) (length l.array) (length l.rows) wp i (length o) l.bytes) l.array l.rows }
 gives (tick n) l =
-    record { answer = tick_answer (record_in l.bytes) (length l.array) (length l.rows) n; buffers = []; wear = []; left = lent (tick_bytes (record_in l.bytes) (length l.array) (length l.rows) n l.bytes) (tick_memory Array (record_in l.bytes) (length l.array) (length l.rows) n l.array) (tick_memory Rows (record_in l.bytes) (length l.array) (length l.rows) n l.rows) }
+    record { answer = tick_answer (record_in l.bytes) (length l.array) (length l.rows) n; buffers = []; left = lent (tick_bytes (record_in l.bytes) (length l.array) (length l.rows) n l.bytes) (tick_memory Array (record_in l.bytes) (length l.array) (length l.rows) n l.array) (tick_memory Rows (record_in l.bytes) (length l.array) (length l.rows) n l.rows) }
 gives (script wp i ls ts o n d) l =
     let w = held_script (record_in l.bytes) wp (script_of wp i ls ts) l.array l.rows o n d in
     script_gives l (script_answer w) w
 gives (check wp i ls ts o n d image) l = check_gives l (held_check (record_in l.bytes) wp (script_of wp i ls ts) l.array l.rows o n d image)
 gives (tick_map n k) l = map_tick_gives l (held_map_ticked (record_in l.bytes) l.array l.rows n k)
 gives (script_map wp i ls ts o n d k) l = map_script_gives l (held_map_scripted (record_in l.bytes) wp (script_of wp i ls ts) l.array l.rows o n d k)
-gives (tick_wear n ws) l = wear_tick_gives l ws (held_wear_ticked (record_in l.bytes) l.array l.rows n (length ws))
-gives (script_wear wp i ls ts o n d ws) l = wear_script_gives l (held_wear_scripted (record_in l.bytes) wp (script_of wp i ls ts) l.array l.rows o n d ws)
 
 -- the calls that it stands for, on a part with the record p: WP# is low for 0 and high for 1; another number is no level, and the part does not see the call
 abbrev pub call_of : CCall → Record → List Call
@@ -103,8 +84,6 @@ call_of (script wp i ls ts o n d) p = script_calls (sound p and leb wp 1) (scrip
 call_of (check wp i ls ts o n d image) p = check_calls (sound p and leb wp 1) (script_of wp i ls ts) p (length o) (length n) (length d) (length image)
 call_of (tick_map n k) p = map_tick_calls p n (length k)
 call_of (script_map wp i ls ts o n d k) p = map_script_calls (sound p and leb wp 1) (script_of wp i ls ts) p (length o) (length n) (length d) (length k)
-call_of (tick_wear n ws) p = wear_tick_calls p n (length ws)
-call_of (script_wear wp i ls ts o n d ws) p = wear_script_calls (sound p and leb wp 1) (script_of wp i ls ts) p (length o) (length n) (length d) (length ws)
 
 -- what C hears of the first k steps of a script, by its lists n and d, where all of them were made whole: of each its answer, and its ticks done with the number 0
 abbrev pub heard_whole : ℕ → List ℕ → List ℕ → List ℕ
@@ -120,7 +99,7 @@ heard_stop number answer done =
 abbrev pub heard_steps : ℕ → ℕ → List ℕ → List ℕ → List ℕ
 heard_steps number k n d = heard_whole k n d ++ heard_stop number (get_or n k 0) (get_or d k 0)
 
--- what C hears of the answers of these calls; of a script by number and step, which its answer holds, and by its two lists; of a check nothing, since its answer is what it says of them all; of ticks that 36 or 35 refused nothing, since they are no call on the part
+-- what C hears of the answers of these calls; of a script by number and step, which its answer holds, and by its two lists; of a check nothing, since its answer is what it says of them all; of ticks that 36 refused nothing, since they are no call on the part
 abbrev pub heard_of : CCall → Given → List ℕ
 heard_of (transact wp i o) g = cond (leb wp 1) (g.answer ∷ []) []
 heard_of (tick n) g = g.answer ∷ []
@@ -128,8 +107,6 @@ heard_of (script wp i ls ts o n d) g = heard_steps (g.answer % 256) (g.answer / 
 heard_of (check wp i ls ts o n d image) g = []
 heard_of (tick_map n k) g = cond (eqb g.answer 36) [] (g.answer ∷ [])
 heard_of (script_map wp i ls ts o n d k) g = heard_steps (g.answer % 256) (g.answer / 256) (get_or g.buffers 1 []) (get_or g.buffers 2 [])
-heard_of (tick_wear n ws) g = cond (eqb g.answer 35) [] (g.answer ∷ [])
-heard_of (script_wear wp i ls ts o n d ws) g = heard_steps (g.answer % 256) (g.answer / 256) (get_or g.buffers 1 []) (get_or g.buffers 2 [])
 
 -- the calls that calls from C stand for, from the record p on
 abbrev pub calls_of : List CCall → Record → List Call
@@ -166,8 +143,6 @@ told_by (script wp i ls ts o n d) ss = script_steps ss
 told_by (check wp i ls ts o n d image) ss = []
 told_by (tick_map n k) ss = packed_steps ss
 told_by (script_map wp i ls ts o n d k) ss = script_steps ss
-told_by (tick_wear n ws) ss = packed_steps ss
-told_by (script_wear wp i ls ts o n d ws) ss = script_steps ss
 
 -- the course of calls on a part with its own memory
 abbrev pub own_course : List Call → Record → List Step
@@ -186,14 +161,12 @@ InMemory (script wp i ls ts o n d) = length ls < 2 ^ 56
 InMemory (check wp i ls ts o n d image) = Unit {0}
 InMemory (tick_map n k) = Unit {0}
 InMemory (script_map wp i ls ts o n d k) = length ls < 2 ^ 56
-InMemory (tick_wear n ws) = Unit {0}
-InMemory (script_wear wp i ls ts o n d ws) = length ls < 2 ^ 56
 
 abbrev pub AllInMemory : List CCall → Type 0
 AllInMemory [] = Unit {0}
 AllInMemory (c ∷ cs) = InMemory c × AllInMemory cs
 
--- a call that is no script, with a map, with wear records or without, and no check
+-- a call that is no script, with a map or without, and no check
 abbrev pub is_plain : CCall → Bool
 is_plain (transact wp i o) = true
 is_plain (tick n) = true
@@ -201,8 +174,6 @@ is_plain (script wp i ls ts o n d) = false
 is_plain (check wp i ls ts o n d image) = false
 is_plain (tick_map n k) = true
 is_plain (script_map wp i ls ts o n d k) = false
-is_plain (tick_wear n ws) = true
-is_plain (script_wear wp i ls ts o n d ws) = false
 
 -- ABh, then the calls b, 66h, the calls c and 99h, as one-byte transactions with the levels l1, l2 and l3, into buffers that hold x, y and z
 abbrev pub until_from_c : ℕ → ℕ → ℕ → ℕ → List CCall → List CCall → List CCall

@@ -4,6 +4,4 @@ pub mod FromC
 pub mod LawsFromC
 pub mod RestartFromC
 pub mod AcceptsFromC
-pub mod Kept
 pub mod MapFromC
-pub mod WearFromC

@@ -8,12 +8,11 @@ use Rattle.paper.specs.History.{Call, history}
 use Rattle.paper.specs.Map.{Right, rebuilt, map_after_calls}
 use Rattle.yawlspar.specs.Face.{Asked, power_up_answer, power_up_bytes}
 use Rattle.map_laws.specs.MapLaws.{Framed}
-use Rattle.from_c.specs.Driven.{Lent, lent, CCall, transact, tick, script, check, tick_map, script_map, tick_wear, script_wear, Given, calls_of, Driven}
-use Rattle.from_c.specs.Kept.{Keeps, Drives}
+use Rattle.from_c.specs.Driven.{Lent, lent, CCall, transact, tick, script, check, tick_map, script_map, Given, calls_of, Driven, ended, calls}
 use Rattle.from_c.specs.Holding.{Holding}
 use Rattle.from_c.specs.LawsFromC.{board_in}
 
--- a call that keeps the map k is lent it. A transaction needs none; ticks and scripts without a map, with wear records too, and checks, do not keep one
+-- a call that keeps the map k is lent it. A transaction needs none; ticks and scripts without a map, and checks, do not keep one
 abbrev pub LendsMap : CCall → List ℕ → Type 0
 LendsMap (transact wp i o) k = Unit {0}
 LendsMap (tick n) k = ⊥
@@ -21,8 +20,6 @@ LendsMap (script wp i ls ts o n d) k = ⊥
 LendsMap (check wp i ls ts o n d image) k = ⊥
 LendsMap (tick_map n m) k = m ≡ k
 LendsMap (script_map wp i ls ts o n d m) k = m ≡ k
-LendsMap (tick_wear n ws) k = ⊥
-LendsMap (script_wear wp i ls ts o n d ws) k = ⊥
 
 -- the map k after a call that gave g: the buffer of a call that was lent it, else as it was
 abbrev pub map_left : CCall → Given → List ℕ → List ℕ
@@ -32,16 +29,24 @@ map_left (script wp i ls ts o n d) g k = k
 map_left (check wp i ls ts o n d image) g k = k
 map_left (tick_map n m) g k = get_or g.buffers 0 []
 map_left (script_map wp i ls ts o n d m) g k = get_or g.buffers 3 []
-map_left (tick_wear n ws) g k = k
-map_left (script_wear wp i ls ts o n d ws) g k = k
 
 -- chained calls that keep a map, which is k before them and j after
 abbrev pub KeepsMap : {l m : Lent} {cs : List CCall} → Driven l cs m → List ℕ → List ℕ → Type 0
-KeepsMap chain k j = Keeps LendsMap map_left chain k j
+KeepsMap ended k j = j ≡ k
+KeepsMap (calls {c = c} g e rest) k j = LendsMap c k × KeepsMap rest (map_left c g k) j
+
+-- calls from C that stand for these and keep a map, which is k before them
+pub record DrivesMap (l : Lent) (p : Record) (cs : List Call) (k : List ℕ) : Type 0 where
+  pub made : List CCall
+  pub stands : calls_of made p ≡ cs
+  pub after : Lent
+  pub chain : Driven l made after
+  pub last : List ℕ
+  pub keeps : KeepsMap chain k last
 
 pub record MapFromC : Type 0 where
   -- each list of calls is what some calls from C stand for that keep a map
-  pub driven : (l : Lent) (p : Record) (cs : List Call) (k : List ℕ) → Holding l p → length k ≡ map_bytes p.part.blocks → Drives LendsMap map_left l p cs k
+  pub driven : (l : Lent) (p : Record) (cs : List Call) (k : List ℕ) → Holding l p → length k ≡ map_bytes p.part.blocks → DrivesMap l p cs k
   -- what they make of a map is what the calls make of it that they stand for
   pub exact : (l m : Lent) (p : Record) (cs : List CCall) (k j : List ℕ) → Holding l p → (chain : Driven l cs m) → KeepsMap chain k j
       → j ≡ map_after_calls (calls_of cs p) (board_in l p) k

@@ -5,7 +5,7 @@ abbrev pub major : ℕ
 major = 1
 
 abbrev pub minor : ℕ
-minor = 10
+minor = 9
 
 -- both in one number
 abbrev pub version : ℕ

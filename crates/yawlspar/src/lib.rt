@@ -2,6 +2,7 @@
 // the functions on numbers. A call reads part and phase, is made, and writes what it makes of the record over the bytes;
 // page data stays where it is.
 #![tactic(auto)]
+
 pub mod numbers;
 
 ghost use Rattle.std.specs.Prelude.{◌≡◌, ◌%◌, ◌^◌, length};
@@ -54,8 +55,7 @@ fn given_number(
 }
 
 // Power-up into a buffer of a record's length. The number is 0, 1 or 5; refused, the buffer is as it was.
-#[unsafe(no_mangle)]
-pub extern "C" fn yawlspar_power_up(
+pub fn yawlspar_power_up(
     bytes: &mut [u8],
     blocks: u64,
     maker: u64,
@@ -107,8 +107,7 @@ pub extern "C" fn yawlspar_power_up(
 
 // A transaction. WP# is low for 0 and high for 1. The number and the first driven place; refused, with 1 to 5,
 // every buffer is as it was. Where the bytes hold no record, 1 is not judged: there is no size.
-#[unsafe(no_mangle)]
-pub extern "C" fn yawlspar_transact(
+pub fn yawlspar_transact(
     bytes: &mut [u8],
     array: &[u8],
     rows: &[u8],
@@ -142,13 +141,7 @@ pub extern "C" fn yawlspar_transact(
 
 // So many ticks. The number and the ticks that did work; refused, with 1, 2, 5 or 6, every buffer is as it was. Where
 // the bytes hold no record, 1 is not judged.
-#[unsafe(no_mangle)]
-pub extern "C" fn yawlspar_tick(
-    bytes: &mut [u8],
-    array: &mut [u8],
-    rows: &mut [u8],
-    count: u64,
-) -> u64
+pub fn yawlspar_tick(bytes: &mut [u8], array: &mut [u8], rows: &mut [u8], count: u64) -> u64
     ensures answer { result ≡ tick_answer (record_in bytes.old) (length array.old) (length rows.old) count }
     ensures bytes { bytes.new ≡ tick_bytes (record_in bytes.old) (length array.old) (length rows.old) count bytes.old }
     ensures array { array.new ≡ tick_memory Array (record_in bytes.old) (length array.old) (length rows.old) count array.old }
@@ -159,9 +152,8 @@ pub extern "C" fn yawlspar_tick(
 }
 
 // The version that the archive is of, which a program compares with its header's.
-#[unsafe(no_mangle)]
-pub extern "C" fn yawlspar_version() -> u64
+pub fn yawlspar_version() -> u64
     ensures { result ≡ version }
 {
-    1010
+    1009
 }

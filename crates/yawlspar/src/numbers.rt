@@ -3,24 +3,21 @@ ghost use Rattle.std.specs.Prelude.{◌≡◌};
 ghost use Rattle.paper.specs.CBench.{protection_number, protected_first, protected_count, protected_answer, place_answer};
 
 // The protection question's number. The address does not matter to it.
-#[unsafe(no_mangle)]
-pub extern "C" fn yawlspar_protection_number(code: u64, blocks: u64, address: u64) -> u64
+pub fn yawlspar_protection_number(code: u64, blocks: u64, address: u64) -> u64
     ensures { result ≡ protection_number code blocks }
 {
     protection::question_number(code, blocks) as u64
 }
 
 // Its first protected block, 0 where there is none and when refused.
-#[unsafe(no_mangle)]
-pub extern "C" fn yawlspar_protected_first(code: u64, blocks: u64) -> u64
+pub fn yawlspar_protected_first(code: u64, blocks: u64) -> u64
     ensures { result ≡ protected_first code blocks }
 {
     protection::protected_blocks(code, blocks).first as u64
 }
 
 // The count of protected blocks from the first on, 0 where there is none and when refused.
-#[unsafe(no_mangle)]
-pub extern "C" fn yawlspar_protected_count(code: u64, blocks: u64) -> u64
+pub fn yawlspar_protected_count(code: u64, blocks: u64) -> u64
     ensures { result ≡ protected_count code blocks }
 {
     protection::protected_blocks(code, blocks).count as u64
@@ -28,8 +25,7 @@ pub extern "C" fn yawlspar_protected_count(code: u64, blocks: u64) -> u64
 
 // 1 where the address, taken modulo the size, is protected, else 0, also when refused: there is then no protected block. (Where
 // there is one, the size is good, and not 0 to divide by.)
-#[unsafe(no_mangle)]
-pub extern "C" fn yawlspar_protected(code: u64, blocks: u64, address: u64) -> u64
+pub fn yawlspar_protected(code: u64, blocks: u64, address: u64) -> u64
     ensures { result ≡ protected_answer code blocks address }
 {
     let protected = protection::protected_blocks(code, blocks);
@@ -41,8 +37,7 @@ pub extern "C" fn yawlspar_protected(code: u64, blocks: u64, address: u64) -> u6
 }
 
 // The place in a page of byte index of bytes that are sent from the place start on; 256 where there is none.
-#[unsafe(no_mangle)]
-pub extern "C" fn yawlspar_page_place(start: u64, index: u64) -> u64
+pub fn yawlspar_page_place(start: u64, index: u64) -> u64
     ensures { result ≡ place_answer start index }
 {
     if 256 <= start {

@@ -2,19 +2,18 @@
 // library of its own, for the speed of calls without a map (docs/SPEED.md), and a part of the archive that C links. A script with a
 // map stands beside the other scripts.
 #![tactic(auto)]
+
 ghost use Rattle.std.specs.Prelude.{◌≡◌, length};
 ghost use Rattle.paper.specs.Numbers.{rebuild_number};
 ghost use Rattle.paper.specs.Map.{rebuilt, queried};
 ghost use Rattle.record_bytes.specs.Read.{record_in};
-ghost use Rattle.mapped.specs.InBytes.{held_map_ticked};
-ghost use Rattle.beside.specs.Beside.{board_bytes};
+ghost use Rattle.mapped.specs.InBytes.{held_map_ticked, board_bytes};
 ghost use Rattle.yawlspar_map.specs.Face.{blank_answer, map_tick_answer};
 
 use types::Blank;
 
 // A rebuild: the map is made from the array. The number; refused, with 1 or 36, the map is as it was.
-#[unsafe(no_mangle)]
-pub extern "C" fn yawlspar_map_rebuild(blocks: u64, array: &[u8], map: &mut [u8]) -> u64
+pub fn yawlspar_map_rebuild(blocks: u64, array: &[u8], map: &mut [u8]) -> u64
     ensures number { result ≡ rebuild_number blocks (length array.now) (length map.old) }
     ensures map { map.new ≡ rebuilt blocks array.now map.old }
 {
@@ -23,8 +22,7 @@ pub extern "C" fn yawlspar_map_rebuild(blocks: u64, array: &[u8], map: &mut [u8]
 
 // A query: the first page at or after a page that the map has as blank, or the number of pages where there is none. It may be
 // refused, with 1, 36 or 37.
-#[unsafe(no_mangle)]
-pub extern "C" fn yawlspar_map_next(blocks: u64, map: &[u8], page: u64) -> u64
+pub fn yawlspar_map_next(blocks: u64, map: &[u8], page: u64) -> u64
     ensures { result ≡ blank_answer blocks (queried blocks map.now page) }
 {
     let next = blank_map::next(blocks, map, page);
@@ -37,8 +35,7 @@ pub extern "C" fn yawlspar_map_next(blocks: u64, map: &[u8], page: u64) -> u64
 
 // So many ticks, as yawlspar_tick makes them, and the map is kept. The number and the ticks that did work; refused, with 1, 36, 2,
 // 5 or 6, every buffer is as it was. Where the bytes hold no record, 1 and 36 are not judged.
-#[unsafe(no_mangle)]
-pub extern "C" fn yawlspar_tick_map(
+pub fn yawlspar_tick_map(
     bytes: &mut [u8],
     array: &mut [u8],
     rows: &mut [u8],

@@ -1,11 +1,11 @@
 // Scripts, with a map of blank pages and without, and checks for C, which include/yawlspar.h declares. They are a static library of
 // their own, for the speed of single calls (docs/SPEED.md), and a part of the archive that C links.
 #![tactic(auto)]
+
 ghost use Rattle.std.specs.Prelude.{◌≡◌, ◌+◌, ◌*◌, ◌%◌, ◌^◌, ◌≤◌};
 ghost use Rattle.record_bytes.specs.Read.{record_in};
 ghost use Rattle.script.specs.InBytes.{script_of, held_script, script_bytes};
-ghost use Rattle.mapped.specs.InBytes.{held_map_scripted};
-ghost use Rattle.beside.specs.Beside.{board_bytes};
+ghost use Rattle.mapped.specs.InBytes.{held_map_scripted, board_bytes};
 ghost use Rattle.checker.specs.InBytes.{held_check};
 ghost use Rattle.yawlspar.specs.Face.{packed};
 ghost use Rattle.yawlspar_script.specs.Face.{script_answer, check_answer};
@@ -14,8 +14,7 @@ use types::Verdict;
 
 // A script: transactions, and ticks after each. WP# is low for 0 and high for 1. The number that stops it and the step, or 0 and
 // the number of steps; refused, with 1, 2, 7, 4 or 5, every buffer is as it was. Where the bytes hold no record, 1 is not judged.
-#[unsafe(no_mangle)]
-pub extern "C" fn yawlspar_script(
+pub fn yawlspar_script(
     bytes: &mut [u8],
     array: &mut [u8],
     rows: &mut [u8],
@@ -44,8 +43,7 @@ pub extern "C" fn yawlspar_script(
 
 // A script, as yawlspar_script makes it, and the map is kept. The number that stops it and the step, or 0 and the number of
 // steps; refused, with 1, 36, 2, 7, 4 or 5, every buffer is as it was. Where the bytes hold no record, 1 and 36 are not judged.
-#[unsafe(no_mangle)]
-pub extern "C" fn yawlspar_script_map(
+pub fn yawlspar_script_map(
     bytes: &mut [u8],
     array: &mut [u8],
     rows: &mut [u8],
@@ -99,8 +97,7 @@ fn answer(verdict: Verdict) -> u64
 // A check: a script, as yawlspar_script makes it, and what it leaves is held against the image. Yes; or the first failing step, or
 // the number of steps where the part is not idle; or the first differing address. Refused, with 1, 38, 2, 7, 4 or 5, every
 // buffer is as it was. Where the bytes hold no record, 1 is not judged.
-#[unsafe(no_mangle)]
-pub extern "C" fn yawlspar_check(
+pub fn yawlspar_check(
     bytes: &mut [u8],
     array: &mut [u8],
     rows: &mut [u8],

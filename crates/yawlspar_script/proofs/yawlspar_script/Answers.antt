@@ -1,0 +1,15 @@
+-- `yawlspar_script::yawlspar_script` meets its contract: what the script answers is packed.
+use Prim.Native.Nat.{◌%◌, ◌^◌}
+use mathlib.Core.Path.{ap, ◌∙◌}
+use Rattle.yawlspar.specs.Face.{packed}
+use Rattle.script.specs.declared.Ran.{Ran}
+use Rattle.yawlspar_script.specs.Face.{script_answer}
+use borrow.Author.Rules.{rules}
+use Rattle.yawlspar_script.proofs.yawlspar_script.Goals as goal
+
+pub returns : goal.returns
+unfolding script_answer
+returns c =
+    let w = c.run-ran.ensures in
+    let q = w.bytes in
+    record { answer = c.pack.ensures ∙ ap (λ (x : Ran). packed x.number (x.step % 2 ^ 56)) w.answer; bytes = q.0; array = q.1.0; rows = q.1.1.0; output = q.1.1.1.0; answers = q.1.1.1.1.0; done = q.1.1.1.1.1.0 }

@@ -1,0 +1,90 @@
+// What C links of scripts and checks: each function is the library's of its name.
+#![tactic(auto)]
+ghost use Rattle.std.specs.Prelude.{◌≡◌};
+ghost use Rattle.record_bytes.specs.Read.{record_in};
+ghost use Rattle.script.specs.InBytes.{script_of, held_script, script_bytes};
+ghost use Rattle.mapped.specs.InBytes.{held_map_scripted, board_bytes};
+ghost use Rattle.checker.specs.InBytes.{held_check};
+ghost use Rattle.yawlspar_script.specs.Face.{script_answer, check_answer};
+
+// A script: transactions, and ticks after each. WP# is low for 0 and high for 1. The number that stops it and the step, or 0 and
+// the number of steps; refused, with 1, 2, 7, 4 or 5, every buffer is as it was. Where the bytes hold no record, 1 is not judged.
+#[unsafe(no_mangle)]
+pub extern "C" fn yawlspar_script(
+    bytes: &mut [u8],
+    array: &mut [u8],
+    rows: &mut [u8],
+    wp: u64,
+    input: &[u8],
+    lengths: &[u16],
+    ticks: &[u16],
+    output: &mut [u8],
+    answers: &mut [u8],
+    done: &mut [u16],
+) -> u64
+    ensures answer { result ≡ script_answer (held_script (record_in bytes.old) wp (script_of wp input.now lengths.now ticks.now) array.old rows.old output.old answers.old done.old) }
+    ensures bytes { bytes.new ≡ script_bytes (record_in bytes.old) (held_script (record_in bytes.old) wp (script_of wp input.now lengths.now ticks.now) array.old rows.old output.old answers.old done.old) bytes.old }
+    ensures array { array.new ≡ (held_script (record_in bytes.old) wp (script_of wp input.now lengths.now ticks.now) array.old rows.old output.old answers.old done.old).board.array }
+    ensures rows { rows.new ≡ (held_script (record_in bytes.old) wp (script_of wp input.now lengths.now ticks.now) array.old rows.old output.old answers.old done.old).board.rows }
+    ensures output { output.new ≡ (held_script (record_in bytes.old) wp (script_of wp input.now lengths.now ticks.now) array.old rows.old output.old answers.old done.old).output }
+    ensures answers { answers.new ≡ (held_script (record_in bytes.old) wp (script_of wp input.now lengths.now ticks.now) array.old rows.old output.old answers.old done.old).answers }
+    ensures done { done.new ≡ (held_script (record_in bytes.old) wp (script_of wp input.now lengths.now ticks.now) array.old rows.old output.old answers.old done.old).done }
+{
+    yawlspar_script::yawlspar_script(bytes, array, rows, wp, input, lengths, ticks, output, answers, done)
+}
+
+// A script, as yawlspar_script makes it, and the map is kept. The number that stops it and the step, or 0 and the number of
+// steps; refused, with 1, 36, 2, 7, 4 or 5, every buffer is as it was. Where the bytes hold no record, 1 and 36 are not judged.
+#[unsafe(no_mangle)]
+pub extern "C" fn yawlspar_script_map(
+    bytes: &mut [u8],
+    array: &mut [u8],
+    rows: &mut [u8],
+    wp: u64,
+    input: &[u8],
+    lengths: &[u16],
+    ticks: &[u16],
+    output: &mut [u8],
+    answers: &mut [u8],
+    done: &mut [u16],
+    map: &mut [u8],
+) -> u64
+    ensures answer { result ≡ script_answer (held_map_scripted (record_in bytes.old) wp (script_of wp input.now lengths.now ticks.now) array.old rows.old output.old answers.old done.old map.old).run }
+    ensures bytes { bytes.new ≡ board_bytes (record_in bytes.old) (held_map_scripted (record_in bytes.old) wp (script_of wp input.now lengths.now ticks.now) array.old rows.old output.old answers.old done.old map.old).run.board bytes.old }
+    ensures array { array.new ≡ (held_map_scripted (record_in bytes.old) wp (script_of wp input.now lengths.now ticks.now) array.old rows.old output.old answers.old done.old map.old).run.board.array }
+    ensures rows { rows.new ≡ (held_map_scripted (record_in bytes.old) wp (script_of wp input.now lengths.now ticks.now) array.old rows.old output.old answers.old done.old map.old).run.board.rows }
+    ensures output { output.new ≡ (held_map_scripted (record_in bytes.old) wp (script_of wp input.now lengths.now ticks.now) array.old rows.old output.old answers.old done.old map.old).run.output }
+    ensures answers { answers.new ≡ (held_map_scripted (record_in bytes.old) wp (script_of wp input.now lengths.now ticks.now) array.old rows.old output.old answers.old done.old map.old).run.answers }
+    ensures done { done.new ≡ (held_map_scripted (record_in bytes.old) wp (script_of wp input.now lengths.now ticks.now) array.old rows.old output.old answers.old done.old map.old).run.done }
+    ensures map { map.new ≡ (held_map_scripted (record_in bytes.old) wp (script_of wp input.now lengths.now ticks.now) array.old rows.old output.old answers.old done.old map.old).map }
+{
+    yawlspar_script::yawlspar_script_map(bytes, array, rows, wp, input, lengths, ticks, output, answers, done, map)
+}
+
+// A check: a script, as yawlspar_script makes it, and what it leaves is held against the image. Yes; or the first failing step, or
+// the number of steps where the part is not idle; or the first differing address. Refused, with 1, 38, 2, 7, 4 or 5, every
+// buffer is as it was. Where the bytes hold no record, 1 is not judged.
+#[unsafe(no_mangle)]
+pub extern "C" fn yawlspar_check(
+    bytes: &mut [u8],
+    array: &mut [u8],
+    rows: &mut [u8],
+    wp: u64,
+    input: &[u8],
+    lengths: &[u16],
+    ticks: &[u16],
+    output: &mut [u8],
+    answers: &mut [u8],
+    done: &mut [u16],
+    image: &[u8],
+) -> u64
+    ensures answer { result ≡ check_answer (held_check (record_in bytes.old) wp (script_of wp input.now lengths.now ticks.now) array.old rows.old output.old answers.old done.old image.now).verdict }
+    ensures bytes { bytes.new ≡ script_bytes (record_in bytes.old) (held_check (record_in bytes.old) wp (script_of wp input.now lengths.now ticks.now) array.old rows.old output.old answers.old done.old image.now).run bytes.old }
+    ensures array { array.new ≡ (held_check (record_in bytes.old) wp (script_of wp input.now lengths.now ticks.now) array.old rows.old output.old answers.old done.old image.now).run.board.array }
+    ensures rows { rows.new ≡ (held_check (record_in bytes.old) wp (script_of wp input.now lengths.now ticks.now) array.old rows.old output.old answers.old done.old image.now).run.board.rows }
+    ensures output { output.new ≡ (held_check (record_in bytes.old) wp (script_of wp input.now lengths.now ticks.now) array.old rows.old output.old answers.old done.old image.now).run.output }
+    ensures answers { answers.new ≡ (held_check (record_in bytes.old) wp (script_of wp input.now lengths.now ticks.now) array.old rows.old output.old answers.old done.old image.now).run.answers }
+    ensures done { done.new ≡ (held_check (record_in bytes.old) wp (script_of wp input.now lengths.now ticks.now) array.old rows.old output.old answers.old done.old image.now).run.done }
+{
+    yawlspar_script::yawlspar_check(bytes, array, rows, wp, input, lengths, ticks, output, answers, done, image)
+}
