@@ -23,7 +23,8 @@ use Rattle.history.proofs.Joined.{run_folded}
 use Rattle.script.specs.InBytes.{script_of}
 use Rattle.yawlspar.specs.Face.{Asked, identity_of, registers_of, up_of, power_up_answer, power_up_bytes}
 use Rattle.map_laws.specs.MapLaws.{Framed}
-use Rattle.map_laws.proofs.Stands.{own_size, ticks_stand, scripts_stand}
+use Rattle.history.proofs.Beside.{own_size}
+use Rattle.map_laws.proofs.Stands.{ticks_stand, scripts_stand}
 use Rattle.map_laws.proofs.MapLaws.{laws}
 use Rattle.from_c.specs.Driven.{Lent, lent, CCall, transact, tick, script, check, tick_map, script_map, Given, gives, call_of, calls_of, Driven, ended, calls}
 use Rattle.from_c.specs.Holding.{Holding}

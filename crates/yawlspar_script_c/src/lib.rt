@@ -1,5 +1,6 @@
 // What C links of scripts and checks: each function is the library's of its name.
 #![tactic(auto)]
+
 ghost use Rattle.std.specs.Prelude.{◌≡◌};
 ghost use Rattle.record_bytes.specs.Read.{record_in};
 ghost use Rattle.script.specs.InBytes.{script_of, held_script, script_bytes};
@@ -30,7 +31,9 @@ pub extern "C" fn yawlspar_script(
     ensures answers { answers.new ≡ (held_script (record_in bytes.old) wp (script_of wp input.now lengths.now ticks.now) array.old rows.old output.old answers.old done.old).answers }
     ensures done { done.new ≡ (held_script (record_in bytes.old) wp (script_of wp input.now lengths.now ticks.now) array.old rows.old output.old answers.old done.old).done }
 {
-    yawlspar_script::yawlspar_script(bytes, array, rows, wp, input, lengths, ticks, output, answers, done)
+    yawlspar_script::yawlspar_script(
+        bytes, array, rows, wp, input, lengths, ticks, output, answers, done,
+    )
 }
 
 // A script, as yawlspar_script makes it, and the map is kept. The number that stops it and the step, or 0 and the number of
@@ -58,7 +61,9 @@ pub extern "C" fn yawlspar_script_map(
     ensures done { done.new ≡ (held_map_scripted (record_in bytes.old) wp (script_of wp input.now lengths.now ticks.now) array.old rows.old output.old answers.old done.old map.old).run.done }
     ensures map { map.new ≡ (held_map_scripted (record_in bytes.old) wp (script_of wp input.now lengths.now ticks.now) array.old rows.old output.old answers.old done.old map.old).map }
 {
-    yawlspar_script::yawlspar_script_map(bytes, array, rows, wp, input, lengths, ticks, output, answers, done, map)
+    yawlspar_script::yawlspar_script_map(
+        bytes, array, rows, wp, input, lengths, ticks, output, answers, done, map,
+    )
 }
 
 // A check: a script, as yawlspar_script makes it, and what it leaves is held against the image. Yes; or the first failing step, or
@@ -86,5 +91,7 @@ pub extern "C" fn yawlspar_check(
     ensures answers { answers.new ≡ (held_check (record_in bytes.old) wp (script_of wp input.now lengths.now ticks.now) array.old rows.old output.old answers.old done.old image.now).run.answers }
     ensures done { done.new ≡ (held_check (record_in bytes.old) wp (script_of wp input.now lengths.now ticks.now) array.old rows.old output.old answers.old done.old image.now).run.done }
 {
-    yawlspar_script::yawlspar_check(bytes, array, rows, wp, input, lengths, ticks, output, answers, done, image)
+    yawlspar_script::yawlspar_check(
+        bytes, array, rows, wp, input, lengths, ticks, output, answers, done, image,
+    )
 }

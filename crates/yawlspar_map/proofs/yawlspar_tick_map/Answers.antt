@@ -7,4 +7,4 @@ use Rattle.yawlspar_map.proofs.yawlspar_tick_map.Goals as goal
 pub returns : goal.returns
 returns c =
     let w = c.tick-kept.ensures in
-    (c.pack.ensures ∙ kept_answer _ _ _ _ _ _ w.answer, w.bytes)
+    record { answer = c.pack.ensures ∙ kept_answer _ _ _ _ _ _ w.answer; bytes = w.bytes; array = w.array; rows = w.rows; map = w.map }

@@ -7,4 +7,4 @@ use Rattle.yawlspar_script.proofs.yawlspar_check.Goals as goal
 pub returns : goal.returns
 returns c =
     let w = c.check-verdict.ensures in
-    (c.answer.ensures ∙ ap check_answer w.verdict, w.bytes)
+    record { answer = c.answer.ensures ∙ ap check_answer w.verdict; bytes = w.bytes; array = w.array; rows = w.rows; output = w.output; answers = w.answers; done = w.done }

@@ -11,5 +11,4 @@ pub returns : goal.returns
 unfolding script_answer
 returns c =
     let w = c.run-ran.ensures in
-    let q = w.bytes in
-    record { answer = c.pack.ensures ∙ ap (λ (x : Ran). packed x.number (x.step % 2 ^ 56)) w.answer; bytes = q.0; array = q.1.0; rows = q.1.1.0; output = q.1.1.1.0; answers = q.1.1.1.1.0; done = q.1.1.1.1.1.0 }
+    record { answer = c.pack.ensures ∙ ap (λ (x : Ran). packed x.number (x.step % 2 ^ 56)) w.answer; bytes = w.bytes; array = w.array; rows = w.rows; output = w.output; answers = w.answers; done = w.done }

@@ -11,4 +11,4 @@ pub returns : goal.returns
 unfolding script_answer
 returns c =
     let w = c.script-kept.ensures in
-    (c.pack.ensures ∙ ap (λ (x : Ran). packed x.number (x.step % 2 ^ 56)) w.answer, w.bytes)
+    record { answer = c.pack.ensures ∙ ap (λ (x : Ran). packed x.number (x.step % 2 ^ 56)) w.answer; bytes = w.bytes; array = w.array; rows = w.rows; output = w.output; answers = w.answers; done = w.done; map = w.map }
