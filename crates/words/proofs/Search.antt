@@ -5,7 +5,6 @@ use mathlib.Core.Bool.{Bool, true, false, cond}
 use native.Mathlib.Omega.{arith}
 use borrow.Author.Tests.{ltb-true, ltb-false, lt-ltb, le-ltb, leb-true, leb-false}
 use lib.Dec.{leb, ltb}
-use Rattle.words.specs.Logic.{◌and◌}
 use Rattle.words.specs.Lists.{first_of, all_below}
 use Rattle.words.proofs.Tests.{and_l, and_r, and_in}
 

@@ -1,6 +1,7 @@
 // Tests and numbers, put together as the definitions put them together: a decision is then
 // straight-line code, in the order of the specification's table of numbers.
 #![tactic(auto)]
+
 ghost use Rattle.std.specs.Prelude.{◌≡◌, min};
 ghost use Rattle.words.specs.Logic.{◌and◌, ◌or◌, bit, unless, ◌or_else◌};
 

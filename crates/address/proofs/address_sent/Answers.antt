@@ -4,7 +4,6 @@ use mathlib.Core.Path.{◌≡◌, ◌∙◌}
 use native.Mathlib.Omega.{arith}
 use lib.Seq.{take-nil, take_all, length-take-le}
 use lib.ListN.{length, take, drop, length-drop, drop_of_length-le}
-use borrow.Author.Rules.{rules}
 use Rattle.paper.specs.Address.{high_first}
 use Rattle.words.proofs.Lists.{take_min}
 use Rattle.address.proofs.address_sent.Goals as goal

@@ -1,13 +1,11 @@
 -- `address::high_first` meets its contract. The loop's invariant: the number is that of the bytes passed, of which there are at most eight;
 -- seven bytes leave room for one more.
-use Prim.Native.Nat.{ℕ, ◌≤◌, ◌<◌, ◌-◌, min}
+use Prim.Native.Nat.{ℕ, ◌<◌, min}
 use mathlib.Core.Path.{◌≡◌, sym, ◌∙◌}
 use native.Mathlib.Numerals.{add-one}
 use native.Mathlib.Omega.{arith}
-use lib.ListN.{length, take, get_or}
-use borrow.Author.Rules.{rules}
+use lib.ListN.{length, get_or}
 use Rattle.paper.proofs.Addresses.{high_first_none, high_first_more, high_first_room}
-use Rattle.paper.specs.Address.{high_first}
 use Rattle.words.proofs.Lists.{take_min}
 use Rattle.address.proofs.high_first.Goals as goal
 

@@ -1,12 +1,7 @@
-use Prim.Native.Nat.{ℕ, ◌≤◌, ◌<◌, ◌-◌, min}
-use mathlib.Core.Path.{◌≡◌, sym, ◌∙◌}
-use native.Mathlib.Numerals.{add-one}
-use native.Mathlib.Omega.{arith}
-use lib.ListN.{length, take, get_or}
-use borrow.Author.Rules.{rules}
-use Rattle.paper.proofs.Addresses.{high_first_none, high_first_more, high_first_room}
+use Prim.Native.Nat.{◌≤◌, ◌-◌, min}
+use mathlib.Core.Path.{◌≡◌}
+use lib.ListN.{length, take}
 use Rattle.paper.specs.Address.{high_first}
-use Rattle.words.proofs.Lists.{take_min}
 use Rattle.address.proofs.high_first.Given as goal
 
 abbrev pub invariant-loop-i : goal.invariant-loop-i

@@ -1,12 +1,9 @@
 -- `blank_map::all_blank` meets its contract. The loop's invariant: the bits so far are FFh where all bytes so far are.
-use Prim.Native.Nat.{ℕ, ◌-◌, ◌<◌, ◌≤◌}
 use mathlib.Core.Path.{◌≡◌, refl}
 use native.Mathlib.Numerals.{add-one}
 use native.Mathlib.Omega.{arith}
 use lib.Bits.{and_le_l}
-use lib.Dec.{eqb}
 use lib.ListN.{length, get_or}
-use borrow.Author.Rules.{rules}
 use Rattle.words.specs.Lists.{all_below, AreBytes}
 use Rattle.blank_map.proofs.Blank.{blank_more}
 use Rattle.blank_map.proofs.all_blank.Goals as goal

@@ -1,13 +1,8 @@
 use Prim.Native.Nat.{ℕ, ◌-◌, ◌<◌, ◌≤◌}
-use mathlib.Core.Path.{◌≡◌, refl}
-use native.Mathlib.Numerals.{add-one}
-use native.Mathlib.Omega.{arith}
-use lib.Bits.{and_le_l}
+use mathlib.Core.Path.{◌≡◌}
 use lib.Dec.{eqb}
 use lib.ListN.{length, get_or}
-use borrow.Author.Rules.{rules}
-use Rattle.words.specs.Lists.{all_below, AreBytes}
-use Rattle.blank_map.proofs.Blank.{blank_more}
+use Rattle.words.specs.Lists.{all_below}
 use Rattle.blank_map.proofs.all_blank.Given as goal
 
 abbrev pub invariant-loop-i : goal.invariant-loop-i

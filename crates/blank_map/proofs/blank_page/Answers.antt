@@ -1,13 +1,10 @@
 -- `blank_map::blank_page` meets its contract. The loop's invariant: the chunks so far are FFh.
-use Prim.Native.Nat.{ℕ, ◌+◌, ◌-◌, ◌*◌, ◌≤◌}
+use Prim.Native.Nat.{ℕ, ◌+◌, ◌-◌, ◌*◌}
 use mathlib.Core.Path.{◌≡◌, refl, sym, ap, ◌∙◌}
-use mathlib.Core.Bool.{true}
 use native.Mathlib.Numerals.{add-one}
 use native.Mathlib.Omega.{arith}
 use lib.Dec.{eqb}
 use lib.ListN.{get_or}
-use borrow.Author.Rules.{rules}
-use borrow.Author.Tests.{not-true, not-false}
 use Rattle.words.specs.Lists.{all_below}
 use Rattle.paper.specs.Map.{blank_page}
 use Rattle.blank_map.proofs.Blank.{page_out, chunk_full_lem, chunk_not}

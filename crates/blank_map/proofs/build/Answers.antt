@@ -1,13 +1,11 @@
 -- `blank_map::build` meets its contract. The loop's invariant: the bytes so far are made, and what is left is as it came.
-use Prim.Native.Nat.{◌-◌, ◌<◌, ◌≤◌}
+use Prim.Native.Nat.{◌<◌}
 use mathlib.Core.Path.{◌≡◌, refl, ◌∙◌}
-use mathlib.Core.List.{◌++◌, append-nil}
+use mathlib.Core.List.{append-nil}
 use native.Mathlib.Numerals.{add-one}
 use native.Mathlib.Omega.{arith}
-use lib.ListN.{length, drop, length-set}
+use lib.ListN.{length, length-set}
 use lib.Seq.{drop-length}
-use borrow.Author.Rules.{rules}
-use Rattle.words.specs.Lists.{up_to}
 use Rattle.words.specs.Bits.{byte_of}
 use Rattle.paper.specs.Map.{blank_page}
 use Rattle.blank_map.proofs.Blank.{made_more}

@@ -1,15 +1,10 @@
-use Prim.Native.Nat.{◌-◌, ◌<◌, ◌≤◌}
-use mathlib.Core.Path.{◌≡◌, refl, ◌∙◌}
-use mathlib.Core.List.{◌++◌, append-nil}
-use native.Mathlib.Numerals.{add-one}
-use native.Mathlib.Omega.{arith}
-use lib.ListN.{length, drop, length-set}
-use lib.Seq.{drop-length}
-use borrow.Author.Rules.{rules}
+use Prim.Native.Nat.{◌-◌, ◌≤◌}
+use mathlib.Core.Path.{◌≡◌}
+use mathlib.Core.List.{◌++◌}
+use lib.ListN.{length, drop}
 use Rattle.words.specs.Lists.{up_to}
 use Rattle.words.specs.Bits.{byte_of}
 use Rattle.paper.specs.Map.{blank_page}
-use Rattle.blank_map.proofs.Blank.{made_more}
 use Rattle.blank_map.proofs.build.Given as goal
 
 abbrev pub invariant-loop-j : goal.invariant-loop-j

@@ -1,9 +1,8 @@
 -- `blank_map::byte_of` meets its contract. The loop's invariant: the number has the bits of the pages from the last one looked at on.
-use Prim.Native.Nat.{ℕ, ◌+◌, ◌-◌, ◌*◌, ◌≤◌}
+use Prim.Native.Nat.{ℕ, ◌+◌, ◌-◌, ◌*◌}
 use mathlib.Core.Path.{◌≡◌, refl, ap, ◌∙◌}
 use native.Mathlib.Nat.{add-zero}
 use native.Mathlib.Omega.{arith}
-use borrow.Author.Rules.{rules}
 use Rattle.words.specs.Bits.{bits_from, byte_of}
 use Rattle.words.proofs.Tests.{bit_le}
 use Rattle.paper.specs.Map.{blank_page}

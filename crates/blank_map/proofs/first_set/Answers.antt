@@ -1,12 +1,8 @@
 -- `blank_map::first_set` meets its contract. The loop's invariant: no bit so far is one that is looked for.
-use Prim.Native.Nat.{ℕ, ◌-◌, ◌*◌, ◌≤◌}
+use Prim.Native.Nat.{◌*◌}
 use mathlib.Core.Path.{◌≡◌, sym, ◌∙◌}
 use native.Mathlib.Omega.{arith}
-use lib.Dec.{leb}
 use lib.ListN.{length}
-use Rattle.words.specs.Logic.{◌and◌}
-use Rattle.words.specs.Lists.{first_of}
-use Rattle.words.specs.Bits.{bit_in}
 use Rattle.blank_map.proofs.Clear.{clear_le, search_starts, search_passes, search_finds}
 use Rattle.blank_map.proofs.first_set.Goals as goal
 

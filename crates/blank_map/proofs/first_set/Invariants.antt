@@ -1,12 +1,9 @@
-use Prim.Native.Nat.{ℕ, ◌-◌, ◌*◌, ◌≤◌}
-use mathlib.Core.Path.{◌≡◌, sym, ◌∙◌}
-use native.Mathlib.Omega.{arith}
+use Prim.Native.Nat.{ℕ, ◌-◌, ◌≤◌}
+use mathlib.Core.Path.{◌≡◌}
 use lib.Dec.{leb}
-use lib.ListN.{length}
 use Rattle.words.specs.Logic.{◌and◌}
 use Rattle.words.specs.Lists.{first_of}
 use Rattle.words.specs.Bits.{bit_in}
-use Rattle.blank_map.proofs.Clear.{clear_le, search_starts, search_passes, search_finds}
 use Rattle.blank_map.proofs.first_set.Given as goal
 
 abbrev pub invariant-loop-at : goal.invariant-loop-at

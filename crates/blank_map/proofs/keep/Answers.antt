@@ -1,5 +1,4 @@
 -- `blank_map::keep` meets its contract, by what was reached.
-use borrow.Author.Rules.{rules}
 use Rattle.blank_map.specs.Marked.{marked}
 use Rattle.blank_map.proofs.keep.Goals as goal
 

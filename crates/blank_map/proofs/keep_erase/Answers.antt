@@ -1,5 +1,4 @@
 -- `blank_map::keep_erase` meets its contract: the pages of the array; rows have no bit.
-use borrow.Author.Rules.{rules}
 use Rattle.blank_map.proofs.keep_erase.Goals as goal
 
 pub returns-in-Array : goal.returns-in-Array

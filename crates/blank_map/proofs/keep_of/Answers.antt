@@ -1,5 +1,4 @@
 -- `blank_map::keep_of` meets its contract, by the operation.
-use borrow.Author.Rules.{rules}
 use Rattle.blank_map.proofs.keep_of.Goals as goal
 
 pub returns-in-Program : goal.returns-in-Program

@@ -1,7 +1,6 @@
 -- `blank_map::keep_program` meets its contract: one page of the array, if a tick did work; rows have no bit.
 use Prim.Native.Nat.{◌/◌}
 use mathlib.Core.Path.{sym, ◌∙◌}
-use borrow.Author.Rules.{rules}
 use Rattle.paper.specs.Map.{blank_page}
 use Rattle.blank_map.proofs.Marks.{one_put, none_put}
 use Rattle.blank_map.proofs.keep_program.Goals as goal

@@ -1,5 +1,4 @@
 -- `blank_map::known_blocks` meets its contract, by the test.
-use borrow.Author.Rules.{rules}
 use Rattle.blank_map.proofs.known_blocks.Goals as goal
 
 pub returns-then-size_ok : goal.returns-then-size_ok

@@ -2,7 +2,6 @@
 use Prim.Native.Nat.{◌*◌, ◌/◌, ◌%◌, ◌+◌}
 use mathlib.Core.Path.{◌≡◌, sym, ◌∙◌}
 use native.Mathlib.Omega.{arith}
-use borrow.Author.Rules.{rules}
 use Rattle.words.proofs.BitLists.{put_out}
 use Rattle.paper.specs.Map.{blank_page}
 use Rattle.blank_map.proofs.look_again.Goals as goal

@@ -1,10 +1,9 @@
 -- `blank_map::mark_bits` meets its contract. The loop's invariant: the bits so far are put.
-use Prim.Native.Nat.{ℕ, ◌+◌, ◌-◌, ◌*◌, ◌≤◌}
+use Prim.Native.Nat.{ℕ, ◌+◌, ◌*◌}
 use mathlib.Core.Path.{◌≡◌, refl, ◌∙◌}
 use mathlib.Core.Bool.{true}
 use native.Mathlib.Numerals.{add-one}
 use native.Mathlib.Omega.{arith}
-use Rattle.words.specs.Bits.{put_bits}
 use Rattle.words.proofs.BitLists.{puts_length}
 use Rattle.blank_map.proofs.mark_bits.Goals as goal
 

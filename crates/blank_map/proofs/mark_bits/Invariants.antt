@@ -1,10 +1,7 @@
 use Prim.Native.Nat.{ℕ, ◌+◌, ◌-◌, ◌*◌, ◌≤◌}
-use mathlib.Core.Path.{◌≡◌, refl, ◌∙◌}
+use mathlib.Core.Path.{◌≡◌}
 use mathlib.Core.Bool.{true}
-use native.Mathlib.Numerals.{add-one}
-use native.Mathlib.Omega.{arith}
 use Rattle.words.specs.Bits.{put_bits}
-use Rattle.words.proofs.BitLists.{puts_length}
 use Rattle.blank_map.proofs.mark_bits.Given as goal
 
 abbrev pub invariant-loop-i : goal.invariant-loop-i

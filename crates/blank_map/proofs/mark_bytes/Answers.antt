@@ -3,7 +3,6 @@ use Prim.Native.Nat.{◌+◌, ◌-◌, ◌*◌}
 use mathlib.Core.Path.{sym}
 use mathlib.Core.Bool.{true}
 use native.Mathlib.Omega.{arith}
-use borrow.Author.Rules.{rules}
 use Rattle.words.specs.Lists.{AreBytes}
 use Rattle.blank_map.proofs.Marks.{puts_out, bytes_put}
 use Rattle.blank_map.proofs.mark_bytes.Goals as goal

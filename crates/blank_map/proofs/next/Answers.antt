@@ -2,7 +2,6 @@
 use mathlib.Core.Path.{sym, ap, ◌∙◌}
 use native.Mathlib.Omega.{arith}
 use lib.ListN.{length}
-use borrow.Author.Rules.{rules}
 use Rattle.types.specs.declared.Blank.TheVariants.{Refused}
 use Rattle.blank_map.proofs.Taken.{query_small, query_inside, queried_refused, queried_page, queried_none}
 use Rattle.blank_map.proofs.next.Goals as goal

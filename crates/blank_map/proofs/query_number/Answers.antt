@@ -1,6 +1,5 @@
 -- `blank_map::query_number` meets its contract: the tests are the definition's, by the blocks that are known.
 use native.Mathlib.Omega.{arith}
-use borrow.Author.Rules.{rules}
 use Rattle.blank_map.proofs.Taken.{few_blocks, query_as}
 use Rattle.blank_map.proofs.query_number.Goals as goal
 

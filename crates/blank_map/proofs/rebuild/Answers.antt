@@ -1,7 +1,6 @@
 -- `blank_map::rebuild` meets its contract: made, or refused.
 use mathlib.Core.Path.{sym, ◌∙◌}
 use lib.ListN.{length}
-use borrow.Author.Rules.{rules}
 use Rattle.blank_map.proofs.Taken.{rebuild_small, rebuilt_made, rebuilt_refused}
 use Rattle.blank_map.proofs.rebuild.Goals as goal
 

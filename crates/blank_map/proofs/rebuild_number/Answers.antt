@@ -1,6 +1,5 @@
 -- `blank_map::rebuild_number` meets its contract: the tests are the definition's, by the blocks that are known.
 use native.Mathlib.Omega.{arith}
-use borrow.Author.Rules.{rules}
 use Rattle.blank_map.proofs.Taken.{few_blocks, rebuild_as}
 use Rattle.blank_map.proofs.rebuild_number.Goals as goal
 

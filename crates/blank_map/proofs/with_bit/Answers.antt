@@ -1,6 +1,5 @@
 -- `blank_map::with_bit` meets its contract: the weight of the bit is added, taken away, or neither.
 use native.Mathlib.Omega.{arith}
-use borrow.Author.Rules.{rules}
 use Rattle.words.proofs.Tests.{bit_le}
 use Rattle.blank_map.proofs.Marks.{weight_is, room, holds, bit_set, bit_cleared, bit_kept}
 use Rattle.blank_map.proofs.with_bit.Goals as goal

@@ -2,7 +2,6 @@
 use Prim.Native.Nat.{◌+◌, ◌-◌}
 use mathlib.Core.Path.{sym, ◌∙◌}
 use native.Mathlib.Omega.{arith}
-use borrow.Author.Rules.{rules}
 use Rattle.blank_map.proofs.Clear.{no_group, group_lent}
 use Rattle.blank_map.proofs.zero_group.Goals as goal
 

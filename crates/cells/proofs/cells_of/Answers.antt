@@ -1,5 +1,4 @@
 -- `cells::cells_of` meets its contract: an arm for each operation, with the number of its kind.
-use borrow.Author.Rules.{rules}
 use Rattle.cells.proofs.cells_of.Goals as goal
 
 pub returns-in-Program : goal.returns-in-Program

@@ -1,5 +1,4 @@
 -- `cells::is_own` meets its contract: each range of kinds has its law.
-use borrow.Author.Rules.{rules}
 use mathlib.Core.Path.{sym, ap, ◌∙◌}
 use mathlib.Core.Bool.{Bool}
 use lib.Dec.{eqb}

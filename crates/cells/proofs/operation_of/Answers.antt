@@ -1,7 +1,6 @@
 -- `cells::operation_of` meets its contract: an arm of one kind rewrites the kind and the definition computes; in the last the kind is none of those before.
 use borrow.Author.Tests.{ne_eqb}
 use Rattle.cells.specs.Operations.{operation_of}
-use borrow.Author.Rules.{rules}
 use Rattle.cells.proofs.operation_of.Goals as goal
 
 pub returns-in-1 : goal.returns-in-1

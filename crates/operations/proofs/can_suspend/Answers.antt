@@ -1,5 +1,4 @@
 -- `operations::can_suspend` meets its contract: each arm is a clause of the definition.
-use borrow.Author.Rules.{rules}
 use Rattle.operations.proofs.can_suspend.Goals as goal
 
 pub returns-in-Program : goal.returns-in-Program

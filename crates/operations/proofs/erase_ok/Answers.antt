@@ -2,7 +2,6 @@
 use Rattle.operations.proofs.InOrder.{erase_as}
 use Rattle.paper.proofs.Pages.{unit_pages_le}
 use mathlib.Core.Path.{sym}
-use borrow.Author.Rules.{rules}
 use native.Mathlib.Omega.{arith}
 use Rattle.operations.proofs.erase_ok.Goals as goal
 

@@ -1,5 +1,4 @@
 -- `operations::held_byte` meets its contract: each arm is a clause of the definition.
-use borrow.Author.Rules.{rules}
 use Rattle.operations.proofs.held_byte.Goals as goal
 
 pub returns-in-Status : goal.returns-in-Status

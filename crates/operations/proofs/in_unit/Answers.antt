@@ -1,6 +1,5 @@
 -- `operations::in_unit` meets its contract: each arm is a clause of the definition, and a unit's size fits.
 use Rattle.paper.proofs.Pages.{unit_pages_le}
-use borrow.Author.Rules.{rules}
 use native.Mathlib.Omega.{arith}
 use Rattle.operations.proofs.in_unit.Goals as goal
 

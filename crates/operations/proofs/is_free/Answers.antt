@@ -1,5 +1,4 @@
 -- `operations::is_free` meets its contract: each arm is a clause of the definition, and the blocks asked are those that the protection question answers.
-use borrow.Author.Rules.{rules}
 use Rattle.operations.proofs.is_free.Goals as goal
 
 pub returns-in-Array : goal.returns-in-Array

@@ -1,5 +1,4 @@
 -- `operations::is_outside` meets its contract: each arm is a clause of the definition.
-use borrow.Author.Rules.{rules}
 use Rattle.operations.proofs.is_outside.Goals as goal
 
 pub returns-in-Program : goal.returns-in-Program

@@ -1,5 +1,4 @@
 -- `operations::is_unit_free` meets its contract: each arm is a clause of the definition.
-use borrow.Author.Rules.{rules}
 use Rattle.operations.proofs.is_unit_free.Goals as goal
 
 pub returns-in-Sector : goal.returns-in-Sector

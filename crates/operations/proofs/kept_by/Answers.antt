@@ -1,5 +1,4 @@
 -- `operations::kept_by` meets its contract: each arm is a clause of the definition.
-use borrow.Author.Rules.{rules}
 use Rattle.operations.proofs.kept_by.Goals as goal
 
 pub returns-in-Program : goal.returns-in-Program

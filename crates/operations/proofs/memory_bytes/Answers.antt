@@ -1,5 +1,4 @@
 -- `operations::memory_bytes` meets its contract: each arm is a clause of the definition.
-use borrow.Author.Rules.{rules}
 use Rattle.operations.proofs.memory_bytes.Goals as goal
 
 pub returns-in-Array : goal.returns-in-Array

@@ -1,5 +1,4 @@
 -- `operations::outside_of` meets its contract: each arm is a clause of the definition.
-use borrow.Author.Rules.{rules}
 use Rattle.operations.proofs.outside_of.Goals as goal
 
 pub returns-in-At : goal.returns-in-At

@@ -1,5 +1,4 @@
 -- `operations::target_free` meets its contract: each arm is a clause of the definition.
-use borrow.Author.Rules.{rules}
 use Rattle.operations.proofs.target_free.Goals as goal
 
 pub returns-in-Program : goal.returns-in-Program

@@ -1,5 +1,4 @@
 -- `operations::ticks_done` meets its contract: each arm is a clause of the definition.
-use borrow.Author.Rules.{rules}
 use Rattle.operations.proofs.ticks_done.Goals as goal
 
 pub returns-in-Program : goal.returns-in-Program

@@ -1,5 +1,5 @@
 -- `pages::erase_page` meets its contract: the page is lent on from its base, and comes back as FFh.
-use Rattle.std.proofs.Common.{◌+◌, ◌-◌, sym, arith, rules}
+use Rattle.std.proofs.Common.{◌+◌, ◌-◌, sym, arith}
 use Rattle.paper.proofs.Pages.{erased_out, erased_back}
 use Rattle.pages.proofs.erase_page.Goals as goal
 

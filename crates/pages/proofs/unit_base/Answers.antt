@@ -1,5 +1,5 @@
 -- `pages::unit_base` meets its contract, over the unit's size.
-use Rattle.std.proofs.Common.{◌≡◌, ◌*◌, mul-zero, div-mul-le_self, arith, rules}
+use Rattle.std.proofs.Common.{◌≡◌, ◌*◌, mul-zero, div-mul-le_self, arith}
 use Rattle.paper.proofs.Pages.{unit_pages_le}
 use Rattle.paper.specs.Erase.{unit_bytes}
 use Rattle.pages.proofs.unit_base.Goals as goal

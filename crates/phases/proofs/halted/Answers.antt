@@ -1,5 +1,4 @@
 -- `phases::halted` meets its contract: each arm is a clause of the definition.
-use borrow.Author.Rules.{rules}
 use Rattle.phases.proofs.halted.Goals as goal
 
 pub returns-in-Suspended : goal.returns-in-Suspended

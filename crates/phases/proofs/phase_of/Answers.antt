@@ -1,5 +1,4 @@
 -- `phases::phase_of` meets its contract: each arm is a clause of the definition.
-use borrow.Author.Rules.{rules}
 use Rattle.phases.proofs.phase_of.Goals as goal
 
 pub returns-in-At-runs : goal.returns-in-At-runs

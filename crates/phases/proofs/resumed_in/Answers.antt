@@ -1,5 +1,4 @@
 -- `phases::resumed_in` meets its contract: it puts together what is suspended and nothing, as the definition does.
-use borrow.Author.Rules.{rules}
 use Rattle.phases.proofs.resumed_in.Goals as goal
 
 pub returns : goal.returns

@@ -1,5 +1,4 @@
 -- `phases::running` meets its contract: each arm is a clause of the definition.
-use borrow.Author.Rules.{rules}
 use Rattle.phases.proofs.running.Goals as goal
 
 pub returns-in-Busy : goal.returns-in-Busy

@@ -1,5 +1,4 @@
 -- `phases::running_in` meets its contract: it puts together the work and what is suspended, as the definition does.
-use borrow.Author.Rules.{rules}
 use Rattle.phases.proofs.running_in.Goals as goal
 
 pub returns : goal.returns

@@ -1,5 +1,4 @@
 -- `phases::suspended_in` meets its contract: it puts together nothing and what runs, as the definition does.
-use borrow.Author.Rules.{rules}
 use Rattle.phases.proofs.suspended_in.Goals as goal
 
 pub returns : goal.returns

@@ -1,5 +1,4 @@
 -- `phases::working_on` meets its contract: each arm is a clause of the definition.
-use borrow.Author.Rules.{rules}
 use Rattle.phases.proofs.working_on.Goals as goal
 
 pub returns-in-Idle : goal.returns-in-Idle

@@ -1,6 +1,5 @@
 -- `protection::code_most` meets its contract: it goes by whether the part is the large one.
 use mathlib.Core.Path.{sym, ◌∙◌}
-use borrow.Author.Rules.{rules}
 use Rattle.protection.proofs.code_most.Goals as goal
 
 pub returns-then-is_large : goal.returns-then-is_large

@@ -1,5 +1,4 @@
 -- `protection::is_among` meets its contract: the two tests are those of the definition.
-use borrow.Author.Rules.{rules}
 use Rattle.paper.specs.Protection.{among}
 use Rattle.protection.proofs.is_among.Goals as goal
 

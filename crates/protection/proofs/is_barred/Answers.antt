@@ -1,5 +1,4 @@
 -- `protection::is_barred` meets its contract: it joins the three tests as the definition does.
-use borrow.Author.Rules.{rules}
 use Rattle.paper.specs.Protection.{barred}
 use Rattle.protection.proofs.is_barred.Goals as goal
 

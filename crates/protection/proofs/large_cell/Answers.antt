@@ -1,5 +1,4 @@
 -- `protection::large_cell` meets its contract: bit 4 of the code chooses the cell of its row.
-use borrow.Author.Rules.{rules}
 use borrow.Author.Tests.{le-leb, lt-leb}
 use Rattle.protection.proofs.large_cell.Goals as goal
 

@@ -1,7 +1,6 @@
 -- `protection::protected_blocks` meets its contract: it takes the cell of the code in the table of the size, and none for a number that is no code.
 use mathlib.Core.Bool.{true, false}
 use mathlib.Core.Path.{sym, ◌∙◌}
-use borrow.Author.Rules.{rules}
 use native.Mathlib.Omega.{arith}
 use Rattle.paper.proofs.Protected.{table_looked_up, table_none}
 use Rattle.protection.proofs.protected_blocks.Goals as goal

@@ -1,5 +1,4 @@
 -- `protection::question_number` meets its contract: it joins the two tests in the paper's order.
-use borrow.Author.Rules.{rules}
 use Rattle.words.proofs.Tests.{or_else_none}
 use Rattle.paper.specs.Protection.{question}
 use Rattle.protection.proofs.question_number.Goals as goal

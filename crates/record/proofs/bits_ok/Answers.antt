@@ -1,6 +1,5 @@
 -- `record::bits_ok` meets its contract: its tests on remainders are those of the bits.
 use Rattle.paper.proofs.Bits.{bits_as}
-use borrow.Author.Rules.{rules}
 use Rattle.record.proofs.bits_ok.Goals as goal
 
 pub returns : goal.returns

@@ -1,5 +1,4 @@
 -- `record::fresh_part` meets its contract: the registers are those of an idle phase.
-use borrow.Author.Rules.{rules}
 use Rattle.record.proofs.fresh_part.Goals as goal
 
 pub returns : goal.returns

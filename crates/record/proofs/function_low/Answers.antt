@@ -1,5 +1,4 @@
 -- `record::function_low` meets its contract: it goes by what is suspended, as the definition does.
-use borrow.Author.Rules.{rules}
 use Rattle.record.proofs.function_low.Goals as goal
 
 pub returns-in-NoWork : goal.returns-in-NoWork

@@ -1,7 +1,6 @@
 -- `record::large_ok` meets its contract: it goes by whether the part is the large one.
 use mathlib.Core.Path.{sym, ◌∙◌}
 use Rattle.paper.proofs.Bits.{large_as}
-use borrow.Author.Rules.{rules}
 use Rattle.record.proofs.large_ok.Goals as goal
 
 pub returns-then-is_large : goal.returns-then-is_large

@@ -1,5 +1,4 @@
 -- `record::make` meets its contract: the registers are made anew, the rest stays.
-use borrow.Author.Rules.{rules}
 use Rattle.record.proofs.make.Goals as goal
 
 pub returns : goal.returns

@@ -1,5 +1,4 @@
 -- `record::make_fresh` meets its contract: it is a fresh part, idle, with page data zero.
-use borrow.Author.Rules.{rules}
 use Rattle.record.proofs.make_fresh.Goals as goal
 
 pub returns : goal.returns

@@ -1,7 +1,6 @@
 -- `record::power_up` meets its contract: the number decides which record is made.
 use borrow.Author.Tests.{eq-eqb, ne_eqb}
 use Rattle.paper.specs.Calls.{powered_up}
-use borrow.Author.Rules.{rules}
 use Rattle.record.proofs.power_up.Goals as goal
 
 pub returns-then-number-ne0 : goal.returns-then-number-ne0

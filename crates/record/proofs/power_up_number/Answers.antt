@@ -3,7 +3,6 @@ use mathlib.Core.Path.{◌∙◌}
 use Rattle.words.proofs.Tests.{or_else_none}
 use Rattle.paper.specs.Numbers.{power_up_number}
 use Rattle.paper.proofs.Bits.{given_as}
-use borrow.Author.Rules.{rules}
 use Rattle.record.proofs.power_up_number.Goals as goal
 
 pub returns : goal.returns

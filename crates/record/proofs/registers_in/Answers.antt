@@ -1,6 +1,5 @@
 -- `record::registers_in` meets its contract: each register is its stored bits and the bits that other fields define, which do not overlap.
 use Rattle.paper.proofs.Records.{status_low_le, function_low_le}
-use borrow.Author.Rules.{rules}
 use native.Mathlib.Omega.{arith}
 use Rattle.record.proofs.registers_in.Goals as goal
 

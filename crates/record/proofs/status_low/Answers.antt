@@ -1,7 +1,6 @@
 -- `record::status_low` meets its contract: two bits at their places.
 use native.Mathlib.Omega.{arith}
 use Rattle.words.proofs.Tests.{bit_le}
-use borrow.Author.Rules.{rules}
 use Rattle.record.proofs.status_low.Goals as goal
 
 pub overflow_mul-result : goal.overflow_mul-result

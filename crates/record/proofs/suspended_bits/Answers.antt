@@ -1,5 +1,4 @@
 -- `record::suspended_bits` meets its contract: each arm is a clause of the definitions.
-use borrow.Author.Rules.{rules}
 use Rattle.record.proofs.suspended_bits.Goals as goal
 
 pub returns-in-Program : goal.returns-in-Program

@@ -1,5 +1,4 @@
 -- `record::zero_record` meets its contract: a fresh record of one block, with zeros.
-use borrow.Author.Rules.{rules}
 use Rattle.record.proofs.zero_record.Goals as goal
 
 pub returns : goal.returns

@@ -1,11 +1,9 @@
 -- `runs::copy` meets its contract. The loop's invariant: the bytes so far are the source's, and the others are as they were.
 use Prim.Native.Nat.{◌+◌, ◌-◌, ◌≤◌}
 use mathlib.Core.Path.{◌≡◌, refl, sym, ap, ◌∙◌}
-use mathlib.Core.List.{◌++◌}
 use native.Mathlib.Omega.{arith}
-use lib.ListN.{length, take, drop, length-take, length-drop}
+use lib.ListN.{length, length-take, length-drop}
 use Rattle.runs.proofs.Copied.{more_over, all_over, over_length}
-use borrow.Author.Rules.{rules}
 use Rattle.runs.proofs.copy.Goals as goal
 
 pub loop-i-init : goal.loop-i-init

@@ -1,13 +1,9 @@
 -- `runs::differ` meets its contract. The loop's invariant: the bits so far say whether one of the bytes so far differs.
-use Prim.Native.Nat.{◌-◌, ◌≤◌}
 use mathlib.Core.Path.{◌≡◌, refl}
-use mathlib.Core.Bool.{not}
 use native.Mathlib.Numerals.{add-one}
 use native.Mathlib.Omega.{arith}
-use lib.Dec.{eqb, ltb}
 use lib.ListN.{length}
-use borrow.Author.Rules.{rules}
-use Rattle.words.specs.Lists.{first_of, differ_at}
+use Rattle.words.specs.Lists.{first_of}
 use Rattle.runs.proofs.Differing.{differ_more}
 use Rattle.runs.proofs.differ.Goals as goal
 

@@ -1,12 +1,8 @@
-use Prim.Native.Nat.{ℕ, ◌+◌, ◌≤◌, ◌<◌, ◌-◌, ◌%◌}
-use mathlib.Core.Path.{◌≡◌, refl, sym, ap, ◌∙◌}
-use native.Mathlib.Nat.{mod-lt, add-zero}
-use native.Mathlib.Omega.{arith}
-use lib.ListN.{length, take, drop, length-take, length-drop}
-use borrow.Rule.Slice.PartMut.{put_mid}
-use Rattle.words.proofs.Lists.{driven_empty, driven_past, driven_laid, laid, laid_none, length_laid, round_more, begins_again}
+use Prim.Native.Nat.{◌+◌, ◌≤◌, ◌<◌, ◌-◌, ◌%◌}
+use mathlib.Core.Path.{◌≡◌}
+use lib.ListN.{length}
+use Rattle.words.proofs.Lists.{laid}
 use Rattle.words.specs.Lists.{round}
-use Rattle.runs.proofs.Copied.{run}
 use Rattle.runs.proofs.drive.Given as goal
 
 abbrev pub invariant-loop-done : goal.invariant-loop-done

@@ -3,7 +3,6 @@ use Prim.Native.Nat.{ℕ, ◌+◌, ◌-◌, ◌≤◌}
 use mathlib.Core.Path.{◌≡◌, refl, sym, ap, ◌∙◌}
 use native.Mathlib.Omega.{arith}
 use lib.ListN.{length}
-use borrow.Author.Rules.{rules}
 use Rattle.words.specs.Lists.{first_of, differ_at}
 use Rattle.runs.proofs.Differing.{same_chunks, within_le, chunk_differs, chunk_same}
 use Rattle.runs.proofs.first_difference.Goals as goal

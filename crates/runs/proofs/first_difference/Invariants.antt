@@ -1,10 +1,6 @@
-use Prim.Native.Nat.{ℕ, ◌+◌, ◌-◌, ◌≤◌}
-use mathlib.Core.Path.{◌≡◌, refl, sym, ap, ◌∙◌}
-use native.Mathlib.Omega.{arith}
-use lib.ListN.{length}
-use borrow.Author.Rules.{rules}
+use Prim.Native.Nat.{◌-◌, ◌≤◌}
+use mathlib.Core.Path.{◌≡◌}
 use Rattle.words.specs.Lists.{first_of, differ_at}
-use Rattle.runs.proofs.Differing.{same_chunks, within_le, chunk_differs, chunk_same}
 use Rattle.runs.proofs.first_difference.Given as goal
 
 abbrev pub invariant-loop-i : goal.invariant-loop-i

@@ -1,14 +1,8 @@
 -- `runs::zero_from` meets its contract. The loop's invariant: what was looked at and what is left are zero where all is.
-use Prim.Native.Nat.{◌-◌}
-use mathlib.Core.Path.{◌≡◌, sym, ◌∙◌}
+use mathlib.Core.Path.{sym, ◌∙◌}
 use native.Mathlib.Numerals.{add-one}
 use native.Mathlib.Omega.{arith}
-use lib.ListN.{length, drop}
-use lib.Dec.{eqb}
-use borrow.Author.Rules.{rules}
 use Rattle.words.proofs.Zeros.{zero_start, zero_more, zero_end}
-use Rattle.words.specs.Lists.{all_zero}
-use Rattle.words.specs.Logic.{◌and◌}
 use Rattle.runs.proofs.zero_from.Goals as goal
 
 pub loop-i-init : goal.loop-i-init

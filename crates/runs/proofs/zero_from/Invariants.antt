@@ -1,11 +1,7 @@
 use Prim.Native.Nat.{◌-◌}
-use mathlib.Core.Path.{◌≡◌, sym, ◌∙◌}
-use native.Mathlib.Numerals.{add-one}
-use native.Mathlib.Omega.{arith}
+use mathlib.Core.Path.{◌≡◌}
 use lib.ListN.{length, drop}
 use lib.Dec.{eqb}
-use borrow.Author.Rules.{rules}
-use Rattle.words.proofs.Zeros.{zero_start, zero_more, zero_end}
 use Rattle.words.specs.Lists.{all_zero}
 use Rattle.words.specs.Logic.{◌and◌}
 use Rattle.runs.proofs.zero_from.Given as goal

@@ -1,7 +1,6 @@
 -- `soundness::is_sound_idle` meets its contract: the tests that are left where the phase is idle.
 use Rattle.soundness.proofs.IdleSound.{idle_sound_as}
 use mathlib.Core.Path.{sym}
-use borrow.Author.Rules.{rules}
 use Rattle.soundness.proofs.is_sound_idle.Goals as goal
 
 pub returns : goal.returns

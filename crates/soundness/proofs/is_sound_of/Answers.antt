@@ -1,6 +1,5 @@
 -- `soundness::is_sound_of` meets its contract: part and phase are asked all, and then page data.
 use Rattle.paper.specs.Soundness.{part_sound, page_ok, sound_of}
-use borrow.Author.Rules.{rules}
 use Rattle.soundness.proofs.is_sound_of.Goals as goal
 
 pub returns : goal.returns

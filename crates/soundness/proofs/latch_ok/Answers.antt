@@ -1,5 +1,4 @@
 -- `soundness::latch_ok` meets its contract: each arm is a clause of the definition.
-use borrow.Author.Rules.{rules}
 use Rattle.soundness.proofs.latch_ok.Goals as goal
 
 pub returns-in-Suspended : goal.returns-in-Suspended

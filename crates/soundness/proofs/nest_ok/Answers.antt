@@ -1,5 +1,4 @@
 -- `soundness::nest_ok` meets its contract: each arm is a clause of the definition.
-use borrow.Author.Rules.{rules}
 use Rattle.soundness.proofs.nest_ok.Goals as goal
 
 pub returns : goal.returns

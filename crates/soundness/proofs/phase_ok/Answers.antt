@@ -1,5 +1,4 @@
 -- `soundness::phase_ok` meets its contract: each arm is a clause of the definition.
-use borrow.Author.Rules.{rules}
 use Rattle.soundness.proofs.phase_ok.Goals as goal
 
 pub returns-in-Busy : goal.returns-in-Busy

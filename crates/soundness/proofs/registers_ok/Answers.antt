@@ -1,5 +1,4 @@
 -- `soundness::registers_ok` meets its contract: the two tests that it joins are the definition's.
-use borrow.Author.Rules.{rules}
 use Rattle.soundness.proofs.registers_ok.Goals as goal
 
 pub returns : goal.returns
