@@ -3,14 +3,12 @@ use Prim.Native.Nat.{ℕ, suc, ◌-◌, ◌≤◌, ◌<◌}
 use mathlib.Core.Path.{◌≡◌, sym}
 use mathlib.Core.Bool.{false}
 use native.Mathlib.Omega.{arith}
-use borrow.Author.Rules.{rules}
 use borrow.Author.Tests.{leb-true, le-leb}
 use lib.Dec.{leb}
 use Rattle.words.proofs.Tests.{same_tests, fails}
 use Rattle.paper.specs.Sizes.{from_on}
 use Rattle.paper.proofs.ByPlace.{from_on_lem, on_from}
-use Rattle.wear_records.proofs.ends.Statement.{statement}
-use Rattle.wear_records.proofs.ends.Tie as tie
+use Rattle.wear_records.proofs.ends.Goals as goal
 
 to-come : (d t k : ℕ) → d < k → leb (k - d) t ≡ from_on (suc d) t k
 to-come d t k h =
@@ -19,14 +17,8 @@ to-come d t k h =
 over : (d t k : ℕ) → k ≤ d → from_on (suc d) t k ≡ false
 over d t k h = fails _ (λ e. omega (arith, (on_from (suc d) t k e).0))
 
-sub-result : tie.Need-overflow-sub-result
-sub-result c = search rules
+pub returns-then-done-count : goal.returns-then-done-count
+returns-then-done-count c = let a = c.args in to-come a.done a.ticks a.count c.if-done-count.true
 
-returns : tie.Need-returns
-returns c = let a = c.before.args in to-come a.done a.ticks a.count c.if1.true
-
-returns-2 : tie.Need-returns-2
-returns-2 c = let a = c.before.args in sym (over a.done a.ticks a.count c.if1.false)
-
-pub ends_spec : {M : Type 1} → statement M
-ends_spec = tie.close (tie.spec sub-result returns returns-2)
+pub returns : goal.returns
+returns c = let a = c.args in sym (over a.done a.ticks a.count c.if-done-count.false)
