@@ -1,5 +1,5 @@
 -- What is packed are the number and the step.
-use Rattle.std.proofs.Common.{◌≡◌, ◌∙◌}
+use Rattle.std.proofs.Common.{◌∙◌}
 use Rattle.yawlspar_wear.proofs.Face.{ran_answer}
 use Rattle.yawlspar_wear.proofs.yawlspar_script_wear.Goals as goal
 

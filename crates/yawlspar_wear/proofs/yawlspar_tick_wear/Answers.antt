@@ -1,6 +1,5 @@
 -- What is packed is the number, and the ticks that did work; and the records are kept with what they count.
-use Rattle.std.proofs.Common.{◌≡◌, length, ap, ◌∙◌}
-use Rattle.types.specs.declared.Tally.{Tally}
+use Rattle.std.proofs.Common.{length, ap, ◌∙◌}
 use Rattle.counted.specs.declared.Counted.{Counted}
 use Rattle.paper.specs.Wear.{worn}
 use Rattle.record_bytes.specs.Read.{record_in}

@@ -1,5 +1,5 @@
 -- What is packed are the number and the length of the text.
-use Rattle.std.proofs.Common.{◌≡◌, ◌∙◌}
+use Rattle.std.proofs.Common.{◌∙◌}
 use Rattle.yawlspar_wear.proofs.Face.{written_answer}
 use Rattle.yawlspar_wear.proofs.yawlspar_wear_text.Goals as goal
 
