@@ -1,6 +1,7 @@
 // Ticks that are lent wear records, on the record that bytes hold: as the plain call, and what they count. The records
 // themselves are not lent here: their number is judged, and the tally says what becomes of them.
 #![tactic(auto)]
+
 ghost use Rattle.std.specs.Prelude.{◌≡◌, length};
 ghost use Rattle.words.specs.Logic.{when_zero};
 ghost use Rattle.paper.specs.Wear.{no_tally, tally_of};

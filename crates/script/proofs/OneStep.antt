@@ -25,7 +25,6 @@ use Rattle.types.specs.declared.Worked.{Worked}
 use Rattle.types.specs.declared.Answer.{Answer}
 use Rattle.types.specs.declared.Ticked.{Ticked}
 use Rattle.types.specs.declared.Reached.{Reached}
-use Rattle.types.specs.declared.Wear.{Wear}
 use Rattle.words.specs.Logic.{unless, ◌or_else◌}
 use Rattle.words.proofs.Tests.{or_else_on, or_else_first}
 use Rattle.paper.specs.Sizes.{page_bytes, array_bytes, rows_bytes}

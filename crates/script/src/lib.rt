@@ -2,19 +2,20 @@
 // the first step. The steps leave it in its bytes: each reads what it needs there, and writes what it changes.
 #![tactic(auto)]
 
-ghost use Rattle.std.specs.Prelude.{◌≡◌, true, [], ◌+◌, ◌≤◌, ◌<◌, eqb, length};
+ghost use Rattle.std.specs.Prelude.{◌≡◌, true, cond, [], ◌+◌, ◌≤◌, ◌<◌, eqb, length};
 ghost use Rattle.types.specs.declared.Memory.TheVariants.{Array, Rows};
-ghost use Rattle.words.specs.Logic.{when_zero};
+ghost use Rattle.words.specs.Logic.{◌or_else◌, when_zero};
 ghost use Rattle.words.specs.Lists.{sum_to};
-ghost use Rattle.paper.specs.Numbers.{later_script_refusal};
+ghost use Rattle.paper.specs.Numbers.{wear_number, later_script_refusal};
 ghost use Rattle.paper.specs.Calls.{ticked, ticked_memory};
 ghost use Rattle.paper.specs.Board.{board_of};
 ghost use Rattle.paper.specs.Script.{stopping, step_calls, made, calls_at, after_steps};
 ghost use Rattle.paper.specs.Map.{map_after_calls, map_steps};
+ghost use Rattle.paper.specs.Wear.{wear_steps};
 ghost use Rattle.record_bytes.specs.Layout.{change_written};
-ghost use Rattle.record_bytes.specs.Read.{held, record_in};
-ghost use Rattle.script.specs.Steps.{OnlyRuns, Ready, worked_of, made_of, Marks, Wears, world, turned, Fit};
-ghost use Rattle.script.specs.InBytes.{script_of, judged, held_script, ran_of, script_bytes, held_map};
+ghost use Rattle.record_bytes.specs.Read.{held, record_in, identity_in};
+ghost use Rattle.script.specs.Steps.{OnlyRuns, Ready, worked_of, made_of, Marks, Wears, world, turned, Fit, counted, uncounted, turned_on, Counts, Going, Begins, bytes_after};
+ghost use Rattle.script.specs.InBytes.{script_of, judged, held_script, ran_of, script_bytes, held_map, held_wear_scripted, held_wear_number, begun_of};
 
 use record_bytes::places;
 use types::{Change, Identity, Reached, Tally, Wear, Work, Worked};
@@ -75,6 +76,9 @@ struct Begun {
     high: bool,
     steps: usize,
 }
+
+// A block has 16 sectors.
+const SECTORS: usize = 16;
 
 // The number of a call that stops a script, 1 to 6; 0 for any other.
 fn stopping(number: u8) -> u8
@@ -441,5 +445,228 @@ pub fn run(
     Ran {
         number: end.number,
         step: end.step,
+    }
+}
+
+// What steps carry, with nothing counted.
+fn uncounted(number: u8, step: usize, at: usize) -> Counting
+    ensures { result ≡ uncounted number step at }
+{
+    let none = Tally {
+        first: 0,
+        erases: 0,
+        programmed: false,
+        at: 0,
+    };
+    Counting {
+        number: number,
+        step: step,
+        at: at,
+        tally: none,
+    }
+}
+
+// Turn k of a script that counts wear: its step, and what the step's ticks count. After the stop it does nothing, and counts
+// nothing.
+fn turn_wear<'a, 'b>(
+    state: Counting,
+    identity: Identity,
+    bytes: &'a mut [u8],
+    array: &'a mut [u8],
+    rows: &'a mut [u8],
+    wp: bool,
+    input: &'b [u8],
+    lengths: &'b [u16],
+    ticks: &'b [u16],
+    output: &'a mut [u8],
+    answers: &'a mut [u8],
+    done: &'a mut [u16],
+    k: usize,
+) -> Counting
+    requires fit { Fit (record { wp = wp; input = input.now; lengths = lengths.now; ticks = ticks.now }) (length output.old) (length answers.old) (length done.old) }
+    requires k_in_bounds { k < length lengths.now }
+    requires going_2 { Going identity (record { wp = wp; input = input.now; lengths = lengths.now; ticks = ticks.now }) k state bytes.old (length array.old) (length rows.old) }
+    ensures stepped { counted result bytes.new array.new rows.new output.new answers.new done.new ≡ turned_on (record { wp = wp; input = input.now; lengths = lengths.now; ticks = ticks.now }) k (counted state bytes.old array.old rows.old output.old answers.old done.old) }
+    ensures going { Going identity (record { wp = wp; input = input.now; lengths = lengths.now; ticks = ticks.now }) (k + 1) result bytes.new (length array.old) (length rows.old) }
+    ensures counts { Counts result.tally (record { wp = wp; input = input.now; lengths = lengths.now; ticks = ticks.now }) k (counted state bytes.old array.old rows.old output.old answers.old done.old) }
+{
+    let stopped = state.number;
+    if stopped != 0 {
+        return uncounted(stopped, state.step, state.at);
+    }
+    let from = State {
+        number: state.number,
+        step: state.step,
+        at: state.at,
+    };
+    let turned = turn_told(
+        from, identity, bytes, array, rows, wp, input, lengths, ticks, output, answers, done, k,
+    );
+    let reached = turned.reached;
+    let tally = wear_records::tally(reached);
+    let next = turned.state;
+    Counting {
+        number: next.number,
+        step: next.step,
+        at: next.at,
+        tally: tally,
+    }
+}
+
+// 35 where there is not one wear record for each sector; else 0.
+fn wear_number(blocks: u16, records: usize) -> u8
+    ensures { result ≡ wear_number blocks records }
+{
+    let same = records == (blocks as usize) * SECTORS;
+    words::number_or(same, 35, 0)
+}
+
+// The first of two numbers that is not 0.
+fn first_of(a: u8, b: u8) -> u8
+    ensures { result ≡ (a or_else b) }
+{
+    if a == 0 { b } else { a }
+}
+
+// The number where the bytes hold a record, or where they hold none.
+fn number_where(ok: bool, holding: u8, none: u8) -> u8
+    ensures { result ≡ cond ok holding none }
+{
+    if ok { holding } else { none }
+}
+
+// So many steps are made, or none of a script that is refused.
+fn steps_where(number: u8, count: usize) -> usize
+    ensures { result ≡ when_zero number count 0 }
+{
+    if number == 0 { count } else { 0 }
+}
+
+// How a script that is lent so many wear records begins, on the record that bytes hold. Where they hold none, 1 and 35 are not
+// judged: there is no size.
+fn begin(
+    bytes: &[u8],
+    array: usize,
+    rows: usize,
+    wp: u64,
+    lengths: &[u16],
+    ticks: usize,
+    answers: usize,
+    done: usize,
+    input: usize,
+    output: usize,
+    wear: usize,
+) -> Begun
+    ensures { result ≡ begun_of (held_wear_number (record_in bytes.now) wp array rows wear lengths.now ticks answers done input output) (identity_in bytes.now) wp (length lengths.now) }
+{
+    let judged = judge(
+        bytes, rows, wp, lengths, ticks, answers, done, input, output,
+    );
+    let blocks = judged.blocks;
+    let later = judged.later;
+    let n1 = refusals::size_number_or(blocks, array, 0);
+    let n35 = wear_number(blocks, wear);
+    let number = number_where(judged.ok, first_of(n1, first_of(n35, later)), later);
+    let high = wp == 1;
+    Begun {
+        start: uncounted(number, 0, 0),
+        identity: record_bytes::reading::identity_in(bytes),
+        high: high,
+        steps: steps_where(number, lengths.len()),
+    }
+}
+
+// So many turns, and the wear records kept after each. With none it asks nothing.
+fn steps_wear<'b>(
+    start: Counting,
+    identity: Identity,
+    bytes: &mut [u8],
+    array: &mut [u8],
+    rows: &mut [u8],
+    wp: bool,
+    input: &'b [u8],
+    lengths: &'b [u16],
+    ticks: &'b [u16],
+    output: &mut [u8],
+    answers: &mut [u8],
+    done: &mut [u16],
+    count: usize,
+    wear: &mut [Wear],
+) -> Counting
+    requires { 0 < count → Begins identity (record { wp = wp; input = input.now; lengths = lengths.now; ticks = ticks.now }) count start bytes.old (length array.old) (length rows.old) (length output.old) (length answers.old) (length done.old) }
+    ensures made { counted result bytes.new array.new rows.new output.new answers.new done.new ≡ after_steps (record { wp = wp; input = input.now; lengths = lengths.now; ticks = ticks.now }) count (counted start bytes.old array.old rows.old output.old answers.old done.old) }
+    ensures bytes { bytes.new ≡ bytes_after count bytes.old (after_steps (record { wp = wp; input = input.now; lengths = lengths.now; ticks = ticks.now }) count (counted start bytes.old array.old rows.old output.old answers.old done.old)) }
+    ensures wear { wear.new ≡ wear_steps (record { wp = wp; input = input.now; lengths = lengths.now; ticks = ticks.now }) count (counted start bytes.old array.old rows.old output.old answers.old done.old) wear.old }
+{
+    let mut state = start;
+    let mut k = 0;
+    while k < count {
+        state = turn_wear(
+            state, identity, bytes, array, rows, wp, input, lengths, ticks, output, answers, done,
+            k,
+        );
+        wear_records::keep(wear, state.tally);
+        k += 1;
+    }
+    state
+}
+
+// A script on the record that bytes hold, as `run` makes it, and what its ticks count is kept in wear records, one for each
+// sector. Refused, with 1, 35, 2, 7, 4 or 5, every buffer is as it was. Where the bytes hold no record, 1 and 35 are not
+// judged: there is no size.
+pub fn run_wear<'b>(
+    bytes: &mut [u8],
+    array: &mut [u8],
+    rows: &mut [u8],
+    wp: u64,
+    input: &'b [u8],
+    lengths: &'b [u16],
+    ticks: &'b [u16],
+    output: &mut [u8],
+    answers: &mut [u8],
+    done: &mut [u16],
+    wear: &mut [Wear],
+) -> Ran
+    ensures answer { result ≡ ran_of (held_wear_scripted (record_in bytes.old) wp (script_of wp input.now lengths.now ticks.now) array.old rows.old output.old answers.old done.old wear.old).run }
+    ensures bytes { bytes.new ≡ script_bytes (record_in bytes.old) (held_wear_scripted (record_in bytes.old) wp (script_of wp input.now lengths.now ticks.now) array.old rows.old output.old answers.old done.old wear.old).run bytes.old }
+    ensures array { array.new ≡ (held_wear_scripted (record_in bytes.old) wp (script_of wp input.now lengths.now ticks.now) array.old rows.old output.old answers.old done.old wear.old).run.board.array }
+    ensures rows { rows.new ≡ (held_wear_scripted (record_in bytes.old) wp (script_of wp input.now lengths.now ticks.now) array.old rows.old output.old answers.old done.old wear.old).run.board.rows }
+    ensures output { output.new ≡ (held_wear_scripted (record_in bytes.old) wp (script_of wp input.now lengths.now ticks.now) array.old rows.old output.old answers.old done.old wear.old).run.output }
+    ensures answers { answers.new ≡ (held_wear_scripted (record_in bytes.old) wp (script_of wp input.now lengths.now ticks.now) array.old rows.old output.old answers.old done.old wear.old).run.answers }
+    ensures done { done.new ≡ (held_wear_scripted (record_in bytes.old) wp (script_of wp input.now lengths.now ticks.now) array.old rows.old output.old answers.old done.old wear.old).run.done }
+    ensures wear { wear.new ≡ (held_wear_scripted (record_in bytes.old) wp (script_of wp input.now lengths.now ticks.now) array.old rows.old output.old answers.old done.old wear.old).wear }
+{
+    let begun = begin(
+        bytes,
+        array.len(),
+        rows.len(),
+        wp,
+        lengths,
+        ticks.len(),
+        answers.len(),
+        done.len(),
+        input.len(),
+        output.len(),
+        wear.len(),
+    );
+    let last = steps_wear(
+        begun.start,
+        begun.identity,
+        bytes,
+        array,
+        rows,
+        begun.high,
+        input,
+        lengths,
+        ticks,
+        output,
+        answers,
+        done,
+        begun.steps,
+        wear,
+    );
+    Ran {
+        number: last.number,
+        step: last.step,
     }
 }

@@ -1,22 +1,19 @@
 -- The laws of wear: each is one of the definitions', or follows from what calls count of each sector.
-use Prim.Native.Nat.{ℕ, suc, ◌+◌, ◌%◌, ◌/◌, ◌≤◌, ◌<◌, min}
+use Prim.Native.Nat.{ℕ, suc, ◌%◌, ◌≤◌, ◌<◌}
 use mathlib.Core.Path.{◌≡◌, refl, sym, ap, ◌∙◌}
-use mathlib.Core.Bool.{Bool, true, false, cond}
+use mathlib.Core.Bool.{Bool, true, false}
 use mathlib.Core.List.{List}
 use native.Mathlib.Omega.{arith}
-use lib.Dec.{eqb, ltb}
-use lib.ListN.{length, get_or, replicate, length-replicate, get_or-replicate, get_or-eq_default}
+use lib.Dec.{ltb}
+use lib.ListN.{length, get_or, length-replicate, get_or-replicate, get_or-eq_default}
 use lib.Seq.{ext_get_or}
 use borrow.Author.Tests.{eq-eqb, ne_eqb, ltb-true, ltb-false}
-use Rattle.types.specs.declared.Memory.TheVariants.{Array, Rows}
-use Rattle.types.specs.declared.EraseUnit.{EraseUnit}
 use Rattle.types.specs.declared.Wear.{Wear}
 use Rattle.words.specs.Logic.{◌and◌}
-use Rattle.paper.specs.Sizes.{same_memory, array_sectors, sector_bytes, sector_pages}
-use Rattle.paper.specs.Erase.{memory_of}
+use Rattle.paper.specs.Sizes.{array_sectors, sector_pages}
 use Rattle.paper.specs.History.{Call}
 use Rattle.paper.specs.Board.{Board, Own}
-use Rattle.paper.specs.Wear.{unworn, full_count, Count, no_count, erase, program, history_counts, erases_of, programs_of, wear_after_calls}
+use Rattle.paper.specs.Wear.{unworn, full_count, Count, history_counts, erases_of, programs_of, wear_after_calls}
 use Rattle.paper.proofs.Soundness.{sound_parts}
 use Rattle.paper.proofs.Wear.{erasing, programming, erases_count, programs_count, calls_length, calls_field}
 use Rattle.wear_text.specs.TextLaws.{AreCounts, erases_in, programs_in, sum_of}

@@ -1,5 +1,5 @@
 -- Request 7: wear. What each tick counts, what calls make of the records, whatever they were, and that while no count is full they are the history's since they were zeroed.
-use Rattle.std.specs.Prelude.{ℕ, suc, ◌+◌, ◌-◌, ◌/◌, ◌%◌, ◌≤◌, ◌<◌, min, ◌≡◌, Bool, true, false, List, length, get_or, replicate}
+use Rattle.std.specs.Prelude.{ℕ, suc, ◌+◌, ◌/◌, ◌%◌, ◌<◌, min, ◌≡◌, Bool, true, false, List, length, get_or, replicate}
 use Rattle.types.specs.declared.EraseUnit.{EraseUnit}
 use Rattle.types.specs.declared.Memory.TheVariants.{Array, Rows}
 use Rattle.types.specs.declared.Operation.TheVariants.{Program, Erase, Write}

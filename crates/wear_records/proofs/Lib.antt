@@ -1,3 +1,2 @@
-pub mod ByHand
 pub mod Laws
 pub mod Tight

@@ -2,7 +2,7 @@
 use Rattle.words.proofs.Allowed.{OneResult, OneExit, agree}
 use Rattle.wear_records.proofs.nothing.Reads as nothing
 use Rattle.wear_records.proofs.tally.Reads as tally
-use Rattle.wear_records.proofs.ByHand.keep as keep
+use Rattle.wear_records.proofs.keep.Reads as keep
 
 pub nothing_one : OneResult nothing.Learnt
 nothing_one κ a x y s t p q = agree p q

@@ -1,6 +1,7 @@
 // Wear records that the caller lends, one for each sector: what ticks count, the thin functions that change one field of one
 // record, and what a tally makes of the records.
 #![tactic(auto)]
+
 ghost use Rattle.std.specs.Prelude.{◌≡◌, true, cond, suc, ◌+◌, ◌-◌, ◌/◌, ◌≤◌, ◌<◌, length};
 ghost use Rattle.types.specs.declared.Memory.TheVariants.{Array};
 ghost use Rattle.paper.specs.Sizes.{same_memory, from_on, sector_pages};

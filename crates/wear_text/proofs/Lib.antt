@@ -1,4 +1,3 @@
 pub mod Pages
 pub mod TextLaws
-pub mod ByHand
 pub mod Tight

@@ -1,5 +1,6 @@
 // The text of wear records: a line for each sector, then the largest and the total of each count.
 #![tactic(auto)]
+
 ghost use Rattle.std.specs.Prelude.{◌≡◌, ◌≤◌, length};
 ghost use Rattle.paper.specs.Numbers.{wear_text_number};
 ghost use Rattle.paper.specs.WearText.{larger, wear_written};

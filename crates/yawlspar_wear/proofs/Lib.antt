@@ -1,3 +1,2 @@
-pub mod ByHand
 pub mod Face
 pub mod Tight

@@ -1,8 +1,8 @@
 -- Two results that a contract of this crate allows are equal: the answer, the wear records, the record's bytes and each other lent byte.
 use Rattle.words.proofs.Allowed.{OneResult, OneExit, agree}
-use Rattle.yawlspar_wear.proofs.ByHand.yawlspar_tick_wear as yawlspar-tick-wear
-use Rattle.yawlspar_wear.proofs.ByHand.yawlspar_script_wear as yawlspar-script-wear
-use Rattle.yawlspar_wear.proofs.ByHand.yawlspar_wear_text as yawlspar-wear-text
+use Rattle.yawlspar_wear.proofs.yawlspar_tick_wear.Reads as yawlspar-tick-wear
+use Rattle.yawlspar_wear.proofs.yawlspar_script_wear.Reads as yawlspar-script-wear
+use Rattle.yawlspar_wear.proofs.yawlspar_wear_text.Reads as yawlspar-wear-text
 
 pub tick_one : OneResult yawlspar-tick-wear.Learnt
 tick_one κ a x y s t p q = agree p.0 q.0

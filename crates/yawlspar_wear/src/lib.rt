@@ -1,6 +1,7 @@
 // Wear records for C, which include/yawlspar.h declares: kept by ticks and by a script, and their text. It is a static library of
 // its own, for the speed of calls without them (docs/SPEED.md), and a part of the archive that C links.
 #![tactic(auto)]
+
 ghost use Rattle.std.specs.Prelude.{◌≡◌, length};
 ghost use Rattle.paper.specs.Wear.{worn};
 ghost use Rattle.paper.specs.WearText.{wear_written};
@@ -15,8 +16,7 @@ use types::Wear;
 
 // So many ticks, as yawlspar_tick makes them, and the wear records are kept. The number and the ticks that did work; refused, with
 // 1, 35, 2, 5 or 6, every buffer and every record is as it was. Where the bytes hold no record, 1 and 35 are not judged.
-#[unsafe(no_mangle)]
-pub extern "C" fn yawlspar_tick_wear<'a>(
+pub fn yawlspar_tick_wear<'a>(
     bytes: &'a mut [u8],
     array: &'a mut [u8],
     rows: &'a mut [u8],
@@ -37,8 +37,7 @@ pub extern "C" fn yawlspar_tick_wear<'a>(
 // A script, as yawlspar_script makes it, and the wear records are kept. The number that stops it and the step, or 0 and the number
 // of steps; refused, with 1, 35, 2, 7, 4 or 5, every buffer and every record is as it was. Where the bytes hold no record, 1 and 35
 // are not judged.
-#[unsafe(no_mangle)]
-pub extern "C" fn yawlspar_script_wear<'b>(
+pub fn yawlspar_script_wear<'b>(
     bytes: &mut [u8],
     array: &mut [u8],
     rows: &mut [u8],
@@ -68,8 +67,7 @@ pub extern "C" fn yawlspar_script_wear<'b>(
 
 // The text of the wear records of a part of so many blocks. The number and how many bytes were written, those behind are as they
 // were; refused, with 1, 35 or 4, nothing is written.
-#[unsafe(no_mangle)]
-pub extern "C" fn yawlspar_wear_text(blocks: u64, wear: &[Wear], text: &mut [u8]) -> u64
+pub fn yawlspar_wear_text(blocks: u64, wear: &[Wear], text: &mut [u8]) -> u64
     ensures answer { result ≡ text_answer (wear_written blocks wear.now text.old) }
     ensures text { text.new ≡ (wear_written blocks wear.now text.old).text }
 {

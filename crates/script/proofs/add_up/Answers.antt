@@ -1,10 +1,5 @@
 -- `script::add_up` meets its contract: what is left and the sum so far make the total.
-use mathlib.Core.Path.{◌≡◌}
-use Prim.Native.Nat.{◌+◌, ◌-◌, ◌≤◌}
-use lib.ListN.{length}
-use Rattle.words.specs.Lists.{sum_to}
 use Rattle.script.proofs.Sums.{too_much, one_less, all_taken}
-use borrow.Author.Rules.{rules}
 use native.Mathlib.Omega.{arith}
 use Rattle.script.proofs.add_up.Goals as goal
 

@@ -2,9 +2,6 @@ use mathlib.Core.Path.{◌≡◌}
 use Prim.Native.Nat.{◌+◌, ◌-◌, ◌≤◌}
 use lib.ListN.{length}
 use Rattle.words.specs.Lists.{sum_to}
-use Rattle.script.proofs.Sums.{too_much, one_less, all_taken}
-use borrow.Author.Rules.{rules}
-use native.Mathlib.Omega.{arith}
 use Rattle.script.proofs.add_up.Given as goal
 
 abbrev pub invariant-loop-k : goal.invariant-loop-k

@@ -1,5 +1,4 @@
 -- `script::judge` meets its contract: it tells what was found, and 2, 7, 4 and 5 of a record that is sound and a level that is one.
-use borrow.Author.Rules.{rules}
 use Rattle.script.proofs.judge.Goals as goal
 
 pub returns : goal.returns

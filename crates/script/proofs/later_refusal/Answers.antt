@@ -2,7 +2,6 @@
 use mathlib.Core.Path.{◌∙◌}
 use Rattle.words.proofs.Tests.{or_else_none}
 use Rattle.paper.specs.Numbers.{lists_number, output_number, sound_number, later_script_refusal}
-use borrow.Author.Rules.{rules}
 use Rattle.script.proofs.later_refusal.Goals as goal
 
 pub returns : goal.returns

@@ -5,7 +5,6 @@ use Rattle.record_bytes.proofs.Back.{held_identity}
 use Rattle.script.specs.declared.Judged.{Judged}
 use Rattle.script.specs.InBytes.{script_of}
 use Rattle.script.proofs.InBytes.{gives, unheld_given, unheld_left, unheld_map, refused_given, refused_left, refused_map, begins_fit, begins_ready, ran_given, ran_left, ran_map_lem}
-use borrow.Author.Rules.{rules}
 use Rattle.script.proofs.run.Goals as goal
 
 pub returns-then-not-judged : goal.returns-then-not-judged

@@ -1,7 +1,6 @@
 -- `script::step` meets its contract: a transaction that stops the script ends it, none run where none are asked, and else the ticks are run.
 use mathlib.Core.Path.{sym, ◌∙◌}
 use Rattle.script.proofs.OneStep.{sent_ready, sent_identity, stopped_made, stopped_marks, stopped_wears, ran_made, ran_marks, ran_wears, ran_ready, ran_identity, ran_done, none_made, none_marks, none_wears}
-use borrow.Author.Rules.{rules}
 use native.Mathlib.Omega.{arith}
 use Rattle.script.proofs.step.Goals as goal
 

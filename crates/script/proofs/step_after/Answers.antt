@@ -1,6 +1,5 @@
 -- `script::step_after` meets its contract: the test is the definition's.
 use borrow.Author.Tests.{eq-eqb, ne_eqb}
-use borrow.Author.Rules.{rules}
 use Rattle.script.proofs.step_after.Goals as goal
 
 pub returns-then-number-eq0 : goal.returns-then-number-eq0

@@ -1,11 +1,8 @@
 -- `script::steps` meets its contract: after k turns k steps are made, and a script that has stopped makes no more.
 use mathlib.Core.Path.{refl, sym, ap, ◌∙◌}
-use Prim.Native.Nat.{◌-◌}
-use lib.ListN.{length}
 use Rattle.paper.specs.Map.{MapScripted}
 use Rattle.record_bytes.proofs.Back.{held_length}
-use Rattle.script.specs.Steps.{world}
-use Rattle.script.proofs.OneByOne.{Along, fit_along, all_made, stopped_at, one_more}
+use Rattle.script.proofs.OneByOne.{fit_along, all_made, stopped_at, one_more}
 use native.Mathlib.Omega.{arith}
 use Rattle.script.proofs.steps.Goals as goal
 

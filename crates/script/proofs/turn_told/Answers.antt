@@ -10,7 +10,6 @@ use Rattle.paper.specs.Map.{map_after_calls}
 use Rattle.paper.specs.Wear.{wear_after_calls}
 use Rattle.script.specs.Steps.{world}
 use Rattle.script.proofs.OneByOne.{end_within, turn_is, calls_are}
-use borrow.Author.Rules.{rules}
 use native.Mathlib.Omega.{arith}
 use Rattle.script.proofs.turn_told.Goals as goal
 

@@ -2,7 +2,6 @@
 use Rattle.record_bytes.proofs.Back.{held_length}
 use Rattle.types.specs.declared.Memory.TheVariants.{Array, Rows}
 use Rattle.script.proofs.OneStep.{only_runs, waits_told, waits_held, waits_memory}
-use borrow.Author.Rules.{rules}
 use native.Mathlib.Omega.{arith}
 use Rattle.script.proofs.wait.Goals as goal
 

@@ -1,6 +1,5 @@
 -- `script::write_ran` meets its contract: the same leaves the bytes, what runs is written, and ticks change nothing else.
 use Rattle.script.proofs.OneStep.{same_written}
-use borrow.Author.Rules.{rules}
 use Rattle.script.proofs.write_ran.Goals as goal
 
 pub returns-in-Same : goal.returns-in-Same
