@@ -123,7 +123,8 @@ END {
     }
     if (mode == "--logs") for (i = 1; i <= want_count; i++) {
         split(wants[i], want, "\t")
-        if (!((want[1] "\t" want[2] "\t" want[3] "\t" want[5]) in refused)) wrong(edit_file(want[1], want[2]) ": " want[4] " is not refused at " want[3] " itself, by " (want[5] == "" ? "a fact of its own" : "its `" want[5] "`") " (target/must-fail/" want[1] "/" want[2] "/.log)")
+        if (only !~ /^ *$/ && !index(only, " " want[1] " ")) continue
+        if (!((want[1] "\t" want[2] "\t" want[3] "\t" want[5]) in refused)) wrong(edit_file(want[1], want[2]) ": " want[4] " is not refused at " want[3] " itself, by " (want[5] == "" ? "a fact of its own" : "its `" want[5] "`") " (target/tightness/" want[1] "/" want[2] ".log)")
     }
     make_list()
     if (!list_start || list_end < list_start) wrong(page ": it lacks the lines '" start "' and '" end "'")
@@ -134,7 +135,7 @@ END {
         if (!same) wrong(page ": its list is not that of the crates (`scripts/tightness --write` writes it)")
     }
     if (bad) exit 1
-    printf "tightness: %d public functions with %d theorems, %d wrong answers in %d groups%s\n", public_count, theorem_count, answer_count, group_count, mode == "--logs" ? ", each refused at its own function" : ""
+    printf "tightness: %d public functions with %d theorems, %d wrong answers in %d groups%s\n", public_count, theorem_count, answer_count, group_count, mode != "--logs" ? "" : only ~ /^ *$/ ? ", each refused at its own function" : ", those of" only "refused at their own functions"
 }
 # a section for each crate that has functions or wrong answers, in the order of crates.txt
 function make_list(    c, i, k, key, rows, count, part) {
