@@ -77,7 +77,15 @@ stage == "answers" {
     if ($4 ~ /^law /) { if (!(key in law)) laws[$1] = laws[$1] (laws[$1] == "" ? "" : "\t") key; law[key] = substr($4, 5) }
     next
 }
-stage == "refused" { refused[$1 "\t" $2 "\t" $3 "\t"] = refused[$1 "\t" $2 "\t" $3 "\t" $4] = 1; next }
+stage == "refused" {
+    key = $1 "\t" $2 "\t" $3
+    if ($4 == "?") { unfit[key] = 1; next }
+    refused[key "\t"] = 1
+    if ((key "\t" $4) in refused || $4 == "") next
+    refused[key "\t" $4] = 1
+    refused_facts[key] = refused_facts[key] (refused_facts[key] == "" ? "" : ", ") "`" $4 "`"
+    next
+}
 
 stage == "page" {
     page_line[++page_count] = $0
@@ -124,7 +132,11 @@ END {
     if (mode == "--logs") for (i = 1; i <= want_count; i++) {
         split(wants[i], want, "\t")
         if (only !~ /^ *$/ && !index(only, " " want[1] " ")) continue
-        if (!((want[1] "\t" want[2] "\t" want[3] "\t" want[5]) in refused)) wrong(edit_file(want[1], want[2]) ": " want[4] " is not refused at " want[3] " itself, by " (want[5] == "" ? "a fact of its own" : "its `" want[5] "`") " (target/tightness/" want[1] "/" want[2] ".log)")
+        key = want[1] "\t" want[2] "\t" want[3]
+        if ((key "\t" want[5]) in refused) continue
+        wrong(edit_file(want[1], want[2]) ": " want[4] " is not refused at " want[3] " itself, by " (want[5] == "" ? "a fact of its own" : "its `" want[5] "`") \
+            (refused_facts[key] != "" ? ", but by " refused_facts[key] : "") (key in unfit ? "; there the proof is unfit for the code" : "") \
+            " (target/tightness/" want[1] "/" want[2] ".log)")
     }
     make_list()
     if (!list_start || list_end < list_start) wrong(page ": it lacks the lines '" start "' and '" end "'")
