@@ -13,8 +13,10 @@
 #   static_crates                print the names of the static libraries that C links, which are those of crates.txt that end
 #                                in _c
 #   has_crate CRATE              whether crates.txt lists it
+#   has_wear                     whether the archive has the calls with wear, which are those of yawlspar_wear_c
 #   make_archive NAME            the archive that C links, `$archive`, of these sources: rt compiles the static libraries anew
-#                                each time that it makes one, so none is made where nothing has changed
+#                                each time that it makes one, so none is made where nothing has changed. `linked` is then the
+#                                archive, and what stands for the calls that it lacks: what c-program links tests to
 #
 # NAME is that of the script, for what it says. The lock is one on the file .lock, which stays; what a script calls has
 # it too.
@@ -69,6 +71,7 @@ end_group() { # SIGNAL
 # Prints the lines of crates.txt without their comments: a name, `staticlib` and the like, a colon, and what it uses.
 listed() { sed 's/#.*//' crates.txt; }
 static_crates() { listed | sed -nE 's/^[[:blank:]]*([a-z0-9_]+_c)[[:blank:]]([^:]*[[:blank:]])?staticlib([[:blank:]][^:]*)?:.*/\1/p'; }
+has_wear() { [[ $'\n'$(static_crates)$'\n' == *$'\nyawlspar_wear_c\n'* ]]; }
 has_crate() { listed | grep -qE "^[[:blank:]]*$1([[:blank:]][^:]*)?:"; }
 
 prove() { # NAME COMMAND CRATE..
@@ -128,6 +131,8 @@ archive=target/archive/libyawlspar.a
 make_archive() { # NAME
     local sum=target/archive/sum kit toolchain crate crates=() files=()
     take_lock "$1"
+    linked=("$archive")
+    has_wear || linked=(-DNO_WEAR tests/c/no_wear.c "$archive")
     if [ -f "$archive" ] && [ -f "$sum" ] && [ "$(archive_sum)" = "$(cat "$sum")" ]; then return; fi
     for crate in $(static_crates); do
         crates+=("$crate")
