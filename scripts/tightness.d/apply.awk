@@ -1,9 +1,11 @@
-# Applies an edit of `rt must-fail` to a crate, as rt does: `awk -v crate=FOLDER -f apply.awk EDIT`. Each `old: TEXT` stands once
-# in the file of the `file:` before it, as the pairs before it have left that, and becomes the TEXT of the `new:` after it.
-# Where one does not, it says so and ends with 1, and the crate is then half edited.
+# Applies an edit of `rt must-fail` to a crate, as rt does: `awk -v crate=FOLDER -v alone=NAME -f apply.awk EDIT`, of which only
+# the pairs of the wrong answer NAME where one is given. Each `old: TEXT` stands once in the file of the `file:` before it, as
+# the pairs before it have left that, and becomes the TEXT of the `new:` after it. Where one does not, it says so and ends with
+# 1, and the crate is then half edited.
 /^file: / { path = crate "/" substr($0, 7) }
 /^old: / { old = substr($0, 6) }
-/^new:/ { replace(substr($0, 5, 1) == " " ? substr($0, 6) : substr($0, 5)) }
+/^wrong: / { is_left_out = alone != "" && substr($0, 8) != alone }
+/^new:/ && !is_left_out { replace(substr($0, 5, 1) == " " ? substr($0, 6) : substr($0, 5)) }
 END { if (failed) exit 1 }
 
 function replace(new,    text, line, at, rest) {
