@@ -131,6 +131,7 @@ archive=target/archive/libyawlspar.a
 make_archive() { # NAME
     local sum=target/archive/sum kit toolchain crate crates=() files=()
     take_lock "$1"
+    # shellcheck disable=SC2034 # it is for those that source this
     linked=("$archive")
     has_wear || linked=(-DNO_WEAR tests/c/no_wear.c "$archive")
     if [ -f "$archive" ] && [ -f "$sum" ] && [ "$(archive_sum)" = "$(cat "$sum")" ]; then return; fi
