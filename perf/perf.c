@@ -853,6 +853,17 @@ static const struct job jobs[] = {
     {"06h, C7h, 131,072 ticks, 512 blocks", 512, 33554432, NULL, chip_job, chip_bytes},
 };
 
+/* Whether the archive has the calls of the job. NO_WEAR is defined where it has none with wear. */
+static bool is_there(const struct job *job)
+{
+#ifdef NO_WEAR
+    return job->first != begin_no_wear && job->first != begin_any_wear;
+#else
+    (void)job;
+    return true;
+#endif
+}
+
 static void begin(const struct job *job)
 {
     set_up(job->blocks);
@@ -964,7 +975,8 @@ static void print_table(void)
     printf("%-36s %11s %11s %9s %9s %9s %9s %9s\n", "job", "model", "reference", "model", "reference", "bytes",
            "reference", "bytes");
     for (i = 0; i < COUNT(jobs); i++)
-        print_job(&jobs[i]);
+        if (is_there(&jobs[i]))
+            print_job(&jobs[i]);
 }
 
 static void print_list(void)
@@ -972,8 +984,9 @@ static void print_list(void)
     size_t i;
 
     for (i = 0; i < COUNT(jobs); i++)
-        printf("%zu %s %s\n", i, jobs[i].bytes_alone == NULL ? "model,reference" : "model,reference,bytes",
-               jobs[i].name);
+        if (is_there(&jobs[i]))
+            printf("%zu %s %s\n", i, jobs[i].bytes_alone == NULL ? "model,reference" : "model,reference,bytes",
+                   jobs[i].name);
 }
 
 /* ---- Arguments ---- */

@@ -15,9 +15,9 @@ run_program() { # NAME [ARG..]
     cd -- "$(dirname -- "${BASH_SOURCE[0]}")/.." || exit
     . scripts/prover.sh
 
-    # The program is opened while the lock is held: what others do to target/ after that is nothing to it
-    prove "$name" check "$name"
-    exec 4<"target/bin/$name"
+    # The program is opened while the lock is held: what others do to out/ after that is nothing to it
+    prove "$name" run "$name"
+    exec 4<"crates/$name/out/$name"
     drop_lock
 
     temp=$(mktemp -d)

@@ -3,7 +3,8 @@
 #   file: src/lib.rt          holds for the pairs after it
 #   wrong: NAME               a wrong answer
 #   in: FUNCTION              whose body it changes; or `law FILE.NAME`, which refuses a wrong definition
-#   at: FACT                  the fact of its contract that fails; where the group has several in one function
+#   at: FACT                  the fact of its contract that fails, as the prover names it: `returns-then-a`. It may be left out.
+#                             Where the group has several in one function, one that names its fact need not be tried alone
 #   says: WORDS               what it gets wrong
 #   old: TEXT                 a pair, and there may be several
 #   new: TEXT

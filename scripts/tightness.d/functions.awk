@@ -1,7 +1,7 @@
 # The functions of a file of Rattle, in the layout of `rt fmt`. A line for each: the crate; its name, with its module
 # before it; whether it is public; whether C links it; the file, its first and its last line; how many `ensures` and
-# `requires` it has; whether it returns something; and the places among its parameters, from 0 on, of those that it is
-# lent to write.
+# `requires` it has, where a starred clause counts as a `requires` alone; whether it returns something; and the places among
+# its parameters, from 0 on, of those that it is lent to write.
 BEGIN {
     OFS = "\t"
     split(file, folder, "/")
@@ -13,9 +13,9 @@ BEGIN {
     module = module == "lib" || module == "main" ? "" : module "::"
 }
 { sub(/\/\/.*/, "") }
-/^ *(pub +)?(extern +"C" +)?fn +[a-z]/ {
+/^ *(pub(\([a-z]+\))? +)?(const +)?(unsafe +)?(extern +"C" +)?fn +[a-z]/ {
     indent = match($0, /[^ ]/) - 1
-    is_public = $0 ~ /^ *pub /
+    is_public = $0 ~ /^ *pub +[a-z]/
     linked = $0 ~ /extern +"C"/
     name = $0
     sub(/^.*fn +/, "", name)
@@ -27,28 +27,42 @@ BEGIN {
     in_signature = 1
 }
 name == "" { next }
+/^ *ensures\*[ {]/ { in_signature = 0; next }
 /^ *ensures[ {]/ { ensures++; in_signature = 0; next }
-/^ *requires[ {]/ { requires++; in_signature = 0; next }
+/^ *requires\*?[ {]/ { requires++; in_signature = 0; next }
 in_signature {
     signature = signature " " $0
     if ($0 ~ /\{ *\}? *$/) in_signature = 0
 }
 /\} *$/ && match($0, /[^ ]/) - 1 == indent { print_function() }
 
-function print_function(    rest, parameters, depth, i, c, place, writes, part, count) {
-    rest = substr(signature, index(signature, "(") + 1)
+function print_function(    rest, parameters, depth, i, c, place, writes) {
+    gsub(/->/, "\001", signature)
+    # behind its name, and what it is generic in
+    match(signature, /fn +[A-Za-z0-9_]+/)
+    rest = substr(signature, RSTART + RLENGTH)
+    depth = 0
+    for (i = 1; i <= length(rest); i++) {
+        c = substr(rest, i, 1)
+        if (c == "<") depth++
+        if (c == ">") depth--
+        if (c == "(" && depth == 0) break
+    }
+    rest = substr(rest, i + 1)
+    parameters = ""
+    place = 0
+    writes = ""
     depth = 1
     for (i = 1; depth > 0 && i <= length(rest); i++) {
         c = substr(rest, i, 1)
-        if (c == "(") depth++
-        if (c == ")") depth--
+        if (index("([<", c)) depth++
+        if (index(")]>", c)) depth--
+        if (depth > 0 && !(c == "," && depth == 1)) { parameters = parameters c; continue }
+        if (parameters ~ /: *&('[a-z]+ +)?mut |^ *&('[a-z]+ +)?mut +self *$/) writes = writes (writes == "" ? "" : ",") place
+        place++
+        parameters = ""
     }
-    parameters = substr(rest, 1, i - 2)
     rest = substr(rest, i)
-    sub(/, *$/, "", parameters)
-    writes = ""
-    count = split(parameters, part, ",")
-    for (place = 0; place < count; place++) if (part[place + 1] ~ /: *&('[a-z]+ +)?mut /) writes = writes (writes == "" ? "" : ",") place
-    print crate, module name, is_public, linked, file, first, FNR, ensures, requires, rest ~ /->/ ? 1 : 0, writes
+    print crate, module name, is_public, linked, file, first, FNR, ensures, requires, rest ~ /\001/ ? 1 : 0, writes
     name = ""
 }

@@ -57,11 +57,10 @@ stage == "answers" {
     if ($4 == "" || $5 == "" || $6 == "") { wrong(at ": " $3 " lacks its `in:`, its `says:` or its pair"); next }
     if (($1 "/" $3) in answer) wrong(at ": " $3 " stands in " edit_file($1, answer[$1 "/" $3]) " too")
     answer[$1 "/" $3] = $2
-    if (($1, $2, $4) in alone && (facts[$1, $2, $4] == "" || $7 == "" || ($1, $2, $4, $7) in fact))
-        wrong(at ": " $3 " and " alone[$1, $2, $4] " are both in " $4 ", and the log could not tell which is refused")
-    alone[$1, $2, $4] = $3
-    facts[$1, $2, $4] = $7
-    fact[$1, $2, $4, $7] = 1
+    if ($7 != "" && ($1, $2, $4, $7) in fact)
+        wrong(at ": " $3 " and " fact[$1, $2, $4, $7] " are both in " $4 " and name one fact, which could not tell which of them is refused")
+    if ($7 != "") fact[$1, $2, $4, $7] = $3
+    sharing[$1, $2, $4]++
     wants[++want_count] = $1 "\t" $2 "\t" $4 "\t" $3 "\t" $7
     count = split($6, pairs, " ")
     for (k = 1; k <= count; k++) {
@@ -77,7 +76,15 @@ stage == "answers" {
     if ($4 ~ /^law /) { if (!(key in law)) laws[$1] = laws[$1] (laws[$1] == "" ? "" : "\t") key; law[key] = substr($4, 5) }
     next
 }
-stage == "refused" { refused[$1 "\t" $2 "\t" $3 "\t"] = refused[$1 "\t" $2 "\t" $3 "\t" $4] = 1; next }
+stage == "refused" {
+    key = $1 "\t" $2 "\t" $3
+    if ($4 == "?") { unfit[key] = 1; next }
+    refused[key "\t"] = 1
+    if ((key "\t" $4) in refused || $4 == "") next
+    refused[key "\t" $4] = 1
+    refused_facts[key] = refused_facts[key] (refused_facts[key] == "" ? "" : ", ") "`" $4 "`"
+    next
+}
 
 stage == "page" {
     page_line[++page_count] = $0
@@ -123,7 +130,19 @@ END {
     }
     if (mode == "--logs") for (i = 1; i <= want_count; i++) {
         split(wants[i], want, "\t")
-        if (!((want[1] "\t" want[2] "\t" want[3] "\t" want[5]) in refused)) wrong(edit_file(want[1], want[2]) ": " want[4] " is not refused at " want[3] " itself, by " (want[5] == "" ? "a fact of its own" : "its `" want[5] "`") " (target/must-fail/" want[1] "/" want[2] "/.log)")
+        if (only !~ /^ *$/ && !index(only, " " want[1] " ")) continue
+        key = want[1] "\t" want[2] "\t" want[3]
+        file = want[2]
+        # what is refused at a function with several tells of one of them only where that names its fact; else it was tried alone
+        if (sharing[want[1], want[2], want[3]] > 1) {
+            if (want[5] != "" && (key "\t" want[5]) in refused) continue
+            key = want[1] "\t" want[2] " " want[4] "\t" want[3]
+            file = want[2] "." want[4]
+        }
+        if ((key "\t" want[5]) in refused) continue
+        wrong(edit_file(want[1], want[2]) ": " want[4] " is not refused at " want[3] " itself, by " (want[5] == "" ? "a fact of its own" : "its `" want[5] "`") \
+            (refused_facts[key] != "" ? ", but by " refused_facts[key] : "") (key in unfit ? "; there the proof is unfit for the code" : "") \
+            " (target/tightness/" want[1] "/" file ".log)")
     }
     make_list()
     if (!list_start || list_end < list_start) wrong(page ": it lacks the lines '" start "' and '" end "'")
@@ -134,7 +153,7 @@ END {
         if (!same) wrong(page ": its list is not that of the crates (`scripts/tightness --write` writes it)")
     }
     if (bad) exit 1
-    printf "tightness: %d public functions with %d theorems, %d wrong answers in %d groups%s\n", public_count, theorem_count, answer_count, group_count, mode == "--logs" ? ", each refused at its own function" : ""
+    printf "tightness: %d public functions with %d theorems, %d wrong answers in %d groups%s\n", public_count, theorem_count, answer_count, group_count, mode != "--logs" ? "" : only ~ /^ *$/ ? ", each refused at its own function" : ", those of" only "refused at their own functions"
 }
 # a section for each crate that has functions or wrong answers, in the order of crates.txt
 function make_list(    c, i, k, key, rows, count, part) {

@@ -3,16 +3,17 @@
 # neither form.
 #
 #   pub NAME : OneResult ALIAS.Learnt
-#   pub NAME : OneExit ALIAS.Learnt (λ κ s. now (s .1 .1 .0))       the buffer at place 2
+#   pub NAME : OneExit ALIAS.Learnt (λ κ s. s.1.1.0.now)       the buffer at place 2
 #
-# ALIAS is of `use Rattle·CRATE·proofs.proofs.FUNCTION.Reads as ALIAS`; the two forms are those of `words`. A function that
-# is proved by hand has no `Reads`: its ALIAS is of `use Rattle·CRATE·proofs.proofs.ByHand.FUNCTION as ALIAS`, a file that
-# reads what the function's own `clauses` tell.
+# ALIAS is of `use Rattle.CRATE.proofs.FUNCTION.Reads as ALIAS`; the two forms are those of `words`. For a function for which
+# the prover makes no `Reads`, ALIAS is of `use Rattle.CRATE.proofs.ByHand.FUNCTION as ALIAS`, a file that reads what the
+# function's own `clauses` tell.
 BEGIN {
     OFS = "\t"
     split(file, folder, "/")
     crate = folder[2]
-    own = "use Rattle·" crate "·proofs.proofs."
+    own = "use Rattle." crate ".proofs."
+    contracts = "use Rattle." crate ".specs.contracts."
     form["OneResult"] = form["OneExit"] = 0
 }
 # a declaration goes on in the lines that are indented
@@ -36,7 +37,7 @@ function declaration(text,    word, count, name, path, is_of) {
         alias[word[4]] = index(text, own) == 1 && reads_clauses(path) ? path : "of no contract"
         return
     }
-    if (index(text, "use Rattle·words") == 1 && text ~ /\.Allowed\.\{/) {
+    if (index(text, "use Rattle.words.") == 1 && text ~ /\.Allowed\.\{/) {
         for (name in form) if (text ~ ("[{ ]" name "[,}]")) form[name] = 1
         return
     }
@@ -47,16 +48,16 @@ function declaration(text,    word, count, name, path, is_of) {
     if (word[4] == "OneResult" && form["OneResult"] && count == 5) is_of = "result"
     if (word[4] == "OneExit" && form["OneExit"]) {
         path = text
-        if (sub(/^.*\.Learnt \(λ κ s\. now \(s/, "", path) && sub(/ \.0\)\)$/, "", path) && path ~ /^( \.1)*$/) is_of = length(path) / 3
+        if (sub(/^.*\.Learnt \(λ κ s\. s/, "", path) && sub(/\.0\.now\)$/, "", path) && path ~ /^(\.1)*$/) is_of = length(path) / 2
     }
     print crate, file, word[2], name in alias ? alias[name] : "unknown", is_of
 }
-# the file of a function that is proved by hand tells what the function's clauses tell
+# the file of a function without `Reads` tells what the function's clauses tell
 function reads_clauses(name,    source, line, of, tells) {
     source = "crates/" crate "/proofs/ByHand/" name ".antt"
     while ((getline line <source) > 0) {
-        if (index(line, own name " as ") == 1) { of = line; sub(/.* as /, "", of) }
-        if (of != "" && index(line, of ".clauses ") && index(line, ".ensures")) tells = 1
+        if (index(line, contracts name " as ") == 1) { of = line; sub(/.* as /, "", of) }
+        if (of != "" && index(line, "(" of ".clauses ") && index(line, ").ensures ")) tells = 1
     }
     close(source)
     return tells
