@@ -8,6 +8,11 @@ ghost use Rattle.mapped.specs.InBytes.{held_map_scripted, board_bytes};
 ghost use Rattle.checker.specs.InBytes.{held_check};
 ghost use Rattle.yawlspar_script.specs.Face.{script_answer, check_answer};
 
+use yawlspar_script::{
+    yawlspar_check as check_script, yawlspar_script as run_script,
+    yawlspar_script_map as run_script_map,
+};
+
 // A script: transactions, and ticks after each. WP# is low for 0 and high for 1. The number that stops it and the step, or 0 and
 // the number of steps; refused, with 1, 2, 7, 4 or 5, every buffer is as it was. Where the bytes hold no record, 1 is not judged.
 #[unsafe(no_mangle)]
@@ -31,7 +36,7 @@ pub extern "C" fn yawlspar_script(
     ensures answers { answers.new ≡ (held_script (record_in bytes.old) wp (script_of wp input.now lengths.now ticks.now) array.old rows.old output.old answers.old done.old).answers }
     ensures done { done.new ≡ (held_script (record_in bytes.old) wp (script_of wp input.now lengths.now ticks.now) array.old rows.old output.old answers.old done.old).done }
 {
-    yawlspar_script::yawlspar_script(
+    run_script(
         bytes, array, rows, wp, input, lengths, ticks, output, answers, done,
     )
 }
@@ -61,7 +66,7 @@ pub extern "C" fn yawlspar_script_map(
     ensures done { done.new ≡ (held_map_scripted (record_in bytes.old) wp (script_of wp input.now lengths.now ticks.now) array.old rows.old output.old answers.old done.old map.old).run.done }
     ensures map { map.new ≡ (held_map_scripted (record_in bytes.old) wp (script_of wp input.now lengths.now ticks.now) array.old rows.old output.old answers.old done.old map.old).map }
 {
-    yawlspar_script::yawlspar_script_map(
+    run_script_map(
         bytes, array, rows, wp, input, lengths, ticks, output, answers, done, map,
     )
 }
@@ -91,7 +96,7 @@ pub extern "C" fn yawlspar_check(
     ensures answers { answers.new ≡ (held_check (record_in bytes.old) wp (script_of wp input.now lengths.now ticks.now) array.old rows.old output.old answers.old done.old image.now).run.answers }
     ensures done { done.new ≡ (held_check (record_in bytes.old) wp (script_of wp input.now lengths.now ticks.now) array.old rows.old output.old answers.old done.old image.now).run.done }
 {
-    yawlspar_script::yawlspar_check(
+    check_script(
         bytes, array, rows, wp, input, lengths, ticks, output, answers, done, image,
     )
 }
