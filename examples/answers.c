@@ -23,7 +23,7 @@ static const char *words_of(uint64_t number)
     case YAWLSPAR_BAD_INPUT:
         return "refused: the input is empty, or longer than 4,096 bytes";
     case YAWLSPAR_BAD_OUTPUT:
-        return "refused: the output is not as long as the input, or a text not of its length";
+        return "refused: the output is not as long as the input";
     case YAWLSPAR_BAD_RECORD:
         return "refused: the bytes hold no sound record, or a number is out of its range";
     case YAWLSPAR_BAD_TICKS:
@@ -48,8 +48,6 @@ static const char *words_of(uint64_t number)
         return "ignored: not an address of a row";
     case YAWLSPAR_PROTECTED:
         return "ignored: protected, locked, being erased, or barred by WP#";
-    case YAWLSPAR_BAD_WEAR:
-        return "refused: there is not one wear record for each sector";
     case YAWLSPAR_BAD_MAP:
         return "refused: the map has not one bit for each page";
     case YAWLSPAR_BAD_PAGE:
@@ -111,14 +109,6 @@ static uint64_t check_script(size_t image_len)
                           ticks, 1, output, 1, answers, 1, done, 1, image, image_len);
 }
 
-/* Ticks that are lent so many wear records. */
-static uint64_t wait_worn(size_t wear_len)
-{
-    static yawlspar_wear wear[YAWLSPAR_SECTORS(BLOCKS)];
-
-    return yawlspar_tick_wear(record, sizeof record, array, sizeof array, rows, sizeof rows, 0, wear, wear_len);
-}
-
 /* A search for a blank page from this one on, in a map of this length. */
 static uint64_t next_blank(size_t map_len, uint64_t page)
 {
@@ -140,7 +130,7 @@ static void show(uint64_t expected, const char *what, uint64_t result)
     }
 }
 
-/* A wrong call is answered 1 to 7, or 35 to 38. The part has not seen it, and no byte is changed. */
+/* A wrong call is answered 1 to 7, or 36 to 38. The part has not seen it, and no byte is changed. */
 static void show_refusals(void)
 {
     static const uint8_t enable[] = {0x06};
@@ -210,7 +200,6 @@ int main(void)
     show_refusals();
     show_ways();
     show_protected();
-    show(YAWLSPAR_BAD_WEAR, "ticks with wear of 63 of 64 sectors", wait_worn(YAWLSPAR_SECTORS(BLOCKS) - 1));
     show(YAWLSPAR_BAD_MAP, "a map with a byte missing", next_blank(YAWLSPAR_MAP_BYTES(BLOCKS) - 1, 0));
     show(YAWLSPAR_BAD_PAGE, "page 1,024 of a part of 1,024 pages", next_blank(YAWLSPAR_MAP_BYTES(BLOCKS), 1024));
     show(YAWLSPAR_BAD_IMAGE, "a check with a byte of the image missing", check_script(sizeof array - 1));

@@ -26,21 +26,22 @@ extern "C" {
  * program should check once that both are the same: if YAWLSPAR_MATCHES() is 0, it was compiled with the header
  * of one version and linked to the archive of another, and nothing below holds.
  */
-#define YAWLSPAR_VERSION 1010
+#define YAWLSPAR_VERSION 1009
 uint64_t yawlspar_version(void);
 #define YAWLSPAR_MATCHES() (yawlspar_version() == YAWLSPAR_VERSION)
 
 /*
- * The numbers that a call answers. 0 means that the call was executed. 1 to 7 and 35 to 38 are refusals: the call was
+ * The numbers that a call answers. 0 means that the call was executed. 1 to 7 and 36 to 38 are refusals: the call was
  * wrong, and the part has not seen it. A script that answers 3 or 6 stopped at a step that was wrong, and the part has
  * seen what came before. 20 to 28 mean that the part ignored a transaction.
+ * 35 is answered by the calls with wear alone, and is a refusal too.
  */
 enum yawlspar_number {
     YAWLSPAR_EXECUTED = 0,
     YAWLSPAR_BAD_SIZE = 1,      /* there is no part of that size, or the array is not as long as the part is large */
     YAWLSPAR_BAD_ROWS = 2,      /* the rows are not 1,024 bytes */
     YAWLSPAR_BAD_INPUT = 3,     /* no byte is sent, or more than 4,096 */
-    YAWLSPAR_BAD_OUTPUT = 4,    /* the output is not as long as the input, or the text of wear not of its length */
+    YAWLSPAR_BAD_OUTPUT = 4,    /* the output is not as long as the input */
     YAWLSPAR_BAD_RECORD = 5,    /* no record, or one that is not sound, or another argument is out of range */
     YAWLSPAR_BAD_TICKS = 6,     /* more ticks than one call runs */
     YAWLSPAR_BAD_LISTS = 7,     /* a script's lists differ in length, or its lengths do not add up to the input's */
@@ -144,14 +145,16 @@ uint64_t yawlspar_page_place(uint64_t start, uint64_t index);
  * size.
  *
  * The result r of a call is two numbers in one: YAWLSPAR_NUMBER(r), the answer, 0 for a call that was
- * executed, and above it the place, the count, the step, the page or the length that is described at the call. Of a
- * check it is three: above the number are the verdict and where it is. If several numbers apply, the lowest is the
- * answer, except that a script looks for 7 before 4, and for 3 and 6 at each step, after all others, that a check looks
- * for 38 right after 1, that a call that is lent a map looks for 36 right after 1, and that one that is lent wear looks
- * for 35 right after 1.
- * A call that is refused, with 1 to 7 or 35 to 38, leaves every byte of every buffer as it was, and the bits above the
+ * executed, and above it the place, the count, the step or the page that is described at the call. Of a check it is
+ * three: above the number are the verdict and where it is. If several numbers apply, the lowest is the answer, except
+ * that a script looks for 7 before 4, and for 3 and 6 at each step, after all others, that a check looks for 38 right
+ * after 1, and that a call that is lent a map looks for 36 right after 1.
+ * A call that is refused, with 1 to 7 or 36 to 38, leaves every byte of every buffer as it was, and the bits above the
  * number are 0. Only a script that stops at one of its steps, with 3 or 6, has done the steps before it; a check of such
  * a script is not refused, and has done them too.
+ * The same goes for the calls with wear, with these words more: a call that is lent wear looks for 35 right after 1, one
+ * that is refused with 35 leaves every byte as it was too, and above the number of a text of wear is its length. There 4
+ * means that the text is not of its length.
  */
 #define YAWLSPAR_RECORD_BYTES 322
 #define YAWLSPAR_NUMBER(r) ((r) & 255)

@@ -7,8 +7,9 @@
  *   perf run JOB SIDE TIMES     set up, do the job TIMES times on one side, and end: for counting instructions
  *
  * A job is a driver's errand: one call, or the calls that belong together; 64 calls beside a script of the same; a
- * check of a script beside that script with memcmp after it; writes with a map of blank pages, and with wear, beside those
- * without; and the text of wear. The sides are model, reference and bytes, which is memcpy, memset or the plain loop. The numbers are no test: the exit
+ * check of a script beside that script with memcmp after it; and writes with a map of blank pages beside those without.
+ * Writes with wear are beside those without it too, and the text of wear is a job.
+ * The sides are model, reference and bytes, which is memcpy, memset or the plain loop. The numbers are no test: the exit
  * status is 0 whatever they are.
  */
 #include <stdbool.h>

@@ -2,8 +2,8 @@
  * Compares the five functions of yawlspar.h that are on numbers alone with their rules, which are
  * written out here in C. Those of the protection question are also compared with the block table,
  * which is worked out by hand, with the reference model, and with one another. And the archive's
- * version is the header's, the header's macros take a result apart, a map has a bit for each page, and
- * wear a record for each sector.
+ * version is the header's, the header's macros take a result apart, and a map has a bit for each page.
+ * Wear has a record for each sector.
  *
  * It prints the first differences, if there are any, and then one line with the number of
  * comparisons and of differences. The exit status is 0 if there is no difference, and else 1.
