@@ -5,15 +5,12 @@
 #   pub NAME : OneResult ALIAS.Learnt
 #   pub NAME : OneExit ALIAS.Learnt (λ κ s. s.1.1.0.now)       the buffer at place 2
 #
-# ALIAS is of `use Rattle.CRATE.proofs.FUNCTION.Reads as ALIAS`; the two forms are those of `words`. For a function for which
-# the prover makes no `Reads`, ALIAS is of `use Rattle.CRATE.proofs.ByHand.FUNCTION as ALIAS`, a file that reads what the
-# function's own `clauses` tell.
+# ALIAS is of `use Rattle.CRATE.proofs.FUNCTION.Reads as ALIAS`; the two forms are those of `words`.
 BEGIN {
     OFS = "\t"
     split(file, folder, "/")
     crate = folder[2]
     own = "use Rattle." crate ".proofs."
-    contracts = "use Rattle." crate ".specs.contracts."
     form["OneResult"] = form["OneExit"] = 0
 }
 # a declaration goes on in the lines that are indented
@@ -31,12 +28,6 @@ function declaration(text,    word, count, name, path, is_of) {
         alias[word[4]] = index(text, own) == 1 ? path : "of another crate"
         return
     }
-    if (word[1] == "use" && word[3] == "as" && text ~ /\.proofs\.ByHand\.[a-z0-9_]+ as /) {
-        path = word[2]
-        sub(/.*\./, "", path)
-        alias[word[4]] = index(text, own) == 1 && reads_clauses(path) ? path : "of no contract"
-        return
-    }
     if (index(text, "use Rattle.words.") == 1 && text ~ /\.Allowed\.\{/) {
         for (name in form) if (text ~ ("[{ ]" name "[,}]")) form[name] = 1
         return
@@ -51,14 +42,4 @@ function declaration(text,    word, count, name, path, is_of) {
         if (sub(/^.*\.Learnt \(λ κ s\. s/, "", path) && sub(/\.0\.now\)$/, "", path) && path ~ /^(\.1)*$/) is_of = length(path) / 2
     }
     print crate, file, word[2], name in alias ? alias[name] : "unknown", is_of
-}
-# the file of a function without `Reads` tells what the function's clauses tell
-function reads_clauses(name,    source, line, of, tells) {
-    source = "crates/" crate "/proofs/ByHand/" name ".antt"
-    while ((getline line <source) > 0) {
-        if (index(line, contracts name " as ") == 1) { of = line; sub(/.* as /, "", of) }
-        if (of != "" && index(line, "(" of ".clauses ") && index(line, ").ensures ")) tells = 1
-    }
-    close(source)
-    return tells
 }
