@@ -8,7 +8,6 @@ use lib.Dec.{eqb}
 use borrow.Author.Tests.{eq-eqb}
 use Rattle.types.specs.declared.Memory.TheVariants.{Array}
 use Rattle.types.specs.declared.Record.{Record}
-use Rattle.words.specs.Logic.{◌and◌}
 use Rattle.words.specs.Lists.{every}
 use Rattle.words.proofs.Tests.{and_l, and_r, and_in}
 use Rattle.words.proofs.Lists.{every_both}

@@ -9,7 +9,7 @@ use lib.ListN.{length, get_or}
 use lib.Bits.{and_comm, and_mask}
 use lib.Dec.{eqb}
 use borrow.Author.Tests.{eqb-true, eq-eqb, ne_eqb, not-true, not-false}
-use Rattle.words.specs.Logic.{◌and◌, bit}
+use Rattle.words.specs.Logic.{bit}
 use Rattle.words.specs.Lists.{every}
 use Rattle.words.proofs.Tests.{and_l, and_r, and_in, same_tests}
 use Rattle.words.proofs.Bits.{and_again}

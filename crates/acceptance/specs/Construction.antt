@@ -1,5 +1,5 @@
 -- A right flasher: it makes such a script for every array and image.
-use Rattle.std.specs.Prelude.{ℕ, zero, suc, ◌+◌, ◌*◌, ◌/◌, ◌%◌, Bool, not, cond, List, [], ◌∷◌, ◌++◌, length, get_or, eqb}
+use Rattle.std.specs.Prelude.{ℕ, zero, suc, ◌*◌, ◌/◌, ◌%◌, Bool, not, cond, List, [], ◌∷◌, ◌++◌, length, get_or, eqb}
 use Rattle.words.specs.Logic.{◌and◌}
 use Rattle.paper.specs.Sizes.{is_large, page_bytes}
 use Rattle.paper.specs.Script.{Script}

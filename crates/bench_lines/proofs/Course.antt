@@ -6,7 +6,7 @@ use mathlib.Core.List.{List, [], ◌∷◌}
 use native.Mathlib.Omega.{arith}
 use lib.Dec.{eqb}
 use lib.ListN.{length, take, drop, replicate, length-replicate, length-drop, drop_of_length-le}
-use lib.Seq.{sets, take_all, take-length, length-take-le, drop-drop}
+use lib.Seq.{sets, take_all, length-take-le, drop-drop}
 use Rattle.types.specs.declared.Record.{Record}
 use Rattle.types.specs.declared.Answer.{Answer}
 use Rattle.types.specs.declared.PoweredUp.{PoweredUp}
@@ -60,17 +60,24 @@ sent_board b wp i p e = ap (λ (q : Record). board_of q b.array b.rows) e
 pub three_lines : lines_of (letter_k ∷ space ∷ 49 ∷ LF ∷ LF ∷ letter_k ∷ space ∷ 50 ∷ []) ≡ (letter_k ∷ space ∷ 49 ∷ []) ∷ [] ∷ (letter_k ∷ space ∷ 50 ∷ []) ∷ []
 three_lines = refl
 
+-- a line ends within the input
+after_within : (t : Bool) (n m : ℕ) → n ≤ m → index_after t n ≤ suc m
+after_within true n m h = omega arith
+after_within false n m h = omega arith
+
+pub index_within : (b : ℕ) (xs : List ℕ) → index_of b xs ≤ length xs
+index_within b [] = omega arith
+index_within b (x ∷ xs) = after_within (eqb x b) (index_of b xs) (length xs) (index_within b xs)
+
 -- the first line, and the lines after it
 next_as : (xs : List ℕ) (x : ℕ) (b : Bool) → eqb x LF ≡ b
     → cond b ([] ∷ lines_of xs) (before x (lines_of xs)) ≡ take (index_after b (index_of LF xs)) (x ∷ xs) ∷ lines_of (drop (suc (index_after b (index_of LF xs))) (x ∷ xs))
-unfolding index_of index_after
 next_as [] x true e = refl
 next_as [] x false e = refl
 next_as (y ∷ ys) x true e = refl
 next_as (y ∷ ys) x false e = ap (before x) (next_as ys y (eqb y LF) refl)
 
 pub lines_next : (xs : List ℕ) → 0 < length xs → lines_of xs ≡ take (index_of LF xs) xs ∷ lines_of (drop (suc (index_of LF xs)) xs)
-unfolding index_of
 lines_next [] h = absurd (omega arith)
 lines_next (x ∷ xs) h = next_as xs x (eqb x LF) refl
 

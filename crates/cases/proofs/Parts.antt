@@ -10,7 +10,6 @@ use Rattle.types.specs.declared.Named.TheVariants.{Place}
 use Rattle.types.specs.declared.Command.{Command}
 use Rattle.types.specs.declared.Decoded.TheVariants.{Known}
 use Rattle.types.specs.declared.Record.{Record}
-use Rattle.words.specs.Logic.{◌or◌}
 use Rattle.paper.specs.Sizes.{tick_limit}
 use Rattle.paper.specs.Protection.{code_of, whole_code, protected_at}
 use Rattle.paper.specs.Registers.{TBS}

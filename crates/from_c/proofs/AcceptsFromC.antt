@@ -10,7 +10,6 @@ use borrow.Author.Tests.{eqb-false}
 use Rattle.types.specs.declared.Record.{Record}
 use Rattle.types.specs.declared.Verdict.{Verdict}
 use Rattle.types.specs.declared.Verdict.TheVariants.{Yes, Step, Address, Refused}
-use Rattle.words.specs.Logic.{◌and◌}
 use Rattle.words.proofs.Tests.{and_in}
 use Rattle.paper.specs.Board.{Board, board_of}
 use Rattle.paper.specs.Script.{Script, Scripted}

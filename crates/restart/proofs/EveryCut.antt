@@ -31,7 +31,7 @@ use Rattle.laws.proofs.Boards.{rested_own, made_told}
 use Rattle.laws.proofs.Written.{plainly_whole}
 use Rattle.restart.specs.Cuts.{up_again, powered_again, by_reset, by_power, Event, calls, Lives, over, sent, up, history_through, nothing_else, aim}
 use Rattle.restart.specs.Restart.{CutAt, Again, Try, reset_after, power_after, all_tried, AllCuttable, none, more, EveryCut}
-use Rattle.restart.proofs.Alone.{alone_none, alone_both, nothing_else_lem}
+use Rattle.restart.proofs.Alone.{alone_none, alone_both}
 use Rattle.restart.proofs.AtTheCut.{reset_next, at_the_cut, reset_cuts}
 use Rattle.restart.proofs.DoneOver.{done_over}
 use Rattle.restart.proofs.SomeTicks.{begun, erasing, at_start_lem, sound_start, size_start, few, ticks_alone, never, never_armed}

@@ -6,7 +6,7 @@ use mathlib.Core.List.{List, ◌++◌}
 use native.Mathlib.Omega.{arith}
 use lib.Dec.{leb}
 use lib.ListN.{length, take, drop, replicate, length-drop, drop_of_length-le}
-use lib.Seq.{take_all, take-length, drop-drop}
+use lib.Seq.{take_all, drop-drop}
 use borrow.Author.Tests.{leb-true, leb-false}
 use Rattle.paper.specs.Sizes.{page_bytes}
 use Rattle.paper.specs.Program.{kept_count, passed_count, page_data, no_data}

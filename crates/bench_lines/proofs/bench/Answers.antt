@@ -6,7 +6,6 @@ use Rattle.paper.specs.Bench.{input_limit}
 use Prim.Native.Nat.{◌-◌, min}
 use lib.ListN.{length}
 use mathlib.Core.Path.{◌≡◌, refl, sym, ◌∙◌}
-use borrow.Author.Rules.{rules}
 use borrow.Author.Tests.{eq-eqb, ne_eqb}
 use native.Mathlib.Omega.{arith}
 use Rattle.bench_lines.proofs.bench.Goals as goal
@@ -22,20 +21,12 @@ on_part-printed-requires c =
     let e = lent_lengths _ _ (sym c.lent_number-number.ensures ∙ c.if-number-ne0.false) in
     (e.0, e.1, omega arith)
 
-pub shape_of-array : goal.shape_of-array
-shape_of-array c = c.array-1.given
-
-pub shape_of-rows : goal.shape_of-rows
-shape_of-rows c = c.rows-1.given
-
-pub shape_of-output : goal.shape_of-output
-shape_of-output c = c.output-1.given
-
 pub returns : goal.returns
 returns c =
     let input = c.args.input.now in
     let n = c.lent_number-number.ensures in
     let z = eq-eqb _ _ c.if-number-ne0.false in
     let k : c.lesser-end.result - 0 ≡ min input_limit (length input) = omega (arith, c.lesser-end.ensures) in
-    let l = bench_read _ input _ _ _ _ _ (c.lesser-end.result - 0) k refl c.on_part-printed.ensures in
+    let g = c.on_part-printed.ensures in
+    let l = bench_read _ input _ _ _ _ _ (c.lesser-end.result - 0) k refl (g.array, (g.rows, g.output)) in
     record { answer = sym c.if-number-ne0.false ∙ n; array = rw (← n, z) l.0; rows = rw (← n, z) l.1.0; output = rw (← n, z) l.1.1 }

@@ -1,7 +1,6 @@
 -- `bench_lines::lent_number` meets its contract: no test follows the two.
 use Rattle.words.proofs.Tests.{or_else_none}
 use mathlib.Core.Path.{◌∙◌}
-use borrow.Author.Rules.{rules}
 use Rattle.bench_lines.proofs.lent_number.Goals as goal
 
 pub returns : goal.returns

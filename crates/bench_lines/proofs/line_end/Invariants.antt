@@ -1,4 +1,4 @@
-use Rattle.std.proofs.Common.{◌≡◌, ◌+◌, ◌-◌, ◌≤◌, length, drop}
+use Rattle.std.proofs.Common.{◌≡◌, ◌+◌, ◌-◌, length, drop}
 use Rattle.paper.specs.Bench.{LF}
 use Rattle.bench_lines.specs.LineEnd.{index_of}
 use Rattle.bench_lines.proofs.line_end.Given as goal

@@ -6,20 +6,10 @@ use Rattle.bench_lines.proofs.Course.{bench_board_lem}
 use Rattle.paper.specs.Board.{Board}
 use Rattle.paper.specs.Reads.{undriven}
 use mathlib.Core.Path.{ap, ◌∙◌}
-use borrow.Author.Rules.{rules}
 use Rattle.bench_lines.proofs.on_part.Goals as goal
 
 pub run-ran-requires : goal.run-ran-requires
 run-ran-requires c = c.requires.2
-
-pub shape_of-array : goal.shape_of-array
-shape_of-array c = c.array-2-1.given ∙ c.array-1.given
-
-pub shape_of-rows : goal.shape_of-rows
-shape_of-rows c = c.rows-2-1.given ∙ c.rows-1.given
-
-pub shape_of-output : goal.shape_of-output
-shape_of-output c = c.output-1.given
 
 pub returns : goal.returns
 returns c =
@@ -30,4 +20,4 @@ returns c =
     let rs = c.blank-2.ensures ∙ ap undriven c.requires.1 in
     let e = bench_board_lem c.args.blocks up.result _ _ (up.ensures ∙ n) xs rs in
     let g = rw e at c.run-ran.ensures in
-    record { array = ap (λ (d : Board). d.array) g.0; rows = ap (λ (d : Board). d.rows) g.0; output = g.1 }
+    record { array = ap (λ (d : Board). d.array) g.after; rows = ap (λ (d : Board). d.rows) g.after; output = g.output }

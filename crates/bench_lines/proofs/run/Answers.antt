@@ -1,10 +1,8 @@
 -- `bench_lines::run` meets its contract. The loop's invariant: what the lines that are left leave and print is what all lines do (`Goes`).
-use Rattle.bench_lines.proofs.Course.{Goes, goes_start, goes_on, goes_end, line_end}
-use Rattle.paper.specs.Board.{board_of}
-use lib.ListN.{length}
-use mathlib.Core.Path.{◌≡◌, refl, sym, ◌∙◌}
-use Prim.Native.Nat.{◌-◌}
-use borrow.Author.Rules.{rules}
+use Rattle.bench_lines.proofs.Course.{goes_start, goes_on, goes_end, index_within}
+use lib.ListN.{drop, length-drop}
+use Rattle.paper.specs.Bench.{LF}
+use mathlib.Core.Path.{refl, sym}
 use native.Mathlib.Omega.{arith}
 use Rattle.bench_lines.proofs.run.Goals as goal
 
@@ -17,28 +15,23 @@ run_line-ran-requires c =
     let l = c.loop-from in
     (omega (arith, e, l.invariant.3), omega (arith, e, l.invariant.4))
 
+pub slice_bounds-run_line-end : goal.slice_bounds-run_line-end
+slice_bounds-run_line-end c =
+    let rest = drop c.loop-from.from c.args.input.now in
+    omega (arith, c.line_end-end.ensures, index_within LF rest, length-drop c.loop-from.from c.args.input.now, c.loop-from-test.true)
+
 pub loop-from-smaller : goal.loop-from-smaller
 loop-from-smaller c =
-    omega (arith, c.after-from.ensures, c.find.ensures, c.loop-from-test.true)
+    omega (arith, c.after-from.ensures, c.line_end-end.ensures, c.loop-from-test.true)
 
 pub loop-from-preserved : goal.loop-from-preserved
 loop-from-preserved c =
     let l = c.loop-from in
-    let find = c.find in
     let run-line = c.run_line-ran in
-    let e = line_end c.args.input.now l.from find.result find.ensures.0 in
-    (rw c.after-from.ensures (goes_on _ _ _ _ _ _ _ _ l.invariant.0 find.result _ _ _ c.loop-from-test.true e run-line.ensures.0 run-line.ensures.1), c.array-1.given ∙ l.invariant.1, c.rows-1.given ∙ l.invariant.2, c.sent-in-loop-from-1.given, c.back-in-loop-from-1.given)
-
-pub shape_of-array : goal.shape_of-array
-shape_of-array c = c.loop-from.invariant.1
-
-pub shape_of-rows : goal.shape_of-rows
-shape_of-rows c = c.loop-from.invariant.2
-
-pub shape_of-output : goal.shape_of-output
-shape_of-output c = c.loop-from.invariant.0.same
+    (rw c.after-from.ensures (goes_on _ _ _ _ _ _ _ _ l.invariant.0 c.line_end-end.result _ _ _ c.loop-from-test.true c.line_end-end.ensures run-line.ensures.after run-line.ensures.output), omega arith, omega arith, omega arith, omega arith)
 
 pub returns : goal.returns
 returns c =
     let l = c.loop-from in
-    goes_end _ _ _ _ _ _ _ _ l.invariant.0 (omega arith)
+    let e = goes_end _ _ _ _ _ _ _ _ l.invariant.0 (omega arith) in
+    record { after = e.0; output = e.1 }

@@ -1,10 +1,8 @@
-use Rattle.bench_lines.proofs.Course.{Goes, goes_start, goes_on, goes_end, line_end}
+use Rattle.bench_lines.proofs.Course.{Goes}
 use Rattle.paper.specs.Board.{board_of}
 use lib.ListN.{length}
-use mathlib.Core.Path.{◌≡◌, refl, sym, ◌∙◌}
+use mathlib.Core.Path.{◌≡◌}
 use Prim.Native.Nat.{◌-◌}
-use borrow.Author.Rules.{rules}
-use native.Mathlib.Omega.{arith}
 use Rattle.bench_lines.proofs.run.Given as goal
 
 abbrev pub invariant-loop-from : goal.invariant-loop-from

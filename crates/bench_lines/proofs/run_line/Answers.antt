@@ -2,7 +2,6 @@
 use Rattle.paper.specs.Board.{board_of}
 use Rattle.bench_lines.proofs.Course.{line_room, sent_board}
 use mathlib.Core.Path.{refl, sym, ◌∙◌}
-use borrow.Author.Rules.{rules}
 use Rattle.bench_lines.proofs.run_line.Goals as goal
 
 pub overflow_sub-n : goal.overflow_sub-n
@@ -26,45 +25,18 @@ send-requires c =
     let r = line_room c.args.most c.args.line.now c.args.sent.now c.args.back.now _ (sym c.line_of-said.ensures ∙ c.in-Transaction.is) c.requires.0 c.requires.1 in
     (r.3, r.4)
 
-pub shape_of-array-in-Transaction : goal.shape_of-array-in-Transaction
-shape_of-array-in-Transaction c = refl
-
-pub shape_of-rows-in-Transaction : goal.shape_of-rows-in-Transaction
-shape_of-rows-in-Transaction c = refl
-
-pub shape_of-sent : goal.shape_of-sent
-shape_of-sent c = c.sent-1.given.1
-
-pub shape_of-back : goal.shape_of-back
-shape_of-back c = c.back-1.given.1
-
-pub shape_of-output-in-Transaction : goal.shape_of-output-in-Transaction
-shape_of-output-in-Transaction c = c.output-1.given
-
 pub returns-in-Transaction : goal.returns-in-Transaction
 returns-in-Transaction c =
     let a = c.args in
     let e = sym c.line_of-said.ensures ∙ c.in-Transaction.is in
-    rw e (sent_board (board_of a.state a.array.now a.rows.now) _ _ _ c.send.ensures.next, c.send.ensures.output)
-
-pub shape_of-array-in-Ticks : goal.shape_of-array-in-Ticks
-shape_of-array-in-Ticks c = c.array-1.given
-
-pub shape_of-rows-in-Ticks : goal.shape_of-rows-in-Ticks
-shape_of-rows-in-Ticks c = c.rows-1.given
-
-pub shape_of-output-in-Ticks : goal.shape_of-output-in-Ticks
-shape_of-output-in-Ticks c = c.output-in-Ticks-1.given
+    rw e (record { after = sent_board (board_of a.state a.array.now a.rows.now) _ _ _ c.send.ensures.next; output = c.send.ensures.output })
 
 pub returns-in-Ticks : goal.returns-in-Ticks
 returns-in-Ticks c =
     let e = sym c.line_of-said.ensures ∙ c.in-Ticks.is in
     rw e c.wait.ensures
 
-pub shape_of-output-in-Neither : goal.shape_of-output-in-Neither
-shape_of-output-in-Neither c = c.output-in-Neither-1.given
-
 pub returns-in-Neither : goal.returns-in-Neither
 returns-in-Neither c =
     let e = sym c.line_of-said.ensures ∙ c.in-Neither.is in
-    rw e (refl, c.put_other-printed.ensures)
+    rw e (record { after = refl; output = c.put_other-printed.ensures })

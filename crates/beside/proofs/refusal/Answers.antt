@@ -3,7 +3,6 @@ use mathlib.Core.Path.{sym, ap, ◌∙◌}
 use borrow.Author.Tests.{not-true, not-false}
 use Rattle.record_bytes.specs.declared.Found.{Found}
 use Rattle.beside.proofs.Told.{it_fits, unheld, found_so}
-use borrow.Author.Rules.{rules}
 use Rattle.beside.proofs.refusal.Goals as goal
 
 pub returns-then-fits : goal.returns-then-fits

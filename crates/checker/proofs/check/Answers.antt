@@ -1,7 +1,5 @@
 -- `checker::check` meets its contract: an image of another length, a script that is refused, and one that runs.
 use mathlib.Core.Path.{sym, ap, ◌∙◌}
-use borrow.Author.Tests.{not-true, not-false}
-use borrow.Author.Rules.{rules}
 use Rattle.types.specs.declared.Verdict.TheVariants.{Refused}
 use Rattle.script.specs.InBytes.{script_of}
 use Rattle.checker.proofs.InBytes.{image_verdict, image_left, same_left, refused_verdict, run_ended, run_verdict}

@@ -1,5 +1,4 @@
 -- `checker::ends_idle` meets its contract: the phase is the one in the bytes.
-use borrow.Author.Rules.{rules}
 use Rattle.checker.proofs.ends_idle.Goals as goal
 
 pub returns : goal.returns

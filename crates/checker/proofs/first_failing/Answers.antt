@@ -1,11 +1,9 @@
 -- `checker::first_failing` meets its contract. The loop's invariant: all answers so far are 0.
-use Prim.Native.Nat.{◌-◌, ◌≤◌}
 use mathlib.Core.Path.{◌≡◌, refl, sym, ap}
 use mathlib.Core.Bool.{not}
 use native.Mathlib.Numerals.{add-one}
 use native.Mathlib.Omega.{arith}
 use lib.ListN.{length}
-use borrow.Author.Rules.{rules}
 use borrow.Author.Tests.{ne_eqb, eq-eqb}
 use Rattle.words.specs.Lists.{first_of}
 use Rattle.words.proofs.Search.{first_next, none_next}

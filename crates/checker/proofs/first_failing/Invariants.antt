@@ -1,13 +1,7 @@
 use Prim.Native.Nat.{◌-◌, ◌≤◌}
-use mathlib.Core.Path.{◌≡◌, refl, sym, ap}
-use mathlib.Core.Bool.{not}
-use native.Mathlib.Numerals.{add-one}
-use native.Mathlib.Omega.{arith}
+use mathlib.Core.Path.{◌≡◌}
 use lib.ListN.{length}
-use borrow.Author.Rules.{rules}
-use borrow.Author.Tests.{ne_eqb, eq-eqb}
 use Rattle.words.specs.Lists.{first_of}
-use Rattle.words.proofs.Search.{first_next, none_next}
 use Rattle.checker.specs.InBytes.{non_zero}
 use Rattle.checker.proofs.first_failing.Given as goal
 

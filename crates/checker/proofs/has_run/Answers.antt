@@ -1,5 +1,4 @@
 -- `checker::has_run` meets its contract: the tests are the definition's.
-use borrow.Author.Rules.{rules}
 use Rattle.checker.specs.InBytes.{has_run}
 use Rattle.checker.proofs.has_run.Goals as goal
 

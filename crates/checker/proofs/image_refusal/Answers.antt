@@ -1,7 +1,6 @@
 -- `checker::image_refusal` meets its contract: no record held, and one whose size is judged.
 use mathlib.Core.Path.{sym, ap, ◌∙◌}
 use borrow.Author.Tests.{not-true, not-false}
-use borrow.Author.Rules.{rules}
 use Rattle.words.specs.Logic.{◌or_else◌}
 use Rattle.paper.specs.Numbers.{size_number}
 use Rattle.record_bytes.specs.declared.Found.{Found}

@@ -1,8 +1,6 @@
 -- `checker::verdict_on` meets its contract: each test is the definition's.
 use Prim.Native.Nat.{◌-◌}
 use native.Mathlib.Omega.{arith}
-use borrow.Author.Tests.{not-true, not-false}
-use borrow.Author.Rules.{rules}
 use Rattle.checker.proofs.Said.{made_le, said_step, said_busy, said_address, said_yes}
 use Rattle.checker.proofs.verdict_on.Goals as goal
 

@@ -1,5 +1,4 @@
 -- `effects::apply` meets its contract: each part of the record is what the change makes of it.
-use borrow.Author.Rules.{rules}
 use Rattle.effects.proofs.apply.Goals as goal
 
 pub returns : goal.returns

@@ -1,5 +1,4 @@
 -- `effects::change_barred` meets its contract: the command's error bits are set.
-use borrow.Author.Rules.{rules}
 use Rattle.effects.proofs.change_barred.Goals as goal
 
 pub returns : goal.returns

@@ -1,5 +1,4 @@
 -- `effects::change_by` meets its contract: each arm is a clause of the definition.
-use borrow.Author.Rules.{rules}
 use Rattle.effects.proofs.change_by.Goals as goal
 
 pub returns-in-Looks : goal.returns-in-Looks

@@ -1,5 +1,4 @@
 -- `effects::data_after` meets its contract: each arm is a clause of the definition.
-use borrow.Author.Rules.{rules}
 use Rattle.effects.proofs.data_after.Goals as goal
 
 pub returns-in-Runs : goal.returns-in-Runs

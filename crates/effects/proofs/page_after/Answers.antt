@@ -1,5 +1,4 @@
 -- `effects::page_after` meets its contract: each arm is a clause of the definition.
-use borrow.Author.Rules.{rules}
 use Rattle.effects.proofs.page_after.Goals as goal
 
 pub returns-in-Kept : goal.returns-in-Kept

@@ -1,5 +1,4 @@
 -- `effects::part_after` meets its contract: each arm is a clause of the definition.
-use borrow.Author.Rules.{rules}
 use Rattle.effects.proofs.part_after.Goals as goal
 
 pub returns-in-Marked : goal.returns-in-Marked

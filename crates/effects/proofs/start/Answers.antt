@@ -1,5 +1,4 @@
 -- `effects::start` meets its contract: each arm is a clause of the definition.
-use borrow.Author.Rules.{rules}
 use Rattle.effects.proofs.start.Goals as goal
 
 pub returns-in-NoWork : goal.returns-in-NoWork

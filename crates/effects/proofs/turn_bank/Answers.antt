@@ -1,6 +1,5 @@
 -- `effects::turn_bank` meets its contract: the two bits do not overlap.
 use native.Mathlib.Omega.{arith}
-use borrow.Author.Rules.{rules}
 use Rattle.words.proofs.Tests.{bit_le}
 use Rattle.paper.proofs.Bits.{low_one}
 use Rattle.effects.proofs.turn_bank.Goals as goal

@@ -1,5 +1,4 @@
 -- `ignoring::address_ok` meets its contract: each arm is a clause of the definition.
-use borrow.Author.Rules.{rules}
 use Rattle.ignoring.proofs.address_ok.Goals as goal
 
 pub returns-in-Bare : goal.returns-in-Bare

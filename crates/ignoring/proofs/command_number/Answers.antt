@@ -2,7 +2,6 @@
 use Rattle.paper.specs.Numbers.{command_number}
 use Rattle.words.proofs.Tests.{or_else_none}
 use mathlib.Core.Path.{◌∙◌}
-use borrow.Author.Rules.{rules}
 use Rattle.ignoring.proofs.command_number.Goals as goal
 
 pub returns : goal.returns

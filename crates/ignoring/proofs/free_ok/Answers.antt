@@ -1,5 +1,4 @@
 -- `ignoring::free_ok` meets its contract: each arm is a clause of the definition.
-use borrow.Author.Rules.{rules}
 use Rattle.ignoring.proofs.free_ok.Goals as goal
 
 pub returns-in-NoWork : goal.returns-in-NoWork

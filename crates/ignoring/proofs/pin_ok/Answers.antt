@@ -1,5 +1,4 @@
 -- `ignoring::pin_ok` meets its contract: each arm is a clause of the definition.
-use borrow.Author.Rules.{rules}
 use Rattle.ignoring.proofs.pin_ok.Goals as goal
 
 pub returns-in-Status : goal.returns-in-Status

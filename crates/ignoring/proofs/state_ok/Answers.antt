@@ -1,5 +1,4 @@
 -- `ignoring::state_ok` meets its contract: each arm is a clause of the definition.
-use borrow.Author.Rules.{rules}
 use Rattle.ignoring.proofs.state_ok.Goals as goal
 
 pub returns-in-Any : goal.returns-in-Any

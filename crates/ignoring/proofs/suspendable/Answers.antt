@@ -1,7 +1,6 @@
 -- `ignoring::suspendable` meets its contract: each arm is a case of the definition.
 use Rattle.words.proofs.Tests.{and_true, and_false}
 use mathlib.Core.Path.{sym}
-use borrow.Author.Rules.{rules}
 use Rattle.ignoring.proofs.suspendable.Goals as goal
 
 pub returns-in-Idle : goal.returns-in-Idle

@@ -1,8 +1,6 @@
 -- `ignoring::suspended_ok` meets its contract: it goes by whether the part is suspended, and then by the definition's test.
 use Rattle.words.proofs.Tests.{or_true, or_false}
-use borrow.Author.Tests.{not-true, not-false}
 use mathlib.Core.Path.{sym, ◌∙◌}
-use borrow.Author.Rules.{rules}
 use Rattle.ignoring.proofs.suspended_ok.Goals as goal
 
 pub returns-then-not-is_suspended : goal.returns-then-not-is_suspended

@@ -1,5 +1,4 @@
 -- `ignoring::write_ok` meets its contract: each arm is a clause of the definition.
-use borrow.Author.Rules.{rules}
 use Rattle.ignoring.proofs.write_ok.Goals as goal
 
 pub returns-in-Write : goal.returns-in-Write

@@ -1,13 +1,8 @@
 -- `lines::all_figures` meets its contract. The loop's invariant: what was looked at and what is left passes the test where all does.
 use Rattle.lines.proofs.Characters.{every_start, every_more, every_end}
 use Rattle.lines.specs.Characters.{is_figure}
-use Rattle.words.specs.Logic.{◌and◌}
-use Rattle.words.specs.Lists.{every}
-use lib.ListN.{length, drop}
-use mathlib.Core.Path.{◌≡◌, sym, ◌∙◌}
-use Prim.Native.Nat.{◌-◌}
+use mathlib.Core.Path.{sym, ◌∙◌}
 use native.Mathlib.Numerals.{add-one}
-use borrow.Author.Rules.{rules}
 use native.Mathlib.Omega.{arith}
 use Rattle.lines.proofs.all_figures.Goals as goal
 

@@ -1,13 +1,9 @@
-use Rattle.lines.proofs.Characters.{every_start, every_more, every_end}
 use Rattle.lines.specs.Characters.{is_figure}
 use Rattle.words.specs.Logic.{◌and◌}
 use Rattle.words.specs.Lists.{every}
 use lib.ListN.{length, drop}
-use mathlib.Core.Path.{◌≡◌, sym, ◌∙◌}
+use mathlib.Core.Path.{◌≡◌}
 use Prim.Native.Nat.{◌-◌}
-use native.Mathlib.Numerals.{add-one}
-use borrow.Author.Rules.{rules}
-use native.Mathlib.Omega.{arith}
 use Rattle.lines.proofs.all_figures.Given as goal
 
 abbrev pub invariant-loop-i : goal.invariant-loop-i

@@ -2,7 +2,6 @@
 use Rattle.lines.proofs.Lines.{begins_short}
 use Rattle.paper.specs.Bench.{begins}
 use mathlib.Core.Path.{sym}
-use borrow.Author.Rules.{rules}
 use Rattle.lines.proofs.begins_with.Goals as goal
 
 pub returns-then-line-lt2 : goal.returns-then-line-lt2

@@ -1,12 +1,8 @@
 -- `lines::bytes_of` meets its contract. The loop's invariant: the bytes so far, with those of the pairs that are left put behind them, are the bytes of all pairs.
 use Rattle.lines.proofs.Numerals.{pairs_more, pairs_end}
-use Rattle.paper.specs.Bench.{pairs}
-use lib.ListN.{length, drop, length-set}
-use lib.Seq.{sets}
-use mathlib.Core.Path.{◌≡◌, refl, sym, ◌∙◌}
-use Prim.Native.Nat.{◌-◌, ◌*◌}
+use lib.ListN.{length-set}
+use mathlib.Core.Path.{refl, sym, ◌∙◌}
 use native.Mathlib.Numerals.{add-one}
-use borrow.Author.Rules.{rules}
 use native.Mathlib.Omega.{arith}
 use Rattle.lines.proofs.bytes_of.Goals as goal
 

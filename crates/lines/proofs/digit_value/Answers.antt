@@ -2,7 +2,6 @@
 use Rattle.lines.proofs.Characters.{digit_range}
 use Rattle.paper.specs.Bench.{digit_value}
 use mathlib.Core.Path.{sym, ◌∙◌}
-use borrow.Author.Rules.{rules}
 use native.Mathlib.Omega.{arith}
 use Rattle.lines.proofs.digit_value.Goals as goal
 

@@ -1,6 +1,5 @@
 -- `lines::digits_ok` meets its contract: the tests are the definition.
 use Rattle.paper.specs.Bench.{digits_ok}
-use borrow.Author.Rules.{rules}
 use Rattle.lines.proofs.digits_ok.Goals as goal
 
 pub returns : goal.returns

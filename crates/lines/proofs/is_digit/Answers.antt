@@ -1,6 +1,5 @@
 -- `lines::is_digit` meets its contract: the two tests are the definition.
 use Rattle.paper.specs.Bench.{is_digit}
-use borrow.Author.Rules.{rules}
 use Rattle.lines.proofs.is_digit.Goals as goal
 
 pub returns : goal.returns

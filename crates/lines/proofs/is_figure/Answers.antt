@@ -1,5 +1,4 @@
 -- `lines::is_figure` meets its contract, for a hex digit and for a decimal one.
-use borrow.Author.Rules.{rules}
 use Rattle.lines.proofs.is_figure.Goals as goal
 
 pub returns-then-hex : goal.returns-then-hex

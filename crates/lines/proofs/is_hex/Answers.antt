@@ -1,6 +1,5 @@
 -- `lines::is_hex` meets its contract: the tests are the definition.
 use Rattle.paper.specs.Bench.{is_hex}
-use borrow.Author.Rules.{rules}
 use Rattle.lines.proofs.is_hex.Goals as goal
 
 pub returns : goal.returns

@@ -3,7 +3,6 @@ use Rattle.lines.proofs.Lines.{rest_is, digits_count, said}
 use Rattle.paper.specs.Bench.{line_of, begins, pairs_ok, digits_ok, letter_t, letter_l, letter_k}
 use Rattle.words.proofs.Tests.{and_r}
 use mathlib.Core.Bool.{true, false}
-use borrow.Author.Rules.{rules}
 use Rattle.lines.proofs.line_of.Goals as goal
 
 pub returns-then-both : goal.returns-then-both

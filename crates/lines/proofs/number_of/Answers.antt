@@ -1,11 +1,7 @@
 -- `lines::number_of` meets its contract. The loop's invariant: the number so far, and the digits that are left, are the numeral; and it has as many digits as were read.
-use Rattle.lines.proofs.Numerals.{tens, tens_most, numeral_more, numeral_end}
-use Rattle.paper.specs.Bench.{numeral_from}
-use lib.ListN.{length, drop}
-use mathlib.Core.Path.{◌≡◌, refl, sym, ◌∙◌}
-use Prim.Native.Nat.{◌-◌, ◌<◌}
+use Rattle.lines.proofs.Numerals.{tens_most, numeral_more, numeral_end}
+use mathlib.Core.Path.{refl, sym, ◌∙◌}
 use native.Mathlib.Numerals.{add-one}
-use borrow.Author.Rules.{rules}
 use native.Mathlib.Omega.{arith}
 use Rattle.lines.proofs.number_of.Goals as goal
 

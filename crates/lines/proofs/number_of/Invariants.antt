@@ -1,11 +1,8 @@
-use Rattle.lines.proofs.Numerals.{tens, tens_most, numeral_more, numeral_end}
+use Rattle.lines.proofs.Numerals.{tens}
 use Rattle.paper.specs.Bench.{numeral_from}
 use lib.ListN.{length, drop}
-use mathlib.Core.Path.{◌≡◌, refl, sym, ◌∙◌}
+use mathlib.Core.Path.{◌≡◌}
 use Prim.Native.Nat.{◌-◌, ◌<◌}
-use native.Mathlib.Numerals.{add-one}
-use borrow.Author.Rules.{rules}
-use native.Mathlib.Omega.{arith}
 use Rattle.lines.proofs.number_of.Given as goal
 
 abbrev pub invariant-loop-i : goal.invariant-loop-i

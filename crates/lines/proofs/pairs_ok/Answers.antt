@@ -1,6 +1,5 @@
 -- `lines::pairs_ok` meets its contract: the tests are the definition, with half as many characters against so many pairs.
 use Rattle.lines.proofs.Lines.{pairs_as}
-use borrow.Author.Rules.{rules}
 use Rattle.lines.proofs.pairs_ok.Goals as goal
 
 pub returns : goal.returns

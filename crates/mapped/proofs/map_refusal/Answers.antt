@@ -3,7 +3,6 @@ use mathlib.Core.Path.{sym, ap, ◌∙◌}
 use borrow.Author.Tests.{not-true, not-false}
 use Rattle.record_bytes.specs.declared.Found.{Found}
 use Rattle.mapped.proofs.InBytes.{map_fits, map_unheld, map_held}
-use borrow.Author.Rules.{rules}
 use Rattle.mapped.proofs.map_refusal.Goals as goal
 
 pub returns-then-map-array : goal.returns-then-map-array

@@ -5,7 +5,6 @@ use Rattle.record_bytes.specs.Read.{record_in}
 use Rattle.script.specs.InBytes.{script_of, ran_of}
 use Rattle.mapped.specs.InBytes.{board_bytes}
 use Rattle.mapped.proofs.InBytes.{same_bytes, refused_script, passed_script}
-use borrow.Author.Rules.{rules}
 use Rattle.mapped.proofs.script.Goals as goal
 
 pub returns-then-number-ne0 : goal.returns-then-number-ne0

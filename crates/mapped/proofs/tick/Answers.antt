@@ -4,7 +4,6 @@ use Rattle.paper.specs.Map.{MapTicked}
 use Rattle.mapped.specs.InBytes.{kept_of, board_bytes}
 use Rattle.record_bytes.specs.Read.{record_in}
 use Rattle.mapped.proofs.InBytes.{same_bytes, refused_ticks, worked_kept, passed_ticks, passed_bytes, marked_so}
-use borrow.Author.Rules.{rules}
 use Rattle.mapped.proofs.tick.Goals as goal
 
 pub returns-then-number-ne0 : goal.returns-then-number-ne0

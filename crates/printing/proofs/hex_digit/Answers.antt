@@ -1,7 +1,6 @@
 -- `printing::hex_digit` meets its contract, below ten and from ten on.
 use borrow.Author.Tests.{lt-ltb, le-ltb}
 use Rattle.paper.specs.Bench.{hex_digit}
-use borrow.Author.Rules.{rules}
 use native.Mathlib.Omega.{arith}
 use Rattle.printing.proofs.hex_digit.Goals as goal
 

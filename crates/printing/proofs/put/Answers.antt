@@ -1,6 +1,5 @@
 -- `printing::put` meets its contract: the character is set where there is room.
 use Rattle.printing.proofs.Text.{prints_one, prints_past}
-use borrow.Author.Rules.{rules}
 use native.Mathlib.Omega.{arith}
 use Rattle.printing.proofs.put.Goals as goal
 

@@ -3,7 +3,6 @@ use Rattle.printing.proofs.Text.{prints_then, prints_join}
 use Rattle.paper.specs.Bench.{space, place_text, answer_text}
 use mathlib.Core.List.{[], ◌∷◌}
 use lib.ListN.{length}
-use borrow.Author.Rules.{rules}
 use Rattle.printing.proofs.put_answer.Goals as goal
 
 pub returns : goal.returns

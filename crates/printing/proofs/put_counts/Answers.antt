@@ -2,7 +2,6 @@
 use mathlib.Core.List.{[], ◌∷◌}
 use Rattle.printing.proofs.Text.{prints_join}
 use Rattle.paper.specs.WearText.{wide_decimal}
-use borrow.Author.Rules.{rules}
 use Rattle.printing.proofs.put_counts.Goals as goal
 
 pub returns : goal.returns

@@ -1,6 +1,5 @@
 -- `printing::put_decimal` meets its contract: the character is printed after the number.
 use Rattle.printing.proofs.Text.{prints_then}
-use borrow.Author.Rules.{rules}
 use Rattle.printing.proofs.put_decimal.Goals as goal
 
 pub returns : goal.returns

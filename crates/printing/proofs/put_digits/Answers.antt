@@ -1,7 +1,6 @@
 -- `printing::put_digits` meets its contract: the digits are printed one after another.
 use Rattle.printing.proofs.Text.{prints_then}
 use Rattle.paper.specs.Bench.{decimal}
-use borrow.Author.Rules.{rules}
 use Rattle.printing.proofs.put_digits.Goals as goal
 
 pub returns : goal.returns

@@ -1,7 +1,6 @@
 -- `printing::put_five` meets its contract: the digits are printed one after another.
 use Rattle.printing.proofs.Text.{prints_then}
 use Rattle.paper.specs.WearText.{five_digits}
-use borrow.Author.Rules.{rules}
 use Rattle.printing.proofs.put_five.Goals as goal
 
 pub returns : goal.returns

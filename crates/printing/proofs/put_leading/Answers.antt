@@ -2,7 +2,6 @@
 use Rattle.printing.proofs.Text.{prints_none}
 use borrow.Author.Tests.{le-leb, lt-leb}
 use Rattle.paper.specs.Bench.{leading}
-use borrow.Author.Rules.{rules}
 use native.Mathlib.Omega.{arith}
 use Rattle.printing.proofs.put_leading.Goals as goal
 

@@ -1,6 +1,5 @@
 -- `printing::put_other` meets its contract: the line is its two characters.
 use Rattle.paper.specs.Bench.{other_text}
-use borrow.Author.Rules.{rules}
 use Rattle.printing.proofs.put_other.Goals as goal
 
 pub returns : goal.returns

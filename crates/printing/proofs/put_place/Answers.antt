@@ -1,7 +1,6 @@
 -- `printing::put_place` meets its contract, with a place and with none.
 use borrow.Author.Tests.{eq-eqb, ne_eqb}
 use Rattle.paper.specs.Bench.{place_text}
-use borrow.Author.Rules.{rules}
 use native.Mathlib.Omega.{arith}
 use Rattle.printing.proofs.put_place.Goals as goal
 

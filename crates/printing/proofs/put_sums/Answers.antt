@@ -3,7 +3,6 @@ use mathlib.Core.List.{[], ◌∷◌}
 use Rattle.printing.proofs.Text.{prints_then, prints_join}
 use Rattle.paper.specs.WearText.{counts_text, sums_text}
 use Rattle.paper.specs.Bench.{LF}
-use borrow.Author.Rules.{rules}
 use Rattle.printing.proofs.put_sums.Goals as goal
 
 pub returns : goal.returns

@@ -1,11 +1,7 @@
 -- `printing::put_text` meets its contract. The loop's invariant: so many characters of the text are printed.
-use Prim.Native.Nat.{◌-◌}
 use native.Mathlib.Numerals.{add-one}
-use lib.ListN.{length, take}
 use lib.Seq.{take-suc, take_all}
 use Rattle.printing.proofs.Text.{prints_none, prints_then, prints_length}
-use Rattle.printing.specs.Printed.{Prints}
-use borrow.Author.Rules.{rules}
 use native.Mathlib.Omega.{arith}
 use Rattle.printing.proofs.put_text.Goals as goal
 

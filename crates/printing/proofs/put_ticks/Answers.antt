@@ -2,7 +2,6 @@
 use Rattle.printing.proofs.Text.{prints_join}
 use Rattle.paper.specs.Bench.{LF, decimal, ticks_text}
 use mathlib.Core.List.{[], ◌∷◌}
-use borrow.Author.Rules.{rules}
 use Rattle.printing.proofs.put_ticks.Goals as goal
 
 pub returns : goal.returns

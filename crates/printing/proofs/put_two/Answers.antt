@@ -1,6 +1,5 @@
 -- `printing::put_two` meets its contract: the two characters are printed one after another.
 use Rattle.printing.proofs.Text.{prints_then}
-use borrow.Author.Rules.{rules}
 use Rattle.printing.proofs.put_two.Goals as goal
 
 pub returns : goal.returns

@@ -3,7 +3,6 @@ use mathlib.Core.List.{[], ◌∷◌, ◌++◌, append-nil}
 use Rattle.printing.proofs.Text.{prints_then, prints_join, word_joins}
 use Rattle.paper.specs.WearText.{full_word, counts_text, wide_decimal, wear_line}
 use Rattle.paper.specs.Bench.{space, LF}
-use borrow.Author.Rules.{rules}
 use Rattle.printing.proofs.put_wear.Goals as goal
 
 pub returns-then-is_full : goal.returns-then-is_full

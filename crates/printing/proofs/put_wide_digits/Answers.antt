@@ -2,7 +2,6 @@
 use Rattle.printing.proofs.Text.{prints_then}
 use borrow.Author.Tests.{lt-ltb, le-ltb}
 use Rattle.paper.specs.WearText.{wide_decimal}
-use borrow.Author.Rules.{rules}
 use native.Mathlib.Omega.{arith}
 use Rattle.printing.proofs.put_wide_digits.Goals as goal
 

@@ -2,8 +2,6 @@
 use Rattle.paper.specs.Numbers.{length_number, output_number, sound_number}
 use Rattle.words.proofs.Tests.{or_else_none}
 use mathlib.Core.Path.{◌∙◌}
-use borrow.Author.Rules.{rules}
-use native.Mathlib.Omega.{arith}
 use Rattle.refusals.proofs.later_refusal.Goals as goal
 
 pub returns : goal.returns

@@ -1,7 +1,5 @@
 -- `refusals::rows_number_or` meets its contract.
 use Rattle.paper.specs.Numbers.{rows_number}
-use borrow.Author.Rules.{rules}
-use native.Mathlib.Omega.{arith}
 use Rattle.refusals.proofs.rows_number_or.Goals as goal
 
 pub returns : goal.returns

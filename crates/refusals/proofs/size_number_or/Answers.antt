@@ -1,7 +1,5 @@
 -- `refusals::size_number_or` meets its contract: size and array are one test.
 use Rattle.paper.specs.Numbers.{size_number}
-use borrow.Author.Rules.{rules}
-use native.Mathlib.Omega.{arith}
 use Rattle.refusals.proofs.size_number_or.Goals as goal
 
 pub returns : goal.returns

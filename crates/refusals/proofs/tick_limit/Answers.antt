@@ -1,6 +1,5 @@
 -- `refusals::tick_limit` meets its contract: it goes by whether the part is the large one.
 use mathlib.Core.Path.{sym, ◌∙◌}
-use borrow.Author.Rules.{rules}
 use Rattle.refusals.proofs.tick_limit.Goals as goal
 
 pub returns-then-is_large : goal.returns-then-is_large

@@ -1,6 +1,5 @@
 -- `refusals::tick_number` meets its contract: it joins the four tests in the paper's order.
 use mathlib.Core.Path.{◌∙◌}
-use borrow.Author.Rules.{rules}
 use Rattle.words.proofs.Tests.{or_else_none}
 use Rattle.paper.specs.Numbers.{sound_number, ticks_number, tick_number}
 use Rattle.refusals.proofs.tick_number.Goals as goal

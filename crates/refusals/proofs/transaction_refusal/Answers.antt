@@ -1,7 +1,5 @@
 -- `refusals::transaction_refusal` meets its contract: the size first.
 use Rattle.paper.specs.Numbers.{transaction_refusal}
-use borrow.Author.Rules.{rules}
-use native.Mathlib.Omega.{arith}
 use Rattle.refusals.proofs.transaction_refusal.Goals as goal
 
 pub returns : goal.returns

@@ -4,7 +4,6 @@ use mathlib.Core.Path.{sym}
 use native.Mathlib.Nat.{zero-add}
 use lib.ListN.{get_or}
 use Rattle.paper.proofs.Addresses.{address_below}
-use borrow.Author.Rules.{rules}
 use native.Mathlib.Omega.{arith}
 use Rattle.sent.proofs.address_as_sent.Goals as goal
 

@@ -1,6 +1,5 @@
 -- `sent::address_in` meets its contract: a remainder by 0 leaves a number as it is.
 use native.Mathlib.Nat.{mod-zero}
-use borrow.Author.Rules.{rules}
 use Rattle.paper.specs.Address.{address_in}
 use Rattle.sent.proofs.address_in.Goals as goal
 

@@ -1,5 +1,4 @@
 -- `sent::begins` meets its contract: each arm is a clause of the definition.
-use borrow.Author.Rules.{rules}
 use Rattle.sent.proofs.begins.Goals as goal
 
 pub returns-in-Looks : goal.returns-in-Looks

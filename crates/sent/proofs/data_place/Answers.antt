@@ -1,5 +1,4 @@
 -- `sent::data_place` meets its contract: three or four bytes stand between.
-use borrow.Author.Rules.{rules}
 use Rattle.sent.proofs.data_place.Goals as goal
 
 pub returns-in-Three : goal.returns-in-Three

@@ -1,5 +1,4 @@
 -- `sent::erase_of` meets its contract: the base is that of the unit that holds the place.
-use borrow.Author.Rules.{rules}
 use Rattle.paper.specs.Erase.{erase_of}
 use Rattle.sent.proofs.erase_of.Goals as goal
 

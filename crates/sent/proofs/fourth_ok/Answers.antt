@@ -1,5 +1,4 @@
 -- `sent::fourth_ok` meets its contract: each arm is a clause of the definition.
-use borrow.Author.Rules.{rules}
 use Rattle.sent.proofs.fourth_ok.Goals as goal
 
 pub returns-in-Four : goal.returns-in-Four

@@ -1,6 +1,5 @@
 -- `sent::kept_count` meets its contract: the data is what follows the address bytes.
 use lib.ListN.{length-drop}
-use borrow.Author.Rules.{rules}
 use native.Mathlib.Omega.{arith}
 use Rattle.sent.proofs.kept_count.Goals as goal
 

@@ -1,5 +1,4 @@
 -- `sent::names_row` meets its contract: it joins the four tests as the definition does.
-use borrow.Author.Rules.{rules}
 use Rattle.sent.proofs.names_row.Goals as goal
 
 pub returns : goal.returns

@@ -1,5 +1,4 @@
 -- `sent::page_data` meets its contract: it is written over a page of zeros.
-use borrow.Author.Rules.{rules}
 use Rattle.sent.proofs.page_data.Goals as goal
 
 pub returns : goal.returns

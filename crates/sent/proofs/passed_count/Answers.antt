@@ -1,6 +1,5 @@
 -- `sent::passed_count` meets its contract: it counts the data that is not kept.
 use lib.ListN.{length-drop}
-use borrow.Author.Rules.{rules}
 use native.Mathlib.Omega.{arith}
 use Rattle.sent.proofs.passed_count.Goals as goal
 

@@ -1,5 +1,4 @@
 -- `sent::place_in` meets its contract: each arm is a clause of the definition.
-use borrow.Author.Rules.{rules}
 use Rattle.paper.specs.Address.{row_place}
 use Rattle.sent.proofs.place_in.Goals as goal
 

@@ -1,5 +1,4 @@
 -- `sent::program_of` meets its contract: base, start and count are the definition's.
-use borrow.Author.Rules.{rules}
 use Rattle.paper.proofs.Pages.{place_of}
 use Rattle.paper.specs.Program.{program_of}
 use Rattle.sent.proofs.program_of.Goals as goal

@@ -1,6 +1,5 @@
 -- `sent::row_base` meets its contract: the byte behind the first one names the row.
 use Rattle.paper.proofs.Addresses.{row_at_le}
-use borrow.Author.Rules.{rules}
 use native.Mathlib.Omega.{arith}
 use Rattle.sent.proofs.row_base.Goals as goal
 

@@ -4,7 +4,6 @@ use mathlib.Core.Path.{◌≡◌, ◌∙◌}
 use lib.ListN.{get_or}
 use Rattle.paper.proofs.Addresses.{row_at_le}
 use Rattle.paper.specs.Address.{row_at}
-use borrow.Author.Rules.{rules}
 use native.Mathlib.Omega.{arith}
 use Rattle.sent.proofs.row_byte.Goals as goal
 

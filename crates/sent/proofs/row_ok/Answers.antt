@@ -1,7 +1,6 @@
 -- `sent::row_ok` meets its contract: the tests are the definition's.
 use Rattle.paper.proofs.Addresses.{row_at_le}
 use Rattle.paper.specs.Address.{row_ok}
-use borrow.Author.Rules.{rules}
 use native.Mathlib.Omega.{arith}
 use Rattle.sent.proofs.row_ok.Goals as goal
 

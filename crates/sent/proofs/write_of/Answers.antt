@@ -1,5 +1,4 @@
 -- `sent::write_of` meets its contract: it holds the second byte.
-use borrow.Author.Rules.{rules}
 use Rattle.paper.specs.Registers.{write_of}
 use Rattle.sent.proofs.write_of.Goals as goal
 

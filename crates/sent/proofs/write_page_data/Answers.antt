@@ -5,7 +5,6 @@ use lib.ListN.{length-drop}
 use Rattle.paper.specs.Address.{address_count}
 use Rattle.paper.specs.Program.{no_data}
 use Rattle.sent.proofs.PageCopied.{page_copied}
-use borrow.Author.Rules.{rules}
 use borrow.Author.Tests.{eq-eqb, ne_eqb}
 use native.Mathlib.Omega.{arith}
 use Rattle.sent.proofs.write_page_data.Goals as goal

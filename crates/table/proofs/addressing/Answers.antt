@@ -1,5 +1,4 @@
 -- `table::addressing` meets its contract: each arm is a clause of the definition.
-use borrow.Author.Rules.{rules}
 use Rattle.paper.proofs.Bits.{low_one}
 use Rattle.table.proofs.addressing.Goals as goal
 

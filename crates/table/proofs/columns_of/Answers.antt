@@ -1,5 +1,4 @@
 -- `table::columns_of` meets its contract: each arm is the definition's line for its command.
-use borrow.Author.Rules.{rules}
 use Rattle.table.proofs.columns_of.Goals as goal
 
 pub returns-in-Read : goal.returns-in-Read

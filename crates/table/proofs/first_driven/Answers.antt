@@ -1,5 +1,4 @@
 -- `table::first_driven` meets its contract: where something is driven the answer is the lesser of its first place and n, else n.
-use borrow.Author.Rules.{rules}
 use Rattle.table.proofs.first_driven.Goals as goal
 
 pub returns-then-drives_any : goal.returns-then-drives_any

@@ -1,5 +1,4 @@
 -- `table::length_ok` meets its contract: each arm is a clause of the definition.
-use borrow.Author.Rules.{rules}
 use Rattle.table.proofs.length_ok.Goals as goal
 
 pub returns-in-Exactly : goal.returns-in-Exactly

@@ -1,6 +1,5 @@
 -- `ticks::advance` meets its contract: each arm is a clause of the definition, and the sum fits.
 use native.Mathlib.Omega.{arith}
-use borrow.Author.Rules.{rules}
 use Rattle.ticks.proofs.advance.Goals as goal
 
 pub overflow_add-result : goal.overflow_add-result

@@ -1,6 +1,5 @@
 -- `ticks::change_after` meets its contract: whether ticks are left decides.
 use borrow.Author.Tests.{eq-eqb, ne_eqb}
-use borrow.Author.Rules.{rules}
 use Rattle.ticks.proofs.change_after.Goals as goal
 
 pub returns-then-count-left : goal.returns-then-count-left

@@ -1,10 +1,8 @@
 -- `ticks::erase_pages` meets its contract. The loop's invariant: so many pages are set.
-use Prim.Native.Nat.{◌≤◌, ◌-◌}
 use mathlib.Core.Path.{◌≡◌, refl, ap, ◌∙◌}
 use native.Mathlib.Numerals.{add-one}
 use native.Mathlib.Omega.{arith}
 use lib.ListN.{length}
-use Rattle.ticks.specs.OneMemory.{pages_erased}
 use Rattle.ticks.proofs.OneMemory.{pages_length}
 use Rattle.ticks.proofs.erase_pages.Goals as goal
 

@@ -1,10 +1,6 @@
 use Prim.Native.Nat.{◌≤◌, ◌-◌}
-use mathlib.Core.Path.{◌≡◌, refl, ap, ◌∙◌}
-use native.Mathlib.Numerals.{add-one}
-use native.Mathlib.Omega.{arith}
-use lib.ListN.{length}
+use mathlib.Core.Path.{◌≡◌}
 use Rattle.ticks.specs.OneMemory.{pages_erased}
-use Rattle.ticks.proofs.OneMemory.{pages_length}
 use Rattle.ticks.proofs.erase_pages.Given as goal
 
 abbrev pub invariant-loop-i : goal.invariant-loop-i

@@ -1,5 +1,4 @@
 -- `ticks::finish` meets its contract: the part is made anew with the registers that the operation leaves.
-use borrow.Author.Rules.{rules}
 use Rattle.ticks.proofs.finish.Goals as goal
 
 pub returns : goal.returns

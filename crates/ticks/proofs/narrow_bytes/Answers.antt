@@ -1,7 +1,6 @@
 -- `ticks::narrow_bytes` meets its contract: the page is lent on, and goes back to its place.
 use Rattle.ticks.proofs.OneMemory.{narrowed_back}
 use Prim.Native.Nat.{◌+◌, ◌-◌}
-use borrow.Author.Rules.{rules}
 use native.Mathlib.Omega.{arith}
 use Rattle.ticks.proofs.narrow_bytes.Goals as goal
 

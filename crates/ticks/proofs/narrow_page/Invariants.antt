@@ -1,14 +1,6 @@
-use native.Mathlib.Nat.{zero-add}
-use mathlib.Core.List.{List}
-use Prim.Native.Nat.{ℕ, ◌≤◌, ◌-◌}
-use mathlib.Core.Path.{◌≡◌, refl, ap, ◌∙◌}
-use native.Mathlib.Numerals.{add-one}
-use lib.ListN.{length}
-use borrow.Author.Rules.{rules}
-use Rattle.paper.specs.Program.{page_place, narrowed}
+use Prim.Native.Nat.{◌≤◌, ◌-◌}
+use mathlib.Core.Path.{◌≡◌}
 use Rattle.ticks.specs.OneMemory.{bytes_narrowed}
-use Rattle.ticks.proofs.OneMemory.{bytes_length}
-use native.Mathlib.Omega.{arith}
 use Rattle.ticks.proofs.narrow_page.Given as goal
 
 abbrev pub invariant-loop-i : goal.invariant-loop-i

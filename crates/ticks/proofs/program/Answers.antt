@@ -1,7 +1,6 @@
 -- `ticks::program` meets its contract: the test decides, and it is what the run asks for.
 use mathlib.Core.Path.{sym, ◌∙◌}
 use borrow.Author.Tests.{leb-true}
-use borrow.Author.Rules.{rules}
 use Rattle.words.proofs.Tests.{and_l, and_r}
 use Rattle.ticks.proofs.program.Goals as goal
 

@@ -4,7 +4,6 @@ use mathlib.Core.Path.{◌≡◌, ap, ◌∙◌}
 use mathlib.Core.Bool.{Bool}
 use lib.Dec.{leb}
 use native.Mathlib.Omega.{arith}
-use borrow.Author.Rules.{rules}
 use Rattle.words.specs.Logic.{◌and◌}
 use Rattle.words.proofs.Tests.{same_leb}
 use Rattle.ticks.proofs.program_within.Goals as goal

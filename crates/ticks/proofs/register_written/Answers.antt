@@ -1,7 +1,6 @@
 -- `ticks::register_written` meets its contract: each arm is a clause of the definition, and an OR of two halves of a byte is one.
 use Prim.Native.Nat.{◌/◌, ◌<◌}
 use lib.Bits.{bit_or, or_lt}
-use borrow.Author.Rules.{rules}
 use native.Mathlib.Omega.{arith}
 use Rattle.ticks.proofs.register_written.Goals as goal
 

@@ -7,7 +7,6 @@ use Rattle.types.specs.declared.Work.{Work}
 use Rattle.types.specs.declared.Memory.TheVariants.{Array, Rows}
 use lib.ListN.{length}
 use mathlib.Core.Path.{◌≡◌, sym, ap, ◌∙◌}
-use borrow.Author.Rules.{rules}
 use Rattle.ticks.proofs.run.Goals as goal
 
 pub returns-in-NoWork : goal.returns-in-NoWork

@@ -1,5 +1,4 @@
 -- `ticks::stored_after` meets its contract: each arm is a clause of the definition.
-use borrow.Author.Rules.{rules}
 use Rattle.ticks.proofs.stored_after.Goals as goal
 
 pub returns-in-Write : goal.returns-in-Write

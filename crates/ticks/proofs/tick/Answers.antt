@@ -1,5 +1,5 @@
 -- `ticks::tick` meets its contract: what is told is made of the record.
-use mathlib.Core.Path.{◌≡◌, sym, ◌∙◌}
+use mathlib.Core.Path.{◌≡◌, ◌∙◌}
 use lib.ListN.{length}
 use Rattle.types.specs.declared.Memory.TheVariants.{Array, Rows}
 use Rattle.paper.specs.Sizes.{page_bytes}

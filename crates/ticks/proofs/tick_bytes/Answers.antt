@@ -5,7 +5,6 @@ use Rattle.record_bytes.specs.declared.Found.{Found}
 use Rattle.record_bytes.specs.Read.{record_in}
 use Rattle.record_bytes.proofs.Back.{held_length}
 use Rattle.ticks.proofs.InBytes.{unheld_worked, unheld_tick_bytes, unheld_memory, told_worked, told_bytes, told_memory}
-use borrow.Author.Rules.{rules}
 use native.Mathlib.Omega.{arith}
 use Rattle.ticks.proofs.tick_bytes.Goals as goal
 

@@ -3,7 +3,6 @@ use mathlib.Core.Path.{sym, ◌∙◌}
 use borrow.Author.Tests.{eq-eqb, ne_eqb}
 use Rattle.ticks.proofs.OneMemory.{lent_pages}
 use Rattle.ticks.specs.Waited.{waited_of, waited_memory}
-use borrow.Author.Rules.{rules}
 use Rattle.ticks.proofs.tick_part.Goals as goal
 
 pub returns-then-number-ne0 : goal.returns-then-number-ne0

@@ -1,7 +1,6 @@
 -- `ticks::touch` meets its contract: the run is on the memory that the operation is of, and leaves the other.
 use mathlib.Core.Path.{◌≡◌, sym, ◌∙◌}
 use lib.ListN.{length}
-use borrow.Author.Rules.{rules}
 use Rattle.types.specs.declared.Memory.TheVariants.{Array, Rows}
 use Rattle.paper.specs.Erase.{memory_of}
 use Rattle.ticks.proofs.OneMemory.{own_erase, other_erase, own_program, other_program, ran_write}

@@ -7,7 +7,6 @@ use Rattle.types.specs.declared.Memory.TheVariants.{Array, Rows}
 use lib.ListN.{length}
 use mathlib.Core.Path.{◌≡◌, ap, ◌∙◌}
 use Prim.Native.Nat.{ℕ, min}
-use borrow.Author.Rules.{rules}
 use native.Mathlib.Omega.{arith}
 use Rattle.ticks.proofs.work.Goals as goal
 

@@ -6,7 +6,6 @@ use Rattle.types.specs.declared.Columns.{Columns}
 use borrow.Author.Tests.{eq-eqb, ne_eqb}
 use native.Mathlib.Omega.{arith}
 use mathlib.Core.Path.{sym, ap, ◌∙◌}
-use borrow.Author.Rules.{rules}
 use Rattle.transact.proofs.answer_to.Goals as goal
 
 pub returns-then-number-eq28 : goal.returns-then-number-eq28

@@ -1,6 +1,5 @@
 -- `transact::bar` meets its contract: all is FFh, and the command's error bits are set.
 use mathlib.Core.Path.{refl}
-use borrow.Author.Rules.{rules}
 use Rattle.transact.proofs.bar.Goals as goal
 
 pub returns : goal.returns

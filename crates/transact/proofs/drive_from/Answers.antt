@@ -2,7 +2,6 @@
 use Prim.Native.Nat.{◌-◌}
 use mathlib.Core.Path.{◌∙◌}
 use native.Mathlib.Omega.{arith}
-use borrow.Author.Rules.{rules}
 use Rattle.transact.proofs.Filled.{driven_blank}
 use Rattle.transact.proofs.drive_from.Goals as goal
 

@@ -3,7 +3,6 @@ use Prim.Native.Nat.{◌-◌, min}
 use mathlib.Core.Path.{◌≡◌, ◌∙◌}
 use native.Mathlib.Omega.{arith}
 use lib.ListN.{length, drop, length-drop}
-use borrow.Author.Rules.{rules}
 use Rattle.words.proofs.Lists.{take_min}
 use Rattle.transact.proofs.drive_row.Goals as goal
 

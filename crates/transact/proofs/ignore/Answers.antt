@@ -1,6 +1,5 @@
 -- `transact::ignore` meets its contract: all is FFh, and the armed mark is cleared.
 use mathlib.Core.Path.{refl}
-use borrow.Author.Rules.{rules}
 use Rattle.transact.proofs.ignore.Goals as goal
 
 pub returns : goal.returns

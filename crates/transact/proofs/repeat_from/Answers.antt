@@ -2,7 +2,6 @@
 use Prim.Native.Nat.{◌-◌}
 use native.Mathlib.Omega.{arith}
 use lib.ListN.{length}
-use borrow.Author.Rules.{rules}
 use Rattle.transact.proofs.Filled.{repeated_blank}
 use Rattle.transact.proofs.repeat_from.Goals as goal
 

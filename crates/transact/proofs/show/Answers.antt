@@ -1,6 +1,5 @@
 -- `transact::show` meets its contract: each arm drives the bytes of its source.
 use mathlib.Core.Path.{refl, sym, ◌∙◌}
-use borrow.Author.Rules.{rules}
 use Rattle.types.specs.declared.Source.TheVariants.{ArrayBytes, RowBytes, StatusByte, FunctionByte, IdentityBytes, MakerPair, DeviceByte, ExtendedByte, BankByte}
 use Rattle.transact.proofs.Outputs.{driven_output, some_bytes, blank_output, row_inside}
 use Rattle.transact.proofs.show.Goals as goal

@@ -1,6 +1,5 @@
 -- `transact::transact` meets its contract: the outcome is made of the record.
 use Rattle.paper.specs.Calls.{transacted}
-use borrow.Author.Rules.{rules}
 use Rattle.transact.proofs.transact.Goals as goal
 
 pub returns : goal.returns

@@ -6,7 +6,6 @@ use Rattle.types.specs.declared.Decoded.TheVariants.{Known, Unknown}
 use borrow.Author.Tests.{eq-eqb, ne_eqb}
 use lib.ListN.{get_or}
 use mathlib.Core.Path.{◌≡◌, sym, ap, ◌∙◌}
-use borrow.Author.Rules.{rules}
 use Rattle.transact.proofs.transact_part.Goals as goal
 
 pub returns-then-number-ne0 : goal.returns-then-number-ne0

@@ -1,5 +1,4 @@
 -- `yawlspar::given_number` meets its contract: it joins the tests in the definition's order.
-use borrow.Author.Rules.{rules}
 use Rattle.words.proofs.Tests.{or_else_none}
 use Rattle.yawlspar.specs.Face.{given_number}
 use Rattle.yawlspar.proofs.given_number.Goals as goal

@@ -1,7 +1,6 @@
 -- `yawlspar::yawlspar_power_up` meets its contract: refused, the buffer is left alone; else it has the record's length and takes its bytes.
 use mathlib.Core.Path.{sym, ap, ◌∙◌}
 use native.Mathlib.Omega.{arith}
-use borrow.Author.Rules.{rules}
 use Rattle.record_bytes.specs.Layout.{record_bytes}
 use Rattle.record_bytes.proofs.Back.{written_in}
 use Rattle.yawlspar.specs.Face.{asked}

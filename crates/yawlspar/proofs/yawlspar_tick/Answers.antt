@@ -4,7 +4,6 @@ use mathlib.Core.Path.{ap, ◌∙◌}
 use Rattle.types.specs.declared.Worked.{Worked}
 use Rattle.yawlspar.specs.Face.{packed}
 use Rattle.yawlspar.proofs.Face.{worked_answer}
-use borrow.Author.Rules.{rules}
 use Rattle.yawlspar.proofs.yawlspar_tick.Goals as goal
 
 pub returns : goal.returns

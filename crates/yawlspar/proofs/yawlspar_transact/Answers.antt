@@ -7,7 +7,6 @@ use Rattle.record_bytes.specs.Read.{identity_in, record_in}
 use Rattle.record_bytes.proofs.Back.{held_length}
 use Rattle.yawlspar.proofs.Face.{packs, unheld_answer, unheld_bytes, unheld_output, told_answer, told_bytes, told_output}
 use Rattle.yawlspar.proofs.FirstPlace.{first_packs}
-use borrow.Author.Rules.{rules}
 use native.Mathlib.Omega.{arith}
 use lib.Seq.{take_all}
 use Rattle.yawlspar.proofs.yawlspar_transact.Goals as goal

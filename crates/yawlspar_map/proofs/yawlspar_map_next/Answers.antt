@@ -1,7 +1,6 @@
 -- `yawlspar_map::yawlspar_map_next` meets its contract: a page, the number of pages or the number is packed.
 use mathlib.Core.Path.{◌∙◌}
 use Rattle.yawlspar_map.proofs.Face.{page_answer, few_pages, none_answer, refused_answer}
-use borrow.Author.Rules.{rules}
 use native.Mathlib.Omega.{arith}
 use Rattle.yawlspar_map.proofs.yawlspar_map_next.Goals as goal
 

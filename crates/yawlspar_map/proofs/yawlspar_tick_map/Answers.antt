@@ -1,7 +1,6 @@
 -- `yawlspar_map::yawlspar_tick_map` meets its contract: what the ticks answer is packed.
 use mathlib.Core.Path.{◌∙◌}
 use Rattle.yawlspar_map.proofs.Face.{kept_answer}
-use borrow.Author.Rules.{rules}
 use Rattle.yawlspar_map.proofs.yawlspar_tick_map.Goals as goal
 
 pub returns : goal.returns

@@ -1,7 +1,6 @@
 -- `yawlspar_script::answer` meets its contract: each verdict is packed as the definition packs it.
 use mathlib.Core.Path.{sym}
 use native.Mathlib.Nat.{add-zero}
-use borrow.Author.Rules.{rules}
 use Rattle.yawlspar_script.proofs.answer.Goals as goal
 
 pub returns-in-Step : goal.returns-in-Step

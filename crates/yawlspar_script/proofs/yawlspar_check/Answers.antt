@@ -1,6 +1,5 @@
 -- `yawlspar_script::yawlspar_check` meets its contract: what the check says is packed.
 use mathlib.Core.Path.{ap, ◌∙◌}
-use borrow.Author.Rules.{rules}
 use Rattle.yawlspar_script.specs.Face.{check_answer}
 use Rattle.yawlspar_script.proofs.yawlspar_check.Goals as goal
 

@@ -4,7 +4,6 @@ use mathlib.Core.Path.{ap, ◌∙◌}
 use Rattle.yawlspar.specs.Face.{packed}
 use Rattle.script.specs.declared.Ran.{Ran}
 use Rattle.yawlspar_script.specs.Face.{script_answer}
-use borrow.Author.Rules.{rules}
 use Rattle.yawlspar_script.proofs.yawlspar_script.Goals as goal
 
 pub returns : goal.returns

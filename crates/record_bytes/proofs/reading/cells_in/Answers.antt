@@ -1,6 +1,5 @@
 -- `record_bytes::reading::cells_in` meets its contract: the bytes stand at their places, and the numbers are those of eight bytes each.
 use Rattle.record_bytes.specs.Read.{cells_in}
-use borrow.Author.Rules.{rules}
 use Rattle.record_bytes.proofs.reading.cells_in.Goals as goal
 
 pub returns : goal.returns

@@ -1,14 +1,13 @@
 -- `record_bytes::reading::doing_in` meets its contract: in each phase that the kinds tell, the cells are the operations' own.
 use Prim.Native.Nat.{ℕ, ◌<◌}
-use mathlib.Core.Path.{◌≡◌, refl, sym, ap, ◌∙◌}
-use mathlib.Core.Bool.{Bool, true, false, not}
+use mathlib.Core.Path.{◌≡◌, refl, sym, ◌∙◌}
+use mathlib.Core.Bool.{true, not}
 use lib.ListN.{get_or}
 use Rattle.types.specs.declared.Phase.TheVariants.{Idle, Busy, Suspended, Nested}
 use Rattle.types.specs.declared.Work.TheVariants.{NoWork, At}
 use Rattle.words.proofs.Tests.{and_l, and_r}
 use Rattle.cells.proofs.Own.{own_told}
 use Rattle.record_bytes.proofs.Parts.{no_work, some_work, none_there, some_there, left_fails, doing_told}
-use borrow.Author.Rules.{rules}
 use borrow.Author.Tests.{eq-eqb}
 use lib.Dec.{eqb}
 use native.Mathlib.Omega.{arith}

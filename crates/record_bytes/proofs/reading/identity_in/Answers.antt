@@ -1,5 +1,4 @@
 -- `reading::identity_in` meets its contract: each byte is read at its place.
-use borrow.Author.Rules.{rules}
 use Rattle.record_bytes.proofs.reading.identity_in.Goals as goal
 
 pub returns : goal.returns

@@ -1,7 +1,6 @@
 -- `record_bytes::reading::is_none` meets its contract: it joins the tests of the five cells.
 use Rattle.cells.proofs.Own.{none_told}
 use mathlib.Core.Path.{sym}
-use borrow.Author.Rules.{rules}
 use Rattle.record_bytes.proofs.reading.is_none.Goals as goal
 
 pub returns : goal.returns

@@ -1,5 +1,4 @@
 -- `record_bytes::reading::marks_in` meets its contract: it joins the three tests.
-use borrow.Author.Rules.{rules}
 use Rattle.record_bytes.specs.Read.{marks_in}
 use Rattle.record_bytes.proofs.reading.marks_in.Goals as goal
 

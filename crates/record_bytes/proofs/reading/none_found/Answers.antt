@@ -1,7 +1,6 @@
 -- `record_bytes::reading::none_found` meets its contract: it is what nothing held comes to.
 use Rattle.words.specs.Logic.{◌and◌}
 use Rattle.record_bytes.specs.Read.{nothing}
-use borrow.Author.Rules.{rules}
 use Rattle.record_bytes.proofs.reading.none_found.Goals as goal
 
 pub returns : goal.returns

@@ -1,6 +1,5 @@
 -- `record_bytes::reading::number_in` meets its contract: each byte times its place, and the sum of eight bytes fits.
 use Rattle.record_bytes.proofs.Laid.{eight_bytes}
-use borrow.Author.Rules.{rules}
 use native.Mathlib.Omega.{arith}
 use Rattle.record_bytes.proofs.reading.number_in.Goals as goal
 

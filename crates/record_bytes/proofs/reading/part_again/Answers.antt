@@ -3,7 +3,6 @@ use mathlib.Core.Path.{ap}
 use borrow.Author.Tests.{eq-eqb, ne_eqb}
 use Rattle.record_bytes.specs.declared.Found.{Found}
 use Rattle.record_bytes.specs.Read.{nothing, part_again}
-use borrow.Author.Rules.{rules}
 use Rattle.record_bytes.proofs.reading.part_again.Goals as goal
 
 pub returns-then-bytes-eq-END : goal.returns-then-bytes-eq-END

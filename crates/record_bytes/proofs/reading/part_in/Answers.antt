@@ -1,7 +1,6 @@
 -- `record_bytes::reading::part_in` meets its contract: every field is read at its place; two bytes are below 65,536.
 use Rattle.record_bytes.specs.Read.{part_in}
 use Rattle.record_bytes.proofs.Laid.{two_bytes}
-use borrow.Author.Rules.{rules}
 use native.Mathlib.Omega.{arith}
 use Rattle.record_bytes.proofs.reading.part_in.Goals as goal
 

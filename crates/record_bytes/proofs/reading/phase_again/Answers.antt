@@ -7,7 +7,6 @@ use Rattle.words.proofs.Tests.{and_l, and_r}
 use Rattle.record_bytes.specs.Layout.{running_at, halted_at}
 use Rattle.record_bytes.specs.Read.{phase_again}
 use Rattle.record_bytes.proofs.Parts.{idle_phase, doing_phase}
-use borrow.Author.Rules.{rules}
 use native.Mathlib.Omega.{arith}
 use Rattle.record_bytes.proofs.reading.phase_again.Goals as goal
 

@@ -2,13 +2,11 @@
 use Prim.Native.Nat.{ℕ, ◌<◌}
 use mathlib.Core.Path.{sym, ap, ◌∙◌}
 use lib.ListN.{get_or}
-use borrow.Author.Tests.{not-true, not-false}
 use Rattle.types.specs.declared.Phase.TheVariants.{Idle}
 use Rattle.words.proofs.Tests.{and_l, and_r}
 use Rattle.paper.specs.Soundness.{sound_of}
 use Rattle.record_bytes.specs.Layout.{running_at, halted_at}
 use Rattle.record_bytes.proofs.Parts.{holds_not, unmarked, none_there, idle_held, idle_phase, idle_judged, lent_page, held_doing, doing_phase, found_some, found_none}
-use borrow.Author.Rules.{rules}
 use native.Mathlib.Omega.{arith}
 use Rattle.record_bytes.proofs.reading.read.Goals as goal
 

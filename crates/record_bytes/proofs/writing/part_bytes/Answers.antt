@@ -1,6 +1,5 @@
 -- `record_bytes::writing::part_bytes` meets its contract: byte by byte it is the definition.
 use Rattle.record_bytes.proofs.Laid.{part_as}
-use borrow.Author.Rules.{rules}
 use Rattle.record_bytes.proofs.writing.part_bytes.Goals as goal
 
 pub returns : goal.returns

@@ -1,7 +1,6 @@
 -- `record_bytes::writing::write_change` meets its contract: an arm for each change; a buffer of another length is left.
 use Rattle.record_bytes.specs.Layout.{change_written}
 use borrow.Author.Tests.{eq-eqb, ne_eqb}
-use borrow.Author.Rules.{rules}
 use Rattle.record_bytes.proofs.writing.write_change.Goals as goal
 
 pub returns-then-bytes-ne-END : goal.returns-then-bytes-ne-END

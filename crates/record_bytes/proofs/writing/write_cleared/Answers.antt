@@ -6,7 +6,6 @@ use Rattle.record_bytes.proofs.Laid.{phase_room, part_laid, idle_laid, idle_head
 use lib.ListN.{replicate}
 use mathlib.Core.Path.{◌∙◌, ap}
 use Prim.Native.Nat.{ℕ}
-use borrow.Author.Rules.{rules}
 use Rattle.record_bytes.proofs.writing.write_cleared.Goals as goal
 
 pub returns : goal.returns

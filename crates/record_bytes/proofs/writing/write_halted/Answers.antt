@@ -4,7 +4,6 @@ use lib.ListN.{replicate}
 use mathlib.Core.Path.{◌∙◌, ap}
 use mathlib.Core.List.{List}
 use Prim.Native.Nat.{ℕ}
-use borrow.Author.Rules.{rules}
 use Rattle.record_bytes.proofs.writing.write_halted.Goals as goal
 
 pub returns : goal.returns

@@ -4,7 +4,6 @@ use Rattle.record_bytes.specs.Layout.{operation_bytes}
 use lib.ListN.{length, replicate}
 use mathlib.Core.Path.{◌∙◌, sym, ap}
 use Prim.Native.Nat.{ℕ}
-use borrow.Author.Rules.{rules}
 use native.Mathlib.Omega.{arith}
 use Rattle.record_bytes.proofs.writing.write_operation.Goals as goal
 

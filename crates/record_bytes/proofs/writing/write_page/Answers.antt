@@ -1,7 +1,6 @@
 -- `record_bytes::writing::write_page` meets its contract: an arm for each; what is filled has a page's length.
 use mathlib.Core.Path.{◌∙◌}
 use borrow.Author.Tests.{eq-eqb}
-use borrow.Author.Rules.{rules}
 use Rattle.paper.specs.Program.{no_data}
 use Rattle.record_bytes.proofs.writing.write_page.Goals as goal
 

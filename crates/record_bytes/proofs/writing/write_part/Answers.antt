@@ -4,7 +4,6 @@ use lib.ListN.{drop}
 use Prim.Native.Nat.{ℕ}
 use mathlib.Core.List.{List, ◌++◌}
 use Rattle.record_bytes.specs.Layout.{part_length}
-use borrow.Author.Rules.{rules}
 use Rattle.record_bytes.proofs.writing.write_part.Goals as goal
 
 pub returns : goal.returns

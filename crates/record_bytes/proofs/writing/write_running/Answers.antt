@@ -1,7 +1,6 @@
 -- `record_bytes::writing::write_running` meets its contract: what runs is written in its place, and what the part is before; all else stays.
 use Rattle.record_bytes.proofs.Laid.{part_kept}
 use mathlib.Core.Path.{◌∙◌}
-use borrow.Author.Rules.{rules}
 use Rattle.record_bytes.proofs.writing.write_running.Goals as goal
 
 pub returns : goal.returns

@@ -2,7 +2,6 @@
 use Rattle.record_bytes.proofs.Laid.{running_header_length, page_there, page_laid}
 use Rattle.record_bytes.specs.Layout.{header_running, change_written}
 use borrow.Author.Tests.{eq-eqb, ne_eqb}
-use borrow.Author.Rules.{rules}
 use Rattle.record_bytes.proofs.writing.write_runs.Goals as goal
 
 pub returns-then-bytes-ne-END : goal.returns-then-bytes-ne-END

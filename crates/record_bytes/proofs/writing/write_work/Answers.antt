@@ -3,7 +3,6 @@ use Rattle.record_bytes.proofs.Laid.{none_bytes}
 use lib.ListN.{replicate}
 use mathlib.Core.Path.{◌∙◌, ap}
 use Prim.Native.Nat.{ℕ}
-use borrow.Author.Rules.{rules}
 use Rattle.record_bytes.proofs.writing.write_work.Goals as goal
 
 pub returns-in-NoWork : goal.returns-in-NoWork

@@ -1,10 +1,8 @@
 -- `record_bytes::writing::write_works` meets its contract: both are copied to their places, and what the part is before.
 use Rattle.record_bytes.specs.Layout.{operation_length}
-use Rattle.record_bytes.proofs.Laid.{running_room, put_room, works_put}
-use Rattle.runs.proofs.Copied.{copied_whole}
+use Rattle.record_bytes.proofs.Laid.{works_put}
 use lib.ListN.{length}
 use mathlib.Core.Path.{◌≡◌, ◌∙◌}
-use native.Mathlib.Omega.{arith}
 use borrow.Author.Rules.{rules}
 use Rattle.record_bytes.proofs.writing.write_works.Goals as goal
 

@@ -1,6 +1,5 @@
 -- `yawlspar::numbers::yawlspar_page_place` meets its contract: the two tests are the definition's, and the place is the page's.
 use borrow.Author.Tests.{lt-ltb, le-ltb}
-use borrow.Author.Rules.{rules}
 use Rattle.paper.specs.CBench.{place_answer}
 use Rattle.words.specs.Logic.{◌and◌}
 use Rattle.yawlspar.proofs.numbers.yawlspar_page_place.Goals as goal

@@ -1,6 +1,5 @@
 -- `yawlspar::numbers::yawlspar_protected` meets its contract: where no block is protected the answer is 0; else the part has a size, and the address's block is one of the protected ones or not.
 use native.Mathlib.Omega.{arith}
-use borrow.Author.Rules.{rules}
 use Rattle.yawlspar.proofs.Question.{none_held, some_held}
 use Rattle.yawlspar.proofs.numbers.yawlspar_protected.Goals as goal
 

@@ -1,6 +1,5 @@
 -- `yawlspar::numbers::yawlspar_protected_count` meets its contract: it is the count of the blocks that the protection question answers.
 use mathlib.Core.Path.{ap}
-use borrow.Author.Rules.{rules}
 use Rattle.types.specs.declared.Blocks.{Blocks}
 use Rattle.yawlspar.proofs.numbers.yawlspar_protected_count.Goals as goal
 
