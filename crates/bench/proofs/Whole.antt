@@ -1,5 +1,5 @@
 -- What is written is what bench prints for all that is read.
-use Rattle.std.specs.Prelude.{◌≡◌, ℕ, zero, suc, ◌*◌, ◌≤◌, min, List, [], ◌∷◌, ◌++◌, length, take, None, Some, IfSome}
+use Rattle.std.specs.Prelude.{◌≡◌, ℕ, zero, suc, ◌*◌, ◌≤◌, min, List, [], ◌∷◌, length, take, None, Some, IfSome, Result, Ok, Err, OnErr}
 use Rattle.std.specs.Io.KnownBytes.{Appends, Consumes}
 use Rattle.std.specs.declared.option.Option.{Option}
 use Rattle.paper.specs.Board.{Board}
@@ -68,3 +68,9 @@ known_rest limit None rest got el h p = tt
 known_rest limit (Some input) rest got el h p =
     let g : got ≡ take input_limit input = rw el at h in
     subst (Consumes (Some input) rest) g p
+
+-- no more is taken than there is room for
+pub few_taken : {T E : Type 0} (r : Result T E) (a b : Option (List ℕ)) (buffer : List ℕ) (n : ℕ) → length buffer ≡ input_limit → Consumes a b (take n buffer)
+    → OnErr r ((taken : List ℕ) × (length taken ≤ input_limit) × Consumes a b taken)
+few_taken (Ok x) a b buffer n e p = tt
+few_taken (Err x) a b buffer n e p = (take n buffer, simp length-take (omega arith), p)

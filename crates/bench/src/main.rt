@@ -2,7 +2,8 @@
 // an input is at most four times as long (proofs/Fits.antt of bench_lines). Nothing is allocated.
 #![tactic(auto)]
 
-ghost use Rattle.std.specs.Prelude.{ℕ, [], ◌≤◌, length, take, IfSome, IfOk, OnOk, OnErr, ◌≡◌};
+ghost use Rattle.std.specs.Prelude.{◌≡◌, ◌≢◌, ℕ, ◌≤◌, List, [], length, take, IfSome, IfOk, IfErr, OnOk, OnErr};
+ghost use Rattle.std.specs.IoError.{error_kind};
 ghost use Rattle.std.specs.Io.KnownBytes.{Appends, Consumes};
 ghost use Rattle.words.specs.Logic.{when_zero};
 ghost use Rattle.paper.specs.Bench.{input_limit, bench_text};
@@ -11,12 +12,17 @@ ghost use Rattle.bench_lines.specs.Lent.{lent_number};
 use std::io;
 use std::io::{Error, ErrorKind, Read, Write};
 
-// Reads until the buffer is full or nothing is left, and answers how many bytes it read. An interrupted read is tried again.
+// Reads until the buffer is full or a read gives nothing, and answers how many bytes it read. A read that is
+// interrupted is tried again.
 fn read_full<R: Read>(reader: &mut R, buffer: &mut [u8]) -> io::Result<usize>
+    // At any reader.
     ensures within { IfOk result (λ n. n ≤ length buffer.new) }
-    ensures taken { IfOk result (λ n. Consumes (R.remaining reader.old) (R.remaining reader.new) (take n buffer.new)) }
+    ensures retried { IfErr result (λ e. error_kind e ≢ ErrorKind.Interrupted) }
+
+    // Where the bytes are known.
     ensures whole { IfOk result (λ n. IfSome (R.remaining reader.old)
         (λ input. take n buffer.new ≡ take (length buffer.old) input)) }
+    ensures taken { IfOk result (λ n. Consumes (R.remaining reader.old) (R.remaining reader.new) (take n buffer.new)) }
     ensures none_lost { OnErr result ((n : ℕ) × Consumes (R.remaining reader.old) (R.remaining reader.new) (take n buffer.new)) }
 {
     let mut at = 0;
@@ -59,6 +65,8 @@ fn run<R: Read, W: Write>(reader: &mut R, writer: &mut W) -> io::Result<()>
         (λ input. Appends (W.contents writer.old) (W.contents writer.new) (bench_text input))) }
     ensures rest { OnOk result (IfSome (R.remaining reader.old)
         (λ input. Consumes (R.remaining reader.old) (R.remaining reader.new) (take input_limit input))) }
+    ensures no_more { OnErr result ((taken : List ℕ) × (length taken ≤ input_limit)
+        × Consumes (R.remaining reader.old) (R.remaining reader.new) taken) }
 {
     let mut input = [0u8; 65536];
     let mut array = [0u8; 65536];
