@@ -1,7 +1,6 @@
 -- What is written is what bench prints for all that is read.
-use Rattle.std.specs.Prelude.{◌≡◌, ℕ, zero, suc, ◌*◌, ◌≤◌, min, List, [], ◌∷◌, ◌++◌, length, take, None, Some, IfSome}
-use Rattle.std.specs.Io.KnownBytes.{Appends}
-use Rattle.std.specs.Option.{option_map}
+use Rattle.std.specs.Prelude.{◌≡◌, ℕ, zero, suc, ◌*◌, ◌≤◌, min, List, [], ◌∷◌, length, take, None, Some, IfSome, Result, Ok, Err, OnErr}
+use Rattle.std.specs.Io.KnownBytes.{Appends, Consumes}
 use Rattle.std.specs.declared.option.Option.{Option}
 use Rattle.paper.specs.Board.{Board}
 use Rattle.paper.specs.Bench.{input_limit, pair_limit, lines_of, text_of, bench_board, bench_text}
@@ -52,12 +51,26 @@ unrefused : (k : ℕ) (t : List ℕ) → k ≡ 0 → when_zero k t [] ≡ t
 unrefused k t e = rw e refl
 
 -- with the memory of the part and room for what is printed, what is written is the text of the bytes that are known to be left to read
-pub known_whole : (limit : ℕ) (known rest old new : Option (List ℕ)) (empty got items : List ℕ) (n a r : ℕ) → limit ≡ input_limit → rest ≡ known → empty ≡ []
-    → IfSome (option_map (take limit) rest) (λ xs. got ≡ empty ++ xs) → items ≡ got → n ≡ 4 * input_limit → a ≡ 65536 → r ≡ 1024
-    → Appends old new (take n (when_zero (lent_number a r) (bench_text items) [])) → IfSome known (λ input. Appends old new (bench_text input))
-known_whole limit None rest old new empty got items n a r el ek e₀ h eg en ea er p = tt
-known_whole limit (Some input) rest old new empty got items n a r el ek e₀ h eg en ea er p =
-    let g : got ≡ take input_limit input = rw (el, ek, e₀) at h in
-    let t : when_zero (lent_number a r) (bench_text items) [] ≡ bench_text input = unrefused (lent_number a r) (bench_text items) (lent_right a r ea er) ∙ ap bench_text (eg ∙ g) ∙ read_whole input in
-    let w : take n (when_zero (lent_number a r) (bench_text items) []) ≡ bench_text input = ap (take n) t ∙ bench_whole n input (omega arith) in
+pub known_whole : (limit n a r : ℕ) (known old new : Option (List ℕ)) (got : List ℕ) → limit ≡ input_limit → n ≡ 4 * input_limit → a ≡ 65536 → r ≡ 1024
+    → IfSome known (λ input. got ≡ take limit input)
+    → Appends old new (take n (when_zero (lent_number a r) (bench_text got) [])) → IfSome known (λ input. Appends old new (bench_text input))
+known_whole limit n a r None old new got el en ea er h p = tt
+known_whole limit n a r (Some input) old new got el en ea er h p =
+    let g : got ≡ take input_limit input = rw el at h in
+    let t : when_zero (lent_number a r) (bench_text got) [] ≡ bench_text input = unrefused (lent_number a r) (bench_text got) (lent_right a r ea er) ∙ ap bench_text g ∙ read_whole input in
+    let w : take n (when_zero (lent_number a r) (bench_text got) []) ≡ bench_text input = ap (take n) t ∙ bench_whole n input (omega arith) in
     subst (Appends old new) w p
+
+-- what is not read is left
+pub known_rest : (limit : ℕ) (known rest : Option (List ℕ)) (got : List ℕ) → limit ≡ input_limit
+    → IfSome known (λ input. got ≡ take limit input) → Consumes known rest got → IfSome known (λ input. Consumes known rest (take input_limit input))
+known_rest limit None rest got el h p = tt
+known_rest limit (Some input) rest got el h p =
+    let g : got ≡ take input_limit input = rw el at h in
+    subst (Consumes (Some input) rest) g p
+
+-- no more is taken than there is room for
+pub few_taken : {T E : Type 0} (r : Result T E) (a b : Option (List ℕ)) (buffer : List ℕ) (n : ℕ) → length buffer ≡ input_limit → Consumes a b (take n buffer)
+    → OnErr r ((taken : List ℕ) × (length taken ≤ input_limit) × Consumes a b taken)
+few_taken (Ok x) a b buffer n e p = tt
+few_taken (Err x) a b buffer n e p = (take n buffer, simp length-take (omega arith), p)

@@ -1,16 +1,47 @@
 // The program bench: up to 65,536 bytes of standard input, run line by line on the 1-block part. What it prints for
-// an input is at most four times as long (proofs/Fits.antt of bench_lines).
+// an input is at most four times as long (proofs/Fits.antt of bench_lines). Nothing is allocated.
 #![tactic(auto)]
 
-ghost use Rattle.std.specs.Prelude.{[], length, take, IfSome, OnOk};
-ghost use Rattle.std.specs.Io.KnownBytes.{Appends};
+ghost use Rattle.std.specs.Prelude.{◌≡◌, ◌≢◌, ℕ, ◌≤◌, List, [], length, take, IfSome, IfOk, IfErr, OnOk, OnErr};
+ghost use Rattle.std.specs.IoError.{error_kind};
+ghost use Rattle.std.specs.Io.KnownBytes.{Appends, Consumes};
 ghost use Rattle.words.specs.Logic.{when_zero};
-ghost use Rattle.paper.specs.Bench.{bench_text};
+ghost use Rattle.paper.specs.Bench.{input_limit, bench_text};
 ghost use Rattle.bench_lines.specs.Lent.{lent_number};
 
-use std::alloc::Global;
 use std::io;
-use std::io::{Read, Write};
+use std::io::{Error, ErrorKind, Read, Write};
+
+// Reads until the buffer is full or a read gives nothing, and answers how many bytes it read. A read that is
+// interrupted is tried again.
+fn read_full<R: Read>(reader: &mut R, buffer: &mut [u8]) -> io::Result<usize>
+    // At any reader.
+    ensures within { IfOk result (λ n. n ≤ length buffer.new) }
+    ensures retried { IfErr result (λ e. error_kind e ≢ ErrorKind.Interrupted) }
+
+    // Where the bytes are known.
+    ensures whole { IfOk result (λ n. IfSome (R.remaining reader.old)
+        (λ input. take n buffer.new ≡ take (length buffer.old) input)) }
+    ensures taken { IfOk result (λ n. Consumes (R.remaining reader.old) (R.remaining reader.new) (take n buffer.new)) }
+    ensures none_lost { OnErr result ((n : ℕ) × Consumes (R.remaining reader.old) (R.remaining reader.new) (take n buffer.new)) }
+{
+    let mut at = 0;
+    for _ in 0..u64::MAX {
+        if at >= buffer.len() {
+            return Ok(at);
+        }
+        match reader.read(&mut buffer[at..]) {
+            Ok(0) => return Ok(at),
+            Ok(n) => at += n,
+            Err(e) => {
+                if e.kind() != ErrorKind::Interrupted {
+                    return Err(e);
+                }
+            }
+        }
+    }
+    Err(Error::from(ErrorKind::TimedOut))
+}
 
 // Runs what was read, and writes what it prints, as far as the output has room for it.
 fn answer<W: Write>(
@@ -28,19 +59,23 @@ fn answer<W: Write>(
     writer.write_all(&output[..printed])
 }
 
-// Reads what bench reads, runs it on a new part and writes what bench prints for it.
-fn run<R: Read + Drop, W: Write>(alloc: Global, reader: R, writer: &mut W) -> io::Result<()>
-    ensures { OnOk result (IfSome (R.remaining reader)
+// Reads what bench reads and leaves the rest unread, runs it on a new part and writes what bench prints for it.
+fn run<R: Read, W: Write>(reader: &mut R, writer: &mut W) -> io::Result<()>
+    ensures printed { OnOk result (IfSome (R.remaining reader.old)
         (λ input. Appends (W.contents writer.old) (W.contents writer.new) (bench_text input))) }
+    ensures rest { OnOk result (IfSome (R.remaining reader.old)
+        (λ input. Consumes (R.remaining reader.old) (R.remaining reader.new) (take input_limit input))) }
+    ensures no_more { OnErr result ((taken : List ℕ) × (length taken ≤ input_limit)
+        × Consumes (R.remaining reader.old) (R.remaining reader.new) taken) }
 {
-    let mut input = Vec::new(alloc);
-    reader.take(65536).read_to_end(&mut input)?;
-    let mut array = vec![in alloc; 0u8; 65536]?;
-    let mut rows = vec![in alloc; 0u8; 1024]?;
-    let mut output = vec![in alloc; 0u8; 262144]?;
-    answer(&input, &mut array, &mut rows, &mut output, writer)
+    let mut input = [0u8; 65536];
+    let mut array = [0u8; 65536];
+    let mut rows = [0u8; 1024];
+    let mut output = [0u8; 262144];
+    let n = read_full(reader, &mut input)?;
+    answer(&input[..n], &mut array, &mut rows, &mut output, writer)
 }
 
 fn main(rt: HostRuntime) -> io::Result<()> {
-    run(rt.alloc(), rt.reader(), &mut io::writer(&rt))
+    run(&mut rt.reader(), &mut io::writer(&rt))
 }
