@@ -1,4 +1,4 @@
--- What is read into the rest of a buffer, and what is filled of it in the end.
+-- What is read into the rest of a buffer is added to what was filled.
 use Rattle.std.proofs.Common.{◌≡◌, ℕ, ◌+◌, ◌≤◌, List, ◌++◌, sym, ap, subst, ◌∙◌, length, take, le_refl, drop_at, length-take-le}
 use Rattle.std.proofs.lemmas.Slice.{take-put_mid_below}
 use Rattle.std.specs.Io.KnownBytes.{Consumes, Keeps}
@@ -15,6 +15,7 @@ filled_on at k n xs ys within fits =
     let part = ap (take n) (drop_at (take at xs) (ys ++ after) at (length-take-le at xs within)) ∙ take-append-le n ys after fits in
     ap (λ l. l ++ take n ys) (sym front) ∙ ap (λ l. take at (put_mid at k xs ys) ++ l) (sym part) ∙ sym (take-add at n (put_mid at k xs ys))
 
+-- what is filled is what was taken, as more is read
 pub taken_more : (a b d : Option (List ℕ)) (at k n m : ℕ) (xs ys : List ℕ) → m ≡ at + n → at ≤ length xs → n ≤ length ys
     → Consumes a b (take at xs) → Consumes b d (take n ys) → Consumes a d (take m (put_mid at k xs ys))
 taken_more a b d at k n m xs ys e within fits before read =
