@@ -1,6 +1,5 @@
-// A map of blank pages for C, which include/yawlspar.h declares: made from the array, searched, and kept by ticks. It is a static
-// library of its own, for the speed of calls without a map (docs/SPEED.md), and a part of the archive that C links. A script with a
-// map stands beside the other scripts.
+// A map of blank pages for C, which include/yawlspar.h declares and yawlspar_map_c exports: made from the array, searched, and kept
+// by ticks. A script with a map stands beside the other scripts.
 #![tactic(auto)]
 
 ghost use Rattle.std.specs.Prelude.{◌≡◌, length};

@@ -1,5 +1,4 @@
-// Scripts, with a map of blank pages and without, and checks for C, which include/yawlspar.h declares. They are a static library of
-// their own, for the speed of single calls (docs/SPEED.md), and a part of the archive that C links.
+// Scripts, with a map of blank pages and without, and checks for C, which include/yawlspar.h declares and yawlspar_script_c exports.
 #![tactic(auto)]
 
 ghost use Rattle.std.specs.Prelude.{◌≡◌, ◌+◌, ◌*◌, ◌%◌, ◌^◌, ◌≤◌};

@@ -1,4 +1,5 @@
-// What C links of scripts and checks: each function is the library's of its name.
+// What C links of scripts and checks: each function is the library's of its name. A static library of its own, for the speed of
+// single calls (docs/SPEED.md).
 #![tactic(auto)]
 
 ghost use Rattle.std.specs.Prelude.{◌≡◌};

@@ -1,5 +1,4 @@
-// Wear records for C, which include/yawlspar.h declares: kept by ticks and by a script, and their text. It is a static library of
-// its own, for the speed of calls without them (docs/SPEED.md), and a part of the archive that C links.
+// Wear records for C, which include/yawlspar.h declares and yawlspar_wear_c exports: kept by ticks and by a script, and their text.
 #![tactic(auto)]
 
 ghost use Rattle.std.specs.Prelude.{◌≡◌, length};

@@ -1,4 +1,5 @@
-// What C links of the calls that keep wear records, and of their text: each function is the library's of its name.
+// What C links of the calls that keep wear records, and of their text: each function is the library's of its name. A static library
+// of its own, for the speed of calls without them (docs/SPEED.md).
 #![tactic(auto)]
 
 ghost use Rattle.std.specs.Prelude.{◌≡◌, length};
