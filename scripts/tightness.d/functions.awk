@@ -1,5 +1,6 @@
 # The functions of a file of Rattle, in the layout of `rt fmt`. A line for each: the crate; its name, with its module
-# before it; whether it is public; whether C links it; the file, its first and its last line; how many `ensures` and
+# before it, and the name that the prover gives the `impl` in which it stands (`impl From<Kind> for u8` is `U8FromKind`);
+# whether it is public; whether C links it; the file, its first and its last line; how many `ensures` and
 # `requires` it has, where a starred clause counts as a `requires` alone; whether it returns something; and the places among
 # its parameters, from 0 on, of those that it is lent to write.
 BEGIN {
@@ -13,6 +14,8 @@ BEGIN {
     module = module == "lib" || module == "main" ? "" : module "::"
 }
 { sub(/\/\/.*/, "") }
+/^impl[ <]/ { block = block_of($0) }
+/^}/ { block = "" }
 /^ *(pub(\([a-z]+\))? +)?(const +)?(unsafe +)?(extern +"C" +)?fn +[a-z]/ {
     indent = match($0, /[^ ]/) - 1
     is_public = $0 ~ /^ *pub +[a-z]/
@@ -20,6 +23,7 @@ BEGIN {
     name = $0
     sub(/^.*fn +/, "", name)
     sub(/[^A-Za-z0-9_].*/, "", name)
+    name = block name
     first = FNR
     ensures = 0
     requires = 0
@@ -35,6 +39,24 @@ in_signature {
     if ($0 ~ /\{ *\}? *$/) in_signature = 0
 }
 /\} *$/ && match($0, /[^ ]/) - 1 == indent { print_function() }
+
+function block_of(line,    trait) {
+    sub(/^impl(<[^>]*>)? */, "", line)
+    sub(/ *\{.*/, "", line)
+    trait = ""
+    if (line ~ / for /) {
+        trait = line
+        sub(/ for .*/, "", trait)
+        sub(/^.* for /, "", line)
+    }
+    return camel(line) camel(trait) "::"
+}
+
+function camel(text,    count, part, k, joined) {
+    count = split(text, part, /[^A-Za-z0-9_]+/)
+    for (k = 1; k <= count; k++) joined = joined toupper(substr(part[k], 1, 1)) substr(part[k], 2)
+    return joined
+}
 
 function print_function(    rest, parameters, depth, i, c, place, writes) {
     gsub(/->/, "\001", signature)

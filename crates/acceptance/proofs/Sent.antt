@@ -1,4 +1,5 @@
 -- What is sent for a job: the part reads back the job from it, and takes it with its ticks.
+use Rattle.std.specs.Prelude.{Option, Some}
 use Prim.Native.Nat.{ℕ, zero, suc, ◌+◌, ◌-◌, ◌*◌, ◌/◌, ◌%◌, ◌^◌, ◌<◌, ◌≤◌, min}
 use mathlib.Core.Path.{◌≡◌, refl, sym, ap, ◌∙◌, subst⁻¹}
 use mathlib.Core.Bool.{Bool, true, false, cond}
@@ -21,12 +22,8 @@ use Rattle.types.specs.declared.Effect.{Effect}
 use Rattle.types.specs.declared.Effect.TheVariants.{Programs, Erases}
 use Rattle.types.specs.declared.Command.{Command}
 use Rattle.types.specs.declared.Command.TheVariants.{PageProgram, SectorErase, FarPageProgramAtRest, FarSectorErase}
-use Rattle.types.specs.declared.Decoded.{Decoded}
-use Rattle.types.specs.declared.Decoded.TheVariants.{Known}
 use Rattle.types.specs.declared.Operation.{Operation}
 use Rattle.types.specs.declared.Operation.TheVariants.{Program, Erase}
-use Rattle.types.specs.declared.Work.{Work}
-use Rattle.types.specs.declared.Work.TheVariants.{At}
 use Rattle.types.specs.declared.Record.{Record}
 use Rattle.words.proofs.Tests.{and_in}
 use Rattle.words.specs.Lists.{AreBytes}
@@ -110,7 +107,7 @@ way_few false = omega arith
 -- a code of a command that does, takes its address and has a length as said
 record Coded (n bank : ℕ) (large : Bool) (c : ℕ) (e : Effect) (l : Length) : Type 0 where
   command : Command
-  known : decoded n bank c ≡ Known command
+  known : decoded n bank c ≡ Some command
   does : (columns command).effect ≡ e
   names : addressing (columns command).named bank ≡ way large
   asks : (columns command).length ≡ l
@@ -129,17 +126,17 @@ module _ (n bank : ℕ) where
 module _ (p : Record) {large : Bool} {c : ℕ} {e : Effect} {l : Length} (k : Coded p.part.blocks p.part.bank large c e l) (r : List ℕ) where
   coded_work : work_of p (c ∷ r) ≡ begins e (way large) p.part.blocks (c ∷ r)
   coded_work =
-      ap (λ (x : Decoded). begun_as x p.part (c ∷ r)) k.known
+      ap (λ (x : Option Command). begun_as x p.part (c ∷ r)) k.known
       ∙ ap (λ (x : Effect). begins x (addressing (columns k.command).named p.part.bank) p.part.blocks (c ∷ r)) k.does
       ∙ ap (λ (g : Addressing). begins e g p.part.blocks (c ∷ r)) k.names
 
   coded_data : data_of p (c ∷ r) ≡ data_sent (way large) (c ∷ r)
   coded_data =
-      ap (λ (x : Decoded). data_sent (addressing_by x p.part.bank) (c ∷ r)) k.known
+      ap (λ (x : Option Command). data_sent (addressing_by x p.part.bank) (c ∷ r)) k.known
       ∙ ap (λ (g : Addressing). data_sent g (c ∷ r)) k.names
 
   coded_length : (m : ℕ) → length_as (command_of p (c ∷ r)) m ≡ length_ok l m
-  coded_length m = ap (λ (x : Decoded). length_as x m) k.known ∙ ap (λ (x : Length). length_ok x m) k.asks
+  coded_length m = ap (λ (x : Option Command). length_as x m) k.known ∙ ap (λ (x : Length). length_ok x m) k.asks
 
 -- an address to the large part or to another, and data behind it
 sent_as_lem : (large : Bool) (near far a : ℕ) (d : List ℕ) → cond large (far ∷ address_for 4 a) (near ∷ address_for 3 a) ++ d ≡ cond large far near ∷ (address_for (address_count (way large)) a ++ d)
@@ -198,25 +195,25 @@ module _ (p : Record) (s : sound p ≡ true) where
         (bytes_both (address_for (address_count g) a) d (address_bytes_lem (address_count g) a) b)
 
   -- a step is right that begins an operation and has its ticks; any part may be asked 4,096
-  sent_right : (j : Job) (i : List ℕ) (t : ℕ) (o : Operation) → job_of p i ≡ j → within_page j ≡ true → length_as (command_of p i) (length i) ≡ true → work_of p i ≡ At o → ticks_in_all o n ≤ t → t ≤ 4096
+  sent_right : (j : Job) (i : List ℕ) (t : ℕ) (o : Operation) → job_of p i ≡ j → within_page j ≡ true → length_as (command_of p i) (length i) ≡ true → work_of p i ≡ Some o → ticks_in_all o n ≤ t → t ≤ 4096
       → right_command p (record { sent = i; ticks = t }) ≡ true
   sent_right j i t o job page len work enough few =
       and_in (ap within_page job ∙ page)
       (and_in len
-      (ap (λ (w : Work). allows_ticks w n t) work ∙ and_in (le-leb _ _ enough) (le-leb t (tick_limit n) (omega (arith, limit_range n)))))
+      (ap (λ (w : Option Operation). allows_ticks w n t) work ∙ and_in (le-leb _ _ enough) (le-leb t (tick_limit n) (omega (arith, limit_range n)))))
 
   -- an erase
   module _ (b : ℕ) (first : b % sector_bytes ≡ 0) (inside : b < array_bytes n) where
     abbrev erasing : List ℕ
     erasing = sending 0x20 0x21 b []
 
-    erase_work : work_of p erasing ≡ At (Erase Sector b 0)
+    erase_work : work_of p erasing ≡ Some (Erase Sector b 0)
     unfolding erase_of
     erase_work =
         let base : b / sector_bytes * sector_bytes ≡ b = omega arith in
         coded_work p sector_coded (address_for (address_count g) b ++ [])
-        ∙ ap (λ (a : ℕ). At (Erase Sector (a / sector_bytes * sector_bytes) 0)) (address_in_lem 0x20 0x21 b [] inside)
-        ∙ ap (λ (a : ℕ). At (Erase Sector a 0)) base
+        ∙ ap (λ (a : ℕ). Some (Erase Sector (a / sector_bytes * sector_bytes) 0)) (address_in_lem 0x20 0x21 b [] inside)
+        ∙ ap (λ (a : ℕ). Some (Erase Sector a 0)) base
 
     erase_length : length_as (command_of p erasing) (length erasing) ≡ true
     erase_length =
@@ -224,7 +221,7 @@ module _ (p : Record) (s : sound p ≡ true) where
         ∙ eq-eqb _ _ (sending_length 0x20 0x21 b [] ∙ omega arith)
 
     erase_job_lem : job_of p erasing ≡ erases b
-    erase_job_lem = ap (λ (w : Work). work_job w (data_of p erasing)) erase_work
+    erase_job_lem = ap (λ (w : Option Operation). work_job w (data_of p erasing)) erase_work
 
     erase_sent : Sent p (erases b) (record { sent = erasing; ticks = 16 })
     erase_sent =
@@ -246,14 +243,14 @@ module _ (p : Record) (s : sound p ≡ true) where
         coded_data p page_coded (address_for (address_count g) a ++ d)
         ∙ data_read g (cond large 0x12 0x02) a d
 
-    program_work : work_of p programming ≡ At (Program Array (a % page_bytes) (page_base a) (length d) 0)
+    program_work : work_of p programming ≡ Some (Program Array (a % page_bytes) (page_base a) (length d) 0)
     unfolding program_of page_place
     program_work =
         let kept : min (length d) page_bytes ≡ length d = omega (arith, h.in-page) in
         let place : (a + (length d - length d)) % page_bytes ≡ a % page_bytes = omega arith in
         coded_work p page_coded (address_for (address_count g) a ++ d)
-        ∙ ap (λ (x : ℕ). At (Program Array (page_place x (passed_count (data_sent g programming))) (page_base x) (kept_count (data_sent g programming)) 0)) (address_in_lem 0x02 0x12 a d (omega (arith, own, h.some, h.inside)))
-        ∙ ap (λ (x : List ℕ). At (Program Array (page_place a (passed_count x)) (page_base a) (kept_count x) 0)) (data_read g (cond large 0x12 0x02) a d)
+        ∙ ap (λ (x : ℕ). Some (Program Array (page_place x (passed_count (data_sent g programming))) (page_base x) (kept_count (data_sent g programming)) 0)) (address_in_lem 0x02 0x12 a d (omega (arith, own, h.some, h.inside)))
+        ∙ ap (λ (x : List ℕ). Some (Program Array (page_place a (passed_count x)) (page_base a) (kept_count x) 0)) (data_read g (cond large 0x12 0x02) a d)
         ∙ rw (kept, place) refl
 
     program_length : length_as (command_of p programming) (length programming) ≡ true
@@ -264,7 +261,7 @@ module _ (p : Record) (s : sound p ≡ true) where
     program_job_lem : job_of p programming ≡ programs a d
     program_job_lem =
         let whole : page_base a + a % page_bytes ≡ a = omega arith in
-        ap (λ (w : Work). work_job w (data_of p programming)) program_work ∙ rw (whole, program_data)
+        ap (λ (w : Option Operation). work_job w (data_of p programming)) program_work ∙ rw (whole, program_data)
 
     program_bytes : (k : ℕ) (t : Bool) → ltb k (length d) ≡ t → get_or d k 0 < 256
     program_bytes k true e = rw (h.wanted k (ltb-true _ _ e)) (byte (a + k))

@@ -1,4 +1,6 @@
 -- Steps in twos are whole writes, of an erase of a sector or a program within a page; each leaves of a byte what its job leaves.
+use Rattle.types.specs.declared.Operation.{Operation}
+use Rattle.std.specs.Prelude.{None, Option, Some}
 use Prim.Native.Nat.{ℕ, ◌+◌, ◌-◌, ◌/◌, ◌%◌, ◌≤◌, ◌<◌}
 use mathlib.Core.Path.{◌≡◌, refl, sym, ap, ◌∙◌, subst}
 use mathlib.Core.Bool.{Bool, true, false, not, cond, false≢true}
@@ -12,8 +14,6 @@ use Rattle.types.specs.declared.Memory.TheVariants.{Array, Rows}
 use Rattle.types.specs.declared.EraseUnit.TheVariants.{Sector, Block32, Block64, Chip, Row}
 use Rattle.types.specs.declared.Addressing.{Addressing}
 use Rattle.types.specs.declared.Addressing.TheVariants.{Three, Four}
-use Rattle.types.specs.declared.Work.{Work}
-use Rattle.types.specs.declared.Work.TheVariants.{At}
 use Rattle.types.specs.declared.Effect.{Effect}
 use Rattle.types.specs.declared.Effect.TheVariants.{Looks, Enables, Disables, Programs, Erases, Writes, Suspends, Resumes, Sleeps, Wakes, Arms, Resets, SetsLive, ClearsErrors, SetsBank, SetsFar}
 use Rattle.types.specs.declared.Named.{Named}
@@ -21,8 +21,6 @@ use Rattle.types.specs.declared.Named.TheVariants.{Bare, Place, Far, InRow}
 use Rattle.types.specs.declared.Length.{Length}
 use Rattle.types.specs.declared.Length.TheVariants.{Exactly, AtLeast}
 use Rattle.types.specs.declared.Command.{Command}
-use Rattle.types.specs.declared.Decoded.{Decoded}
-use Rattle.types.specs.declared.Decoded.TheVariants.{Known, Unknown}
 use Rattle.types.specs.declared.Record.{Record}
 use Rattle.words.specs.Logic.{◌and◌, unless}
 use Rattle.words.specs.Lists.{every}
@@ -87,7 +85,7 @@ table_says ClearsErrors a l = true
 table_says SetsBank a l = true
 table_says (SetsFar far) a l = true
 
-table_says_lem : (n bank c : ℕ) (k : Command) → decoded n bank c ≡ Known k → table_says (columns k).effect (columns k).named (columns k).length ≡ true
+table_says_lem : (n bank c : ℕ) (k : Command) → decoded n bank c ≡ Some k → table_says (columns k).effect (columns k).named (columns k).length ≡ true
 unfolding ◌and◌
 table_says_lem n bank c k e =
     of_decoded (λ (j : Command). table_says (columns j).effect (columns j).named (columns j).length) refl refl refl n bank c k e
@@ -185,7 +183,7 @@ address_few Four = omega arith
 pub record RightWrite (p : Record) (i : List ℕ) : Type 0 where
   pub kind : Kind
   pub fitting : Fitting p kind i
-  pub work : work_of p i ≡ At (begun_by p kind i)
+  pub work : work_of p i ≡ Some (begun_by p kind i)
   pub does : (a x : ℕ) → byte_written p kind i Array a x ≡ byte_by (job_of p i) a x
   pub aligned : is_aligned (job_of p i) ≡ true
 
@@ -201,7 +199,7 @@ module _ (p : Record) (open_part : unprotected p ≡ true) where
   free_at : (b : ℕ) → free Array b blocks p.part.stored ≡ true
   free_at b = ap not (none_protected (whole_code p.part.stored) blocks (b / block_bytes) (eqb-true _ _ open_part))
 
-  module _ (i : List ℕ) (k : Command) (known : command_of p i ≡ Known k) (within : within_page (job_of p i) ≡ true) (long : length_as (command_of p i) (length i) ≡ true) where
+  module _ (i : List ℕ) (k : Command) (known : command_of p i ≡ Some k) (within : within_page (job_of p i) ≡ true) (long : length_as (command_of p i) (length i) ≡ true) where
     abbrev data_of_lem : List ℕ
     data_of_lem = data_of p i
 
@@ -209,7 +207,7 @@ module _ (p : Record) (open_part : unprotected p ≡ true) where
     place = place_of p Array i
 
     right_length : length_ok (columns k).length (length i) ≡ true
-    right_length = sym (ap (λ (c : Decoded). length_as c (length i)) known) ∙ long
+    right_length = sym (ap (λ (c : Option Command). length_as c (length i)) known) ∙ long
 
     -- the table's line of the command, of whose effect it is known that it is e
     said : (e : Effect) → (columns k).effect ≡ e → table_says e (columns k).named (columns k).length ≡ true
@@ -219,11 +217,11 @@ module _ (p : Record) (open_part : unprotected p ≡ true) where
       abbrev code : OfKind blocks p.part.bank d i
       code = record { command = k; known = known; does = does }
 
-      work_is_lem : work_of p i ≡ At (begun_by p d i)
-      work_is_lem = ap (λ (c : Decoded). begun_as c p.part i) known ∙ begun_as_lem p d i code
+      work_is_lem : work_of p i ≡ Some (begun_by p d i)
+      work_is_lem = ap (λ (c : Option Command). begun_as c p.part i) known ∙ begun_as_lem p d i code
 
-      job_is : job_of p i ≡ work_job (At (begun_by p d i)) data_of_lem
-      job_is = ap (λ (w : Work). work_job w data_of_lem) work_is_lem
+      job_is : job_of p i ≡ work_job (Some (begun_by p d i)) data_of_lem
+      job_is = ap (λ (w : Option Operation). work_job w data_of_lem) work_is_lem
 
     -- a program
     module _ (does : (columns k).effect ≡ Programs Array) where
@@ -305,18 +303,18 @@ module _ (p : Record) (open_part : unprotected p ≡ true) where
 
     known_right : RightWrite p i
     known_right =
-        either_right (kind_of (columns k).effect (addressing_on (columns k) p.part) blocks i data_of_lem (sym (ap (λ (c : Decoded). within_page (work_job (begun_as c p.part i) data_of_lem)) known) ∙ within))
+        either_right (kind_of (columns k).effect (addressing_on (columns k) p.part) blocks i data_of_lem (sym (ap (λ (c : Option Command). within_page (work_job (begun_as c p.part i) data_of_lem)) known) ∙ within))
 
-  right_as : (i : List ℕ) (c : Decoded) → command_of p i ≡ c → within_page (job_of p i) ≡ true → length_as (command_of p i) (length i) ≡ true → RightWrite p i
-  right_as i (Known k) e w l = known_right i k e w l
-  right_as i Unknown e w l = absurd (false≢true (sym (ap (λ (c : Decoded). length_as c (length i)) e) ∙ l))
+  right_as : (i : List ℕ) (c : Option Command) → command_of p i ≡ c → within_page (job_of p i) ≡ true → length_as (command_of p i) (length i) ≡ true → RightWrite p i
+  right_as i (Some k) e w l = known_right i k e w l
+  right_as i None e w l = absurd (false≢true (sym (ap (λ (c : Option Command). length_as c (length i)) e) ∙ l))
 
   pub right_write : (w : Sending) → right_command p w ≡ true → RightWrite p w.sent
   right_write w h = right_as w.sent (command_of p w.sent) refl (and_l _ _ h) (and_l _ _ (and_r _ _ h))
 
   -- its ticks are enough, and no more than a call may ask
   right_ticks : (w : Sending) (h : right_command p w ≡ true) → (leb (ticks_in_all (begun_by p (right_write w h).kind w.sent) blocks) w.ticks and leb w.ticks (tick_limit blocks)) ≡ true
-  right_ticks w h = sym (ap (λ (v : Work). allows_ticks v blocks w.ticks) (right_write w h).work) ∙ and_r _ _ (and_r _ _ h)
+  right_ticks w h = sym (ap (λ (v : Option Operation). allows_ticks v blocks w.ticks) (right_write w h).work) ∙ and_r _ _ (and_r _ _ h)
 
   -- the write that two steps are
   pub write_whole : (wp : Bool) (e w : Sending) (h : right_command p w ≡ true) → Whole p (right_write w h).kind (write_in wp e w)

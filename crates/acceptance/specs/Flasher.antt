@@ -1,15 +1,12 @@
 -- The flasher's right script, request 13: "A script that erases exactly the sectors where some bit must go from 0 to 1, then programs every byte that still differs, and no other, with its wanted value, within page borders, sets write enable each time, allows the ticks of 01 and does nothing more". Each clause is a test that can be computed. What a step does goes by what it begins on the part, not by its code.
-use Rattle.std.specs.Prelude.{ℕ, zero, suc, ◌+◌, ◌*◌, ◌/◌, ◌%◌, Bool, true, false, not, cond, List, [], ◌∷◌, ◌++◌, length, get_or, eqb, leb}
+use Rattle.types.specs.declared.Command.{Command}
+use Rattle.std.specs.Prelude.{ℕ, zero, suc, ◌+◌, ◌*◌, ◌/◌, ◌%◌, Bool, true, false, not, cond, List, [], ◌∷◌, ◌++◌, length, get_or, eqb, leb, None, Option, Some}
 use Rattle.types.specs.declared.Memory.{Memory}
 use Rattle.types.specs.declared.Memory.TheVariants.{Array, Rows}
 use Rattle.types.specs.declared.EraseUnit.{EraseUnit}
 use Rattle.types.specs.declared.EraseUnit.TheVariants.{Sector, Block32, Block64, Chip, Row}
 use Rattle.types.specs.declared.Operation.{Operation}
 use Rattle.types.specs.declared.Operation.TheVariants.{Program, Erase, Write}
-use Rattle.types.specs.declared.Work.{Work}
-use Rattle.types.specs.declared.Work.TheVariants.{NoWork, At}
-use Rattle.types.specs.declared.Decoded.{Decoded}
-use Rattle.types.specs.declared.Decoded.TheVariants.{Known, Unknown}
 use Rattle.types.specs.declared.Part.{Part}
 use Rattle.types.specs.declared.Record.{Record}
 use Rattle.words.specs.Logic.{◌and◌, bit}
@@ -45,19 +42,19 @@ abbrev pub sendings_of : Script → List Sending
 sendings_of s = sendings_to s (length s.lengths)
 
 -- what a first byte that was decoded begins on a part, with the input i; and whether the length is one that the command table asks for
-abbrev pub begun_as : Decoded → Part → List ℕ → Work
-begun_as (Known k) p i = begun (columns k) p i
-begun_as Unknown p i = NoWork
+abbrev pub begun_as : Option Command → Part → List ℕ → Option Operation
+begun_as (Some k) p i = begun (columns k) p i
+begun_as None p i = None
 
-abbrev pub length_as : Decoded → ℕ → Bool
-length_as (Known k) n = length_ok (columns k).length n
-length_as Unknown n = false
+abbrev pub length_as : Option Command → ℕ → Bool
+length_as (Some k) n = length_ok (columns k).length n
+length_as None n = false
 
 -- the command of an input, and what it begins
-abbrev pub command_of : Record → List ℕ → Decoded
+abbrev pub command_of : Record → List ℕ → Option Command
 command_of p i = decoded p.part.blocks p.part.bank (get_or i 0 0)
 
-abbrev pub work_of : Record → List ℕ → Work
+abbrev pub work_of : Record → List ℕ → Option Operation
 work_of p i = begun_as (command_of p i) p.part i
 
 -- what a step is for: the erase of the sector that begins at an address, the program of data from an address on, or anything else
@@ -83,9 +80,9 @@ operation_job (Program m s b k t) d = program_job m (b + s) d
 operation_job (Erase u b t) d = erase_job u b
 operation_job (Write r v) d = other
 
-abbrev pub work_job : Work → List ℕ → Job
-work_job NoWork d = other
-work_job (At o) d = operation_job o d
+abbrev pub work_job : Option Operation → List ℕ → Job
+work_job None d = other
+work_job (Some o) d = operation_job o d
 
 abbrev pub job_of : Record → List ℕ → Job
 job_of p i = work_job (work_of p i) (data_of p i)
@@ -104,9 +101,9 @@ within_page (programs a d) = leb (a % page_bytes + length d) page_bytes
 within_page other = false
 
 -- "allows the ticks of 01": at least the operation's, and no more than a call may ask of a part of n blocks
-abbrev pub allows_ticks : Work → ℕ → ℕ → Bool
-allows_ticks NoWork n t = false
-allows_ticks (At o) n t = leb (ticks_in_all o n) t and leb t (tick_limit n)
+abbrev pub allows_ticks : Option Operation → ℕ → ℕ → Bool
+allows_ticks None n t = false
+allows_ticks (Some o) n t = leb (ticks_in_all o n) t and leb t (tick_limit n)
 
 -- the command that comes then
 abbrev pub right_command : Record → Sending → Bool

@@ -13,7 +13,8 @@ use std::io;
 use std::io::{Error, ErrorKind, Read, Write};
 
 // Reads until the buffer is full or a read gives nothing, and answers how many bytes it read. A read that is
-// interrupted is tried again.
+// interrupted is tried again; the bound on the tries is there so that the loop ends. (read_exact fails where the input ends
+// early, and read_to_end needs a heap.)
 fn read_full<R: Read>(reader: &mut R, buffer: &mut [u8]) -> io::Result<usize>
     // At any reader.
     ensures within { IfOk result (λ n. n ≤ length buffer.new) }
@@ -43,7 +44,8 @@ fn read_full<R: Read>(reader: &mut R, buffer: &mut [u8]) -> io::Result<usize>
     Err(Error::from(ErrorKind::TimedOut))
 }
 
-// Runs what was read, and writes what it prints, as far as the output has room for it.
+// Runs what was read, and writes what it prints, as far as the output has room for it. Nothing is allocated, so the output is
+// lent, and bench says how much of it is printed.
 fn answer<W: Write>(
     input: &[u8],
     array: &mut [u8],
@@ -68,10 +70,10 @@ fn run<R: Read, W: Write>(reader: &mut R, writer: &mut W) -> io::Result<()>
     ensures no_more { OnErr result ((taken : List ℕ) × (length taken ≤ input_limit)
         × Consumes (R.remaining reader.old) (R.remaining reader.new) taken) }
 {
-    let mut input = [0u8; 65536];
-    let mut array = [0u8; 65536];
-    let mut rows = [0u8; 1024];
-    let mut output = [0u8; 262144];
+    let mut input = [0u8; bench_lines::INPUT_MOST];
+    let mut array = [0u8; types::BLOCK_BYTES];
+    let mut rows = [0u8; types::ROWS_BYTES];
+    let mut output = [0u8; bench_lines::OUTPUT_MOST];
     let n = read_full(reader, &mut input)?;
     answer(&input[..n], &mut array, &mut rows, &mut output, writer)
 }

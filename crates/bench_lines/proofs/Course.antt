@@ -1,12 +1,13 @@
 -- What a line does is what its call does, and lines one after another do what all of them do.
 use Prim.Native.Nat.{ℕ, suc, ◌+◌, ◌*◌, ◌-◌, ◌/◌, ◌≤◌, ◌<◌, min}
 use mathlib.Core.Path.{◌≡◌, refl, sym, ap, subst, ◌∙◌}
-use mathlib.Core.Bool.{Bool, true, false, cond}
+use mathlib.Core.Bool.{Bool, true, false, not, cond}
 use mathlib.Core.List.{List, [], ◌∷◌}
 use native.Mathlib.Omega.{arith}
+use native.Mathlib.Numerals.{add-one}
 use lib.Dec.{eqb}
 use lib.ListN.{length, take, drop, replicate, length-replicate, length-drop, drop_of_length-le}
-use lib.Seq.{sets, take_all, length-take-le, drop-drop}
+use lib.Seq.{sets, take_all, length-take-le}
 use Rattle.types.specs.declared.Record.{Record}
 use Rattle.types.specs.declared.Answer.{Answer}
 use Rattle.types.specs.declared.PoweredUp.{PoweredUp}
@@ -18,9 +19,12 @@ use Rattle.paper.specs.Reads.{undriven, undriven_byte}
 use Rattle.paper.specs.Calls.{no_stored, powered_up, transacted, transacted_output}
 use Rattle.paper.specs.Board.{Board, board_of, sent_to, driven_by, after_sent}
 use Rattle.paper.specs.Bench.{LF, space, input_limit, pair_limit, letter_k, before, lines_of, pairs, line_of, bench_identity, bench_board, line_text, line_after, text_of, board_after}
-use Rattle.words.proofs.Lists.{take_min, drop_min}
+use Rattle.words.proofs.Lists.{take_min}
 use Rattle.lines.proofs.Numerals.{pairs_whole}
 use Rattle.lines.proofs.Lines.{pairs_count, Says, line_says}
+use Rattle.std.specs.List.{position, position_or_len}
+use Rattle.std.proofs.Common.{Some, None}
+use borrow.Author.Tests.{ltb-false}
 use Rattle.printing.specs.Printed.{Prints}
 use Rattle.printing.proofs.Text.{prints_empty, prints_then, prints_length}
 
@@ -60,14 +64,29 @@ sent_board b wp i p e = ap (λ (q : Record). board_of q b.array b.rows) e
 pub three_lines : lines_of (letter_k ∷ space ∷ 49 ∷ LF ∷ LF ∷ letter_k ∷ space ∷ 50 ∷ []) ≡ (letter_k ∷ space ∷ 49 ∷ []) ∷ [] ∷ (letter_k ∷ space ∷ 50 ∷ []) ∷ []
 three_lines = refl
 
--- a line ends within the input
-after_within : (t : Bool) (n m : ℕ) → n ≤ m → index_after t n ≤ suc m
-after_within true n m h = omega arith
-after_within false n m h = omega arith
+index_as : (t : Bool) (m n : ℕ) → m ≡ n → cond (not t) (1 + m) 0 ≡ index_after t n
+index_as true m n e = refl
+index_as false m n e = omega (arith, e)
 
-pub index_within : (b : ℕ) (xs : List ℕ) → index_of b xs ≤ length xs
-index_within b [] = omega arith
-index_within b (x ∷ xs) = after_within (eqb x b) (index_of b xs) (length xs) (index_within b xs)
+-- the library finds it
+index_is : (b : ℕ) (xs : List ℕ) → position_or_len (λ (x : ℕ). eqb x b) xs ≡ index_of b xs
+index_is b [] = refl
+index_is b (x ∷ xs) = index_as (eqb x b) _ _ (index_is b xs)
+
+found_as : (t : Bool) (m i : ℕ) → cond t (Some m) None ≡ Some i → i ≡ m
+found_as true m i e = cc
+found_as false m i e = cc
+
+none_as : (t : Bool) (m : ℕ) → cond t (Some m) None ≡ None → t ≡ false
+none_as true m e = cc
+none_as false m e = refl
+
+-- the place that it finds, and where it finds none
+pub index_found : (b : ℕ) (xs : List ℕ) (i : ℕ) → position (λ (x : ℕ). eqb x b) xs ≡ Some i → i ≡ index_of b xs
+index_found b xs i e = found_as _ _ i e ∙ index_is b xs
+
+pub index_none : (b : ℕ) (xs : List ℕ) → position (λ (x : ℕ). eqb x b) xs ≡ None → length xs ≤ index_of b xs
+index_none b xs e = rw (← index_is b xs) (ltb-false _ _ (none_as _ _ e))
 
 -- the first line, and the lines after it
 next_as : (xs : List ℕ) (x : ℕ) (b : Bool) → eqb x LF ≡ b
@@ -91,41 +110,37 @@ module _ (most : ℕ) (xs : List ℕ) (some : 0 < length xs) (b b₁ : Board) (o
   pub text_on : (o₂ : List ℕ) (at₂ : ℕ) → Prints o₁ at₁ (text_of most (lines_of (drop (suc (index_of LF xs)) xs)) b₁) o₂ at₂ → Prints o at (text_of most (lines_of xs) b) o₂ at₂
   text_on o₂ at₂ p = rw (lines_next xs some) (prints_then printed (rw (← after) p))
 
--- how far the lines of an input have gone: to the place from, with the part b and the text in o up to the place at. What the lines from there on leave and print is what all of them do
-pub record Goes (most : ℕ) (input : List ℕ) (b₀ : Board) (o₀ : List ℕ) (from : ℕ) (b : Board) (o : List ℕ) (at : ℕ) : Type 0 where
-  pub board : board_after most (lines_of (drop from input)) b ≡ board_after most (lines_of input) b₀
-  pub text : (o' : List ℕ) (at' : ℕ) → Prints o at (text_of most (lines_of (drop from input)) b) o' at' → Prints o₀ 0 (text_of most (lines_of input) b₀) o' at'
+-- how far the lines of an input have gone: what is left of it is rest, with the part b and the text in o up to the place at. What the lines of the rest leave and print is what all of them do
+pub record Goes (most : ℕ) (input : List ℕ) (b₀ : Board) (o₀ : List ℕ) (rest : List ℕ) (b : Board) (o : List ℕ) (at : ℕ) : Type 0 where
+  pub board : board_after most (lines_of rest) b ≡ board_after most (lines_of input) b₀
+  pub text : (o' : List ℕ) (at' : ℕ) → Prints o at (text_of most (lines_of rest) b) o' at' → Prints o₀ 0 (text_of most (lines_of input) b₀) o' at'
   pub fits : at ≤ length o
   pub same : length o ≡ length o₀
 
-pub goes_start : (most : ℕ) (input : List ℕ) (b : Board) (o : List ℕ) → Goes most input b o 0 b o 0
+pub goes_start : (most : ℕ) (input : List ℕ) (b : Board) (o : List ℕ) → Goes most input b o input b o 0
 goes_start most input b o = record { board = refl; text = λ o' at' p. p; fits = omega arith; same = refl }
 
-module _ (most : ℕ) (input : List ℕ) (b₀ : Board) (o₀ : List ℕ) (from : ℕ) (b : Board) (o : List ℕ) (at : ℕ) (g : Goes most input b₀ o₀ from b o at) where
+module _ (most : ℕ) (input : List ℕ) (b₀ : Board) (o₀ : List ℕ) (rest : List ℕ) (b : Board) (o : List ℕ) (at : ℕ) (g : Goes most input b₀ o₀ rest b o at) where
   -- a line further
-  pub goes_on : (end : ℕ) (b₁ : Board) (o₁ : List ℕ) (at₁ : ℕ) → from < length input → end ≡ from + index_of LF (drop from input)
-      → b₁ ≡ line_after (line_of most (take (end - from) (drop from input))) (take (end - from) (drop from input)) b
-      → Prints o at (line_text (line_of most (take (end - from) (drop from input))) (take (end - from) (drop from input)) b) o₁ at₁
-      → Goes most input b₀ o₀ (min (end + 1) (length input)) b₁ o₁ at₁
-  goes_on end b₁ o₁ at₁ h e after printed =
-      let k : end - from ≡ index_of LF (drop from input) = omega arith in
-      let some : 0 < length (drop from input) = simp length-drop (omega arith) in
-      let n : end + 1 ≡ from + suc (index_of LF (drop from input)) = omega arith in
-      let d : drop (min (end + 1) (length input)) input ≡ drop (suc (index_of LF (drop from input))) (drop from input) = drop_min (end + 1) input ∙ rw n (sym (drop-drop (suc (index_of LF (drop from input))) from input)) in
-      let a = rw k at after in
-      let p = rw k at printed in
+  pub goes_on : (line others : List ℕ) (b₁ : Board) (o₁ : List ℕ) (at₁ : ℕ) → 0 < length rest → line ≡ take (index_of LF rest) rest → others ≡ drop (index_of LF rest + 1) rest
+      → b₁ ≡ line_after (line_of most line) line b
+      → Prints o at (line_text (line_of most line) line b) o₁ at₁
+      → Goes most input b₀ o₀ others b₁ o₁ at₁
+  goes_on line others b₁ o₁ at₁ some e f after printed =
+      let a = rw e at after in
+      let p = rw e at printed in
       let l : length o₁ ≡ length o = prints_length printed in
-      record {
-        board = rw d (board_on most (drop from input) some b b₁ o o₁ at at₁ a p ∙ g.board);
-        text = λ o' at' q. g.text o' at' (text_on most (drop from input) some b b₁ o o₁ at at₁ a p o' at' (rw d at q));
+      rw (f, add-one) (record {
+        board = board_on most rest some b b₁ o o₁ at at₁ a p ∙ g.board;
+        text = λ o' at' q. g.text o' at' (text_on most rest some b b₁ o o₁ at at₁ a p o' at' q);
         fits = omega (arith, printed.place);
         same = l ∙ g.same;
-      }
+      })
 
   -- no line is left
-  pub goes_end : length input ≤ from → (b ≡ board_after most (lines_of input) b₀) × Prints o₀ 0 (text_of most (lines_of input) b₀) o at
+  pub goes_end : length rest ≡ 0 → (b ≡ board_after most (lines_of input) b₀) × Prints o₀ 0 (text_of most (lines_of input) b₀) o at
   goes_end h =
-      let d : drop from input ≡ [] = drop_of_length-le input h in
+      let d : rest ≡ [] = drop_of_length-le rest {i = 0} (omega arith) in
       (rw d at g.board, g.text o at (rw d (prints_empty o at g.fits)))
 
 -- a part that was powered up, with memory that was set to FFh, is the bench's

@@ -1,4 +1,6 @@
 -- What is printed for an input is at most four times as long as the input, so an output of four times its length holds all of it.
+use Rattle.types.specs.declared.Command.{Command}
+use Rattle.std.specs.Prelude.{None, Option, Some}
 use Prim.Native.Nat.{ℕ, suc, ◌+◌, ◌*◌, ◌-◌, ◌≤◌}
 use mathlib.Core.Path.{◌≡◌}
 use mathlib.Core.Bool.{Bool, true, false, cond}
@@ -6,8 +8,6 @@ use mathlib.Core.List.{List, [], ◌∷◌}
 use native.Mathlib.Omega.{arith}
 use lib.Dec.{eqb}
 use lib.ListN.{length, take, drop, get_or, length-append, length-drop, length-replicate}
-use Rattle.types.specs.declared.Decoded.{Decoded}
-use Rattle.types.specs.declared.Decoded.TheVariants.{Known, Unknown}
 use Rattle.types.specs.declared.Phase.{Phase}
 use Rattle.types.specs.declared.Identity.{Identity}
 use Rattle.types.specs.declared.Part.{Part}
@@ -33,13 +33,13 @@ length_either true xs ys n e f = e
 length_either false xs ys n e f = f
 
 module _ (id : Identity) (p : Part) (f : Phase) (s : Bool) (xs rs : List ℕ) (wp : Bool) (i : List ℕ) where
-  length_output : (d : Decoded) → length (output_to d id p f xs rs wp i) ≡ length i
+  length_output : (d : Option Command) → length (output_to d id p f xs rs wp i) ≡ length i
   unfolding output_of
-  length_output (Known k) =
-      length_either (eqb (ignored_number (Known k) p f i wp) 0) (output_of (columns k) id p xs rs i) (undriven (length i)) (length i)
+  length_output (Some k) =
+      length_either (eqb (ignored_number (Some k) p f i wp) 0) (output_of (columns k) id p xs rs i) (undriven (length i)) (length i)
       (length_up_to (length i) (output_byte (columns k) id p xs rs i))
       (length-replicate (length i) undriven_byte)
-  length_output Unknown = length-replicate (length i) undriven_byte
+  length_output None = length-replicate (length i) undriven_byte
 
   length_after : (o : List ℕ) → length o ≡ length i → length (output_after id p f s xs rs wp i o) ≡ length i
   unfolding output_after

@@ -1,19 +1,22 @@
 // The lines of the program bench, run on a part: what each does with it, and what is printed for it.
 #![tactic(auto)]
 
-ghost use Rattle.std.specs.Prelude.{◌≡◌, [], ◌+◌, ◌*◌, ◌≤◌, min, length, drop};
+ghost use Rattle.std.specs.Prelude.{◌≡◌, ◌==◌, [], ◌+◌, ◌*◌, ◌≤◌, length, take, drop, position};
 ghost use Rattle.words.specs.Logic.{when_zero};
 ghost use Rattle.paper.specs.Sizes.{array_bytes, rows_bytes, transaction_limit};
+ghost use Rattle.paper.specs.Refusals.{number_of};
 ghost use Rattle.paper.specs.Board.{board_of, sent_to, after_ticks};
 ghost use Rattle.paper.specs.Bench.{LF, pairs, line_of, sent_text, waited_text, line_text, line_after, lines_of, text_of, board_after, bench_board, bench_text, bench_after};
 ghost use Rattle.printing.specs.Printed.{Prints};
 ghost use Rattle.bench_lines.specs.Lent.{lent_number};
 ghost use Rattle.bench_lines.specs.LineEnd.{index_of};
 
-use types::{Identity, Line, Record};
+use types::{Identity, Line, Record, Refusal};
 
-// Bench reads up to 65,536 bytes, in lines of at most 64 pairs.
-const INPUT_MOST: usize = 65536;
+// Bench reads up to 65,536 bytes, in lines of at most 64 pairs. What it prints is at most four times as long.
+pub const INPUT_MOST: usize = 65536;
+
+pub const OUTPUT_MOST: usize = 4 * INPUT_MOST;
 
 const PAIRS_MOST: usize = 64;
 
@@ -24,12 +27,16 @@ struct Ran {
     printed: usize,
 }
 
-// What bench answers: the number of a refusal, or 0, and how many bytes it printed.
+// What bench answers: the number of a refusal, or 0, as lent_number gives it, and how many bytes it printed.
 #[derive(Clone, Copy)]
 pub struct Benched {
     pub number: u8,
     pub printed: usize,
 }
+
+// The record, the array and the rows are arguments of their own, as they are for transact and tick, which take them apart. So
+// are what is sent and what comes back, and the output and the place in it, as printing takes them. The limit of pairs is a
+// plain number, as it is for line_of.
 
 // A line that is a transaction. The bytes that are sent and those that are driven are lent room.
 fn send(
@@ -52,13 +59,10 @@ fn send(
     let answer = transact::transact(state, array, rows, wp, sent, back);
     let next = answer.next;
     let printed = printing::put_answer(output, at, answer.number, answer.first, back);
-    Ran {
-        next: next,
-        printed: printed,
-    }
+    Ran { next, printed }
 }
 
-// So many ticks.
+// So many ticks. Like send it makes a call and prints what that answers, but each of them its own call and its own line.
 fn wait(
     state: Record,
     array: &mut [u8],
@@ -73,13 +77,10 @@ fn wait(
     let ticked = ticks::tick(state, array, rows, ticks);
     let next = ticked.next;
     let printed = printing::put_ticks(output, at, ticked.number, ticked.done);
-    Ran {
-        next: next,
-        printed: printed,
-    }
+    Ran { next, printed }
 }
 
-// One line.
+// One line. Each line that says something makes another call.
 fn run_line(
     state: Record,
     array: &mut [u8],
@@ -116,31 +117,28 @@ fn run_line(
             let printed = printing::put_other(output, at);
             Ran {
                 next: state,
-                printed: printed,
+                printed,
             }
         }
     }
 }
 
-// The place where a line ends that begins at a place of an input: at its LF, or where the input ends.
-fn line_end(input: &[u8], from: usize) -> usize
-    ensures { result ≡ from + index_of LF (drop from input.now) }
+// The place of the first LF of a text.
+fn line_end(text: &[u8]) -> Option<usize>
+    ensures { result ≡ position (λ c. c == LF) text.now }
 {
-    let mut end = from;
-    while end < input.len() {
-        if input[end] == b'\n' {
-            return end;
-        }
-        end += 1;
-    }
-    end
+    text.iter().position(|c| *c == b'\n')
 }
 
-// The place after a line that ends at a place of an input of n bytes.
-fn after(end: usize, n: usize) -> usize
-    ensures { result ≡ min (end + 1) n }
+// The first line of a text, without its LF, and what follows it.
+fn first_line(text: &[u8]) -> (&[u8], &[u8])
+    ensures line { result.0.now ≡ take (index_of LF text.now) text.now }
+    ensures rest { result.1.now ≡ drop (index_of LF text.now + 1) text.now }
 {
-    if end < n { end + 1 } else { n }
+    match line_end(text) {
+        Some(end) => (&text[..end], &text[end + 1..]),
+        None => (text, &[]),
+    }
 }
 
 // Room for the bytes of a transaction.
@@ -170,24 +168,15 @@ fn run(
         next: state,
         printed: 0,
     };
-    let n = input.len();
-    let mut from = 0;
-    while from < n {
-        let end = line_end(input, from);
+    let mut rest = input;
+    while !rest.is_empty() {
+        let (line, others) = first_line(rest);
         let next = ran.next;
         let at = ran.printed;
         ran = run_line(
-            next,
-            array,
-            rows,
-            most,
-            &input[from..end],
-            &mut sent,
-            &mut back,
-            output,
-            at,
+            next, array, rows, most, line, &mut sent, &mut back, output, at,
         );
-        from = after(end, n);
+        rest = others;
     }
     ran
 }
@@ -223,10 +212,11 @@ fn on_part(
 }
 
 // 1 for an array that is not a block, 2 for rows that are not 1,024 bytes.
-fn lent_number(array: usize, rows: usize) -> u8
-    ensures { result ≡ lent_number array rows }
+fn check_lent(array: usize, rows: usize) -> Result<(), Refusal>
+    ensures { number_of result ≡ lent_number array rows }
 {
-    refusals::size_number_or(1, array, refusals::rows_number_or(rows, 0))
+    refusals::check_size(1, array)?;
+    refusals::check_rows(rows)
 }
 
 // The program bench on what it read, with the memory of a 1-block part, which it sets to FFh first. It prints as much
@@ -238,17 +228,11 @@ pub fn bench(array: &mut [u8], rows: &mut [u8], input: &[u8], output: &mut [u8])
     ensures rows { rows.new ≡ when_zero (lent_number (length array.old) (length rows.old)) (bench_after input.now).rows rows.old }
     ensures output { Prints output.old 0 (when_zero (lent_number (length array.old) (length rows.old)) (bench_text input.now) []) output.new result.printed }
 {
-    let number = lent_number(array.len(), rows.len());
-    if number != 0 {
-        return Benched {
-            number: number,
-            printed: 0,
-        };
+    if let Err(refusal) = check_lent(array.len(), rows.len()) {
+        let number = refusals::number(refusal);
+        return Benched { number, printed: 0 };
     }
-    let end = words::lesser(INPUT_MOST, input.len());
-    let printed = on_part(1, array, rows, PAIRS_MOST, &input[0..end], output);
-    Benched {
-        number: 0,
-        printed: printed,
-    }
+    let end = input.len().min(INPUT_MOST);
+    let printed = on_part(1, array, rows, PAIRS_MOST, &input[..end], output);
+    Benched { number: 0, printed }
 }

@@ -1,3 +1,4 @@
 pub mod Judged
+pub mod Records
 pub mod Told
 pub mod Tight

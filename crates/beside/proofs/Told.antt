@@ -9,7 +9,7 @@ use Rattle.paper.specs.Numbers.{size_number}
 use Rattle.paper.specs.Board.{board_of}
 use Rattle.record_bytes.specs.declared.Found.{Found}
 use Rattle.record_bytes.specs.Layout.{record_bytes}
-use Rattle.record_bytes.specs.Read.{Held, record_in, found}
+use Rattle.record_bytes.specs.Read.{Held, record_in, found_of}
 use Rattle.record_bytes.proofs.Back.{held_bytes, on_none, on_held_lem}
 use Rattle.beside.specs.Beside.{beside_refusal, board_bytes}
 
@@ -49,7 +49,7 @@ module _ (h : Held) (fits : Bool) (a number : ℕ) where
     passed_fits = fits_as fits refl
 
 -- a record that was found in the bytes
-pub found_so : (bs : List ℕ) (fits : Bool) (a number : ℕ) → fits ≡ false → (x : Found) → x ≡ found (record_in bs) → (record_in bs).ok ≡ true → (k : ℕ) → k ≡ (size_number x.part.blocks a or_else number) → k ≡ beside_refusal (record_in bs) fits a number
+pub found_so : (bs : List ℕ) (fits : Bool) (a number : ℕ) → fits ≡ false → (x : Found) → x ≡ found_of (record_in bs).state → (record_in bs).ok ≡ true → (k : ℕ) → k ≡ (size_number x.part.blocks a or_else number) → k ≡ beside_refusal (record_in bs) fits a number
 found_so bs fits a number f x ex e k ek =
     ek ∙ ap (λ (g : Found). size_number g.part.blocks a or_else number) ex ∙ sym (held_so (record_in bs) fits a number f e)
 

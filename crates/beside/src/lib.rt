@@ -2,21 +2,24 @@
 #![tactic(auto)]
 
 ghost use Rattle.std.specs.Prelude.{◌≡◌};
+ghost use Rattle.paper.specs.Refusals.{number, number_of};
 ghost use Rattle.record_bytes.specs.Read.{record_in};
 ghost use Rattle.beside.specs.Beside.{beside_refusal};
 
-// 1, or a number that comes after it, where what is lent doesn't fit the array; else 0, and the plain call judges what is left.
-// Where the bytes hold no record there is no size to judge by.
-pub fn refusal(bytes: &[u8], fits: bool, array: usize, number: u8) -> u8
-    ensures { result ≡ beside_refusal (record_in bytes.now) fits array number }
+use types::Refusal;
+
+// Refused with 1, or with a refusal that comes after it, where what is lent doesn't fit the array; else the plain call judges
+// what is left. Where the bytes hold no record there is no size to judge by.
+pub fn check(bytes: &[u8], fits: bool, array: usize, refusal: Refusal) -> Result<(), Refusal>
+    ensures { number_of result ≡ beside_refusal (record_in bytes.now) fits array (number refusal) }
 {
     if fits {
-        return 0;
+        return Ok(());
     }
-    let found = record_bytes::reading::read(bytes);
-    if !found.ok {
-        return 0;
-    }
+    let Some(found) = record_bytes::reading::read(bytes) else {
+        return Ok(());
+    };
     let part = found.part;
-    refusals::size_number_or(part.blocks, array, number)
+    refusals::check_size(part.blocks, array)?;
+    Err(refusal)
 }

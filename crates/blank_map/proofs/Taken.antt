@@ -1,46 +1,52 @@
 -- The numbers of a rebuild and of a query: what refuses them, what it means that nothing does, and what they answer then.
 use Prim.Native.Nat.{ℕ, ◌*◌, ◌^◌, ◌<◌, ◌≤◌}
 use mathlib.Core.Path.{◌≡◌, refl, sym, ap, ◌∙◌}
-use mathlib.Core.Bool.{Bool, true, false, cond}
+use mathlib.Core.Bool.{Bool, true, false}
 use mathlib.Core.List.{List}
 use native.Mathlib.Omega.{arith}
 use borrow.Author.Tests.{eqb-true, ne_eqb, ltb-true, lt-ltb, le-ltb}
 use lib.Dec.{eqb, ltb, leb}
 use lib.ListN.{length}
-use Rattle.types.specs.declared.Blank.TheVariants.{Page, NoPage, Refused}
 use Rattle.words.specs.Logic.{◌and◌, unless, ◌or_else◌}
 use Rattle.words.specs.Lists.{up_to, first_of}
 use Rattle.words.specs.Bits.{bit_in, byte_of}
-use Rattle.words.proofs.Tests.{and_l, or_else_none, or_else_zero, unless_zero}
+use Rattle.words.proofs.Tests.{and_l, or_else_zero, unless_zero}
 use Rattle.paper.specs.Sizes.{size_ok, array_bytes, array_pages, map_bytes}
 use Rattle.paper.specs.Numbers.{size_number, map_number, page_number, rebuild_number, query_number}
-use Rattle.paper.specs.Map.{blank_page, map_of, rebuilt, next_blank, queried}
+use Rattle.std.specs.Prelude.{Option, Some, None, Result, Ok, Err}
+use Rattle.types.specs.declared.Refusal.{Refusal}
+use Rattle.std.specs.Result.{is_ok}
+use Rattle.paper.specs.Refusals.{number, number_of}
+use Rattle.paper.proofs.Refusals.{some_number, same_refusal}
+use Rattle.paper.specs.Map.{blank_of, Page, NoPage, Refused, blank_page, map_of, rebuilt, next_blank, queried}
 use Rattle.paper.proofs.Sizes.{size_range}
 
--- the tests by the blocks of a part of n, or 0 where there is none
+-- what tests say by their number: 0 where they refuse nothing
+pub ok_number : (r : Result (Unit {0}) Refusal) → is_ok r ≡ true → number_of r ≡ 0
+ok_number (Ok u) e = refl
+ok_number (Err x) e = cc
+
+pub err_number : (r : Result (Unit {0}) Refusal) → is_ok r ≡ false → number_of r ≡ 0 → ⊥
+err_number (Ok u) e z = cc
+err_number (Err x) e z = some_number x z
+
+-- the tests one after the other: the size's first
 module _ (n : ℕ) where
-  few_as : (t : Bool) → size_ok n ≡ t → cond t n 0 ≤ 512
-  few_as true e = (size_range n e).1
-  few_as false e = omega arith
+  pub known_small : (t : Bool) → t ≡ size_ok n → 0 ≡ unless t 1 → n ≤ 512
+  known_small t e f = (size_range n (sym e ∙ unless_zero t 0 (sym f))).1
 
-  pub few_blocks : cond (size_ok n) n 0 ≤ 512
-  few_blocks = few_as (size_ok n) refl
-
-  rebuild_by : (a m : ℕ) (t : Bool) → size_ok n ≡ t → (unless (t and eqb a (array_bytes (cond t n 0))) 1 or_else (unless (eqb m (map_bytes (cond t n 0))) 36 or_else 0)) ≡ rebuild_number n a m
+  rebuild_by : (a m : ℕ) (t u : Bool) → size_ok n ≡ t → eqb a (array_bytes n) ≡ u → (unless t 1 or_else (unless u 1 or_else unless (eqb m (map_bytes n)) 36)) ≡ rebuild_number n a m
   unfolding rebuild_number size_number map_number unless ◌and◌ ◌or_else◌
-  rebuild_by a m true e = rw (e, or_else_none) refl
-  rebuild_by a m false e = rw e refl
+  rebuild_by a m true true e f = rw (e, f) refl
+  rebuild_by a m true false e f = rw (e, f) refl
+  rebuild_by a m false u e f = rw e refl
 
-  pub rebuild_as : (a m : ℕ) → (unless (size_ok n and eqb a (array_bytes (cond (size_ok n) n 0))) 1 or_else (unless (eqb m (map_bytes (cond (size_ok n) n 0))) 36 or_else 0)) ≡ rebuild_number n a m
-  rebuild_as a m = rebuild_by a m (size_ok n) refl
+  pub rebuild_as : (a m : ℕ) → (unless (size_ok n) 1 or_else (unless (eqb a (array_bytes n)) 1 or_else unless (eqb m (map_bytes n)) 36)) ≡ rebuild_number n a m
+  rebuild_as a m = rebuild_by a m (size_ok n) (eqb a (array_bytes n)) refl refl
 
-  query_by : (m q : ℕ) (t : Bool) → size_ok n ≡ t → (unless t 1 or_else (unless (eqb m (map_bytes (cond t n 0))) 36 or_else (unless (ltb q (array_pages (cond t n 0))) 37 or_else 0))) ≡ query_number n m q
-  unfolding query_number map_number page_number unless ◌or_else◌
-  query_by m q true e = rw (e, or_else_none) refl
-  query_by m q false e = rw e refl
-
-  pub query_as : (m q : ℕ) → (unless (size_ok n) 1 or_else (unless (eqb m (map_bytes (cond (size_ok n) n 0))) 36 or_else (unless (ltb q (array_pages (cond (size_ok n) n 0))) 37 or_else 0))) ≡ query_number n m q
-  query_as m q = query_by m q (size_ok n) refl
+  pub query_as : (m q : ℕ) → (unless (size_ok n) 1 or_else (unless (eqb m (map_bytes n)) 36 or_else unless (ltb q (array_pages n)) 37)) ≡ query_number n m q
+  unfolding query_number map_number page_number
+  query_as m q = refl
 
 -- what holds where nothing refuses a rebuild
 module _ (n a m : ℕ) (taken : rebuild_number n a m ≡ 0) where
@@ -86,9 +92,9 @@ module _ (n : ℕ) (xs m : List ℕ) where
 
 -- what a query says
 module _ (n : ℕ) (m : List ℕ) (q : ℕ) where
-  pub queried_refused : (query_number n (length m) q ≡ 0 → ⊥) → Refused (query_number n (length m) q) ≡ queried n m q
+  pub queried_refused : (k : ℕ) → k ≡ query_number n (length m) q → (k ≡ 0 → ⊥) → Refused k ≡ queried n m q
   unfolding queried
-  queried_refused h = rw (ne_eqb _ 0 h) refl
+  queried_refused k e h = rw (← e, ne_eqb k 0 h) refl
 
   module _ (taken : query_number n (length m) q ≡ 0) where
     pages_are : length m * 8 ≡ array_pages n
@@ -108,3 +114,18 @@ module _ (n : ℕ) (m : List ℕ) (q : ℕ) where
     queried_none r e l =
         let f : next_blank n m q ≡ r = sym (e ∙ found_is) in
         rw (taken, f, le-ltb r (array_pages n) (rw (← pages_are) l)) refl
+
+-- a result that says the answer of a query is the only one that does
+pub same_blank : (x y : Result (Option ℕ) Refusal) → blank_of x ≡ blank_of y → x ≡ y
+same_blank (Ok None) (Ok None) e = refl
+same_blank (Ok None) (Ok (Some r)) e = cc
+same_blank (Ok None) (Err b) e = cc
+same_blank (Ok (Some q)) (Ok None) e = cc
+same_blank (Ok (Some q)) (Ok (Some r)) e = cc
+same_blank (Ok (Some q)) (Err b) e = cc
+same_blank (Err a) (Ok None) e = cc
+same_blank (Err a) (Ok (Some r)) e = cc
+same_blank (Err a) (Err b) e =
+    let n : number a ≡ number b = cc in
+    let f : Err a ≡ Err b = same_refusal {x = Err a} {y = Err b} n refl in
+    cc

@@ -1,10 +1,8 @@
 -- A map of blank pages: how it is kept after ticks, and how it is searched.
-use Rattle.std.specs.Prelude.{ℕ, ◌+◌, ◌-◌, ◌/◌, ◌%◌, ◌^◌, Bool, true, cond, List, eqb, leb, length, get_or}
+use Rattle.std.specs.Prelude.{ℕ, ◌+◌, ◌-◌, ◌/◌, ◌%◌, ◌^◌, Bool, true, cond, List, eqb, leb, length, get_or, None, Option, Some}
 use Rattle.std.specs.Int.Count.{count_trailing_zeros}
 use Rattle.types.specs.declared.Operation.{Operation}
 use Rattle.types.specs.declared.Operation.TheVariants.{Program, Erase, Write}
-use Rattle.types.specs.declared.Work.{Work}
-use Rattle.types.specs.declared.Work.TheVariants.{NoWork, At}
 use Rattle.types.specs.declared.Reached.{Reached}
 use Rattle.words.specs.Logic.{◌and◌}
 use Rattle.words.specs.Lists.{all_zero, between}
@@ -19,9 +17,9 @@ marked_by (Program w s b c d) k xs m =
 marked_by (Erase u b d) k xs m = put_bits (pages_by (Erase u b d) k) (first_page (Erase u b d)) (λ q. true) m
 marked_by (Write r v) k xs m = m
 
-abbrev pub marked_in : Work → ℕ → List ℕ → List ℕ → List ℕ
-marked_in NoWork k xs m = m
-marked_in (At o) k xs m = marked_by o k xs m
+abbrev pub marked_in : Option Operation → ℕ → List ℕ → List ℕ → List ℕ
+marked_in None k xs m = m
+marked_in (Some o) k xs m = marked_by o k xs m
 
 -- a map after ticks that reached r and left the array xs
 unfoldable pub marked : Reached → List ℕ → List ℕ → List ℕ

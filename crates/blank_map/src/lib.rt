@@ -7,16 +7,17 @@ ghost use Rattle.words.specs.Lists.{all_below, first_of, up_to};
 ghost use Rattle.words.specs.Bits.{bit_in, byte_of, put_bit, put_bits};
 ghost use Rattle.paper.specs.Numbers.{rebuild_number, query_number};
 ghost use Rattle.types.specs.declared.Memory.TheVariants.{Array};
-ghost use Rattle.paper.specs.Sizes.{size_ok, same_memory};
-ghost use Rattle.paper.specs.Map.{blank_page, rebuilt, queried};
+ghost use Rattle.paper.specs.Sizes.{same_memory};
+ghost use Rattle.paper.specs.Map.{blank_page, rebuilt, blank_of, queried};
+ghost use Rattle.paper.specs.Refusals.{number_of};
 ghost use Rattle.blank_map.specs.Marked.{with_bit, zero_group, clear_from, marked_by, marked};
 
-use types::{Blank, Memory, Operation, Reached, Work};
+use types::{Memory, Operation, Reached, Refusal};
 
-// A block has 256 pages, and 32 bytes of a map.
-const BLOCK_PAGES: usize = 256;
+// A block has 256 pages, and a byte of a map for eight of them.
+const BLOCK_PAGES: usize = types::BLOCK_BYTES / types::PAGE_BYTES;
 
-const MAP_BYTES: usize = 32;
+const MAP_BYTES: usize = BLOCK_PAGES / 8;
 
 // How many bytes of a page are looked at at once.
 const CHUNK: usize = 64;
@@ -25,91 +26,74 @@ const CHUNK: usize = 64;
 fn all_blank(bytes: &[u8]) -> bool
     ensures { result ≡ all_below (length bytes.now) (λ i. eqb (get_or bytes.now i 0) 255) }
 {
-    let mut all: u8 = 255;
-    let mut i = 0;
-    while i < bytes.len() {
-        all = all & bytes[i];
-        i += 1;
+    let mut all = 255;
+    for byte in bytes {
+        all &= *byte;
     }
     all == 255
 }
 
 // Whether a page of the array is all FFh. It looks at a chunk at a time. A page beyond the array is not.
+// The array and a page's number, as the paper's blank_page takes them: a page that is not there cannot be lent.
 fn blank_page(array: &[u8], page: usize) -> bool
     ensures { result ≡ blank_page array.now page }
 {
     if array.len() / types::PAGE_BYTES <= page {
         return false;
     }
+    // A range over the four chunks of a page.
     let base = page * types::PAGE_BYTES;
-    let mut k = 0;
-    while k < 4 {
+    for k in 0..types::PAGE_BYTES / CHUNK {
         let at = base + k * CHUNK;
         if !all_blank(&array[at..at + CHUNK]) {
             return false;
         }
-        k += 1;
     }
     true
 }
 
-// The byte of a map for the eight pages of its bits, of which the last is looked at first.
+// The byte of a map for the eight pages of its bits, of which the last is looked at first. Nothing in std makes a byte of bits.
 fn byte_of(array: &[u8], j: usize) -> u8
     requires { j * 8 + 8 < 2 ^ 64 }
     ensures { result ≡ byte_of (blank_page array.now) j }
 {
-    let mut byte: u8 = 0;
-    let mut k = 8;
-    while 0 < k {
-        k -= 1;
+    let mut byte = 0;
+    for k in (0..8).rev() {
         byte = byte * 2 + words::bit_of(blank_page(array, j * 8 + k));
     }
     byte
 }
 
-// A map made from the array, one byte after the other.
+// A map made from the array, one byte after the other. The array is not cut in step: the last pages of a map may lie beyond it.
 fn build(array: &[u8], map: &mut [u8])
     requires { length map.old * 8 < 2 ^ 63 }
     ensures { map.new ≡ up_to (length map.old) (byte_of (blank_page array.now)) }
 {
-    let mut j = 0;
-    while j < map.len() {
-        map[j] = byte_of(array, j);
-        j += 1;
+    for (j, byte) in map.iter_mut().enumerate() {
+        *byte = byte_of(array, j);
     }
 }
 
-// The blocks of a part of so many; 0 where there is no such part.
-fn known_blocks(blocks: u64) -> usize
-    ensures { result ≡ cond (size_ok blocks) blocks 0 }
+// A rebuild's 1 and 36: array and map are their lengths.
+fn check_rebuild(blocks: u64, array: usize, map: usize) -> Result<(), Refusal>
+    ensures { number_of result ≡ rebuild_number blocks array map }
 {
-    if sizes::size_ok(blocks) {
-        return blocks as usize;
-    }
-    0
+    refusals::ensure(sizes::size_ok(blocks), Refusal::Size)?;
+    let size = blocks as usize;
+    refusals::ensure(array == size * types::BLOCK_BYTES, Refusal::Size)?;
+    refusals::ensure(map == size * MAP_BYTES, Refusal::Map)
 }
 
-// A rebuild's 1 and 36; 0 where it is not refused.
-fn rebuild_number(blocks: u64, array: usize, map: usize) -> u8
-    ensures { result ≡ rebuild_number blocks array map }
-{
-    let known = sizes::size_ok(blocks);
-    let size = known_blocks(blocks);
-    let same = words::both(known, array == size * types::BLOCK_BYTES);
-    let fits = map == size * MAP_BYTES;
-    words::number_or(same, 1, words::number_or(fits, 36, 0))
-}
-
-// The map made from the array. Refused, with 1 or 36, it is as it was.
+// The map made from the array. Refused, with 1 or 36, it is as it was. It answers the number, as the paper's rebuild_number.
 pub fn rebuild(blocks: u64, array: &[u8], map: &mut [u8]) -> u8
     ensures number { result ≡ rebuild_number blocks (length array.now) (length map.old) }
     ensures map { map.new ≡ rebuilt blocks array.now map.old }
 {
-    let number = rebuild_number(blocks, array.len(), map.len());
-    if number == 0 {
+    let checked = check_rebuild(blocks, array.len(), map.len());
+    if checked.is_ok() {
         build(array, map);
     }
-    number
+    refusals::number_of(checked)
 }
 
 // Whether eight bytes from byte j on are all 0. It looks at each of them, with no early exit.
@@ -117,10 +101,7 @@ fn zero_group(map: &[u8], j: usize) -> bool
     requires { j < length map.now }
     ensures { result ≡ zero_group map.now j }
 {
-    if map.len() - j < 8 {
-        return false;
-    }
-    runs::zero_from(&map[j..j + 8], 0)
+    8 <= map.len() - j && runs::zero_from(&map[j..j + 8], 0)
 }
 
 // How many bits from a bit on are seen at once to be 0: up to the next one of its byte, or all that are left of its byte, or those
@@ -133,7 +114,7 @@ fn clear_from(map: &[u8], bit: usize) -> usize
     let place = bit % 8;
     let rest = map[j] >> place;
     if rest != 0 {
-        return u8::trailing_zeros(rest) as usize;
+        return rest.trailing_zeros() as usize;
     }
     if place != 0 {
         return 8 - place;
@@ -144,13 +125,14 @@ fn clear_from(map: &[u8], bit: usize) -> usize
     8
 }
 
-// The first bit at or after a bit that is 1; the number of bits where none is.
+// The first bit at or after a bit that is 1; the number of bits where none is, as the definition of first_of has it.
 fn first_set(map: &[u8], from: usize) -> usize
     requires { (from < length map.now * 8) × (length map.now * 8 < 2 ^ 63) }
     ensures { result ≡ first_of (length map.now * 8) (λ i. leb from i and bit_in map.now i) }
 {
     let end = map.len() * 8;
     let mut at = from;
+    // A step is as long as what is seen at once, so no range or iterator has these places.
     while at < end {
         let clear = clear_from(map, at);
         if clear == 0 {
@@ -161,34 +143,31 @@ fn first_set(map: &[u8], from: usize) -> usize
     at
 }
 
-// A query's 1, 36 and 37; 0 where it is not refused.
-fn query_number(blocks: u64, map: usize, page: u64) -> u8
-    ensures { result ≡ query_number blocks map page }
+// A query's 1, 36 and 37: map is its length.
+fn check_query(blocks: u64, map: usize, page: u64) -> Result<(), Refusal>
+    ensures { number_of result ≡ query_number blocks map page }
 {
     let known = sizes::size_ok(blocks);
-    let size = known_blocks(blocks);
-    let fits = map == size * MAP_BYTES;
-    let inside = (page as usize) < size * BLOCK_PAGES;
-    let later = words::number_or(fits, 36, words::number_or(inside, 37, 0));
-    words::number_or(known, 1, later)
+    refusals::ensure(known, Refusal::Size)?;
+    let size = blocks as usize;
+    refusals::ensure(map == size * MAP_BYTES, Refusal::Map)?;
+    refusals::ensure((page as usize) < size * BLOCK_PAGES, Refusal::Page)
 }
 
-// The first page at or after a page that the map has as blank, or none. It may be refused, with 1, 36 or 37.
-pub fn next(blocks: u64, map: &[u8], page: u64) -> Blank
-    ensures { result ≡ queried blocks map.now page }
+// The first page at or after a page that the map has as blank, if there is one. It may be refused, with 1, 36 or 37.
+pub fn next(blocks: u64, map: &[u8], page: u64) -> Result<Option<usize>, Refusal>
+    ensures { blank_of result ≡ queried blocks map.now page }
 {
-    let number = query_number(blocks, map.len(), page);
-    if number != 0 {
-        return Blank::Refused(number);
-    }
+    check_query(blocks, map.len(), page)?;
     let found = first_set(map, page as usize);
     if found < map.len() * 8 {
-        return Blank::Page(found);
+        Ok(Some(found))
+    } else {
+        Ok(None)
     }
-    Blank::NoPage
 }
 
-// A byte with one of its bits as said.
+// A byte with one of its bits as said: its weight is added or taken away, as in the definition of with_bit.
 fn with_bit(byte: u8, place: usize, value: bool) -> u8
     requires { place < 8 }
     ensures { result ≡ with_bit byte place value }
@@ -205,7 +184,8 @@ fn with_bit(byte: u8, place: usize, value: bool) -> u8
     byte
 }
 
-// The bit at a place of byte j put as said. A byte beyond the map is none.
+// The bit at a place of byte j put as said. A byte beyond the map is none, so the map is lent whole, here and below, and bits are
+// numbered as in the definitions of put_bit and put_bits.
 fn put_bit(map: &mut [u8], j: usize, place: usize, value: bool)
     requires { place < 8 }
     ensures { map.new ≡ put_bit map.old (j * 8 + place) value }
@@ -220,10 +200,8 @@ fn mark_bits(map: &mut [u8], j: usize, place: usize, count: usize)
     requires { place + count ≤ 8 }
     ensures { map.new ≡ put_bits count (j * 8 + place) (λ q. true) map.old }
 {
-    let mut i = 0;
-    while i < count {
+    for i in 0..count {
         put_bit(map, j, place + i, true);
-        i += 1;
     }
 }
 
@@ -235,8 +213,8 @@ fn mark_bytes(map: &mut [u8], j: usize, count: usize)
     if n <= j {
         return;
     }
-    let some = words::lesser(count, n - j);
-    runs::blank(&mut map[j..j + some]);
+    let some = count.min(n - j);
+    map[j..j + some].fill(0xFF);
 }
 
 // So many bits from a place of byte j on set: up to the next byte one by one, then whole bytes, then the rest.
@@ -248,7 +226,7 @@ fn mark(map: &mut [u8], j: usize, place: usize, count: usize)
     if n <= j {
         return;
     }
-    let head = words::lesser((8 - place) % 8, count);
+    let head = ((8 - place) % 8).min(count);
     mark_bits(map, j, place, head);
     let first = j + (place + 7) / 8;
     let rest = count - head;
@@ -282,13 +260,8 @@ fn mark_pages(map: &mut [u8], page: usize, done: usize, count: usize)
 fn keep_program(memory: Memory, base: usize, count: usize, array: &[u8], map: &mut [u8])
     ensures { map.new ≡ put_bits (cond (same_memory Array memory) (min count 1) 0) (base / 256) (blank_page array.now) map.old }
 {
-    match memory {
-        Memory::Array => {
-            if 0 < count {
-                look_again(array, map, base / types::PAGE_BYTES);
-            }
-        }
-        Memory::Rows => {}
+    if memory == Memory::Array && 0 < count {
+        look_again(array, map, base / types::PAGE_BYTES);
     }
 }
 
@@ -296,13 +269,12 @@ fn keep_program(memory: Memory, base: usize, count: usize, array: &[u8], map: &m
 fn keep_erase(memory: Memory, base: usize, done: usize, count: usize, map: &mut [u8])
     ensures { map.new ≡ put_bits (cond (same_memory Array memory) count 0) (base / 256 + done) (λ q. true) map.old }
 {
-    match memory {
-        Memory::Array => mark_pages(map, base / types::PAGE_BYTES, done, count),
-        Memory::Rows => {}
+    if memory == Memory::Array {
+        mark_pages(map, base / types::PAGE_BYTES, done, count);
     }
 }
 
-// The map kept after so many ticks of an operation, which left the array so.
+// The map kept after so many ticks of an operation, which left the array so. What is kept differs with the operation.
 fn keep_of(operation: Operation, count: usize, array: &[u8], map: &mut [u8])
     ensures { map.new ≡ marked_by operation count array.now map.old }
 {
@@ -325,9 +297,7 @@ fn keep_of(operation: Operation, count: usize, array: &[u8], map: &mut [u8])
 pub fn keep(reached: Reached, array: &[u8], map: &mut [u8])
     ensures { map.new ≡ marked reached array.now map.old }
 {
-    let work = reached.work;
-    match work {
-        Work::NoWork => {}
-        Work::At(operation) => keep_of(operation, reached.count, array, map),
+    if let Some(operation) = reached.work {
+        keep_of(operation, reached.count, array, map);
     }
 }

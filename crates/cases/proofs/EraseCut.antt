@@ -1,4 +1,6 @@
 -- BER64 at block 3 that is begun, runs for some ticks, is suspended and reset: what each call answers, and what the cut leaves of the array and of the rows.
+use Rattle.types.specs.declared.Command.{Command}
+use Rattle.std.specs.Prelude.{Option}
 use Prim.Native.Nat.{ℕ, ◌+◌, ◌*◌, ◌%◌, ◌<◌}
 use mathlib.Core.Path.{◌≡◌, refl, sym, ap, ◌∙◌, subst, subst⁻¹}
 use mathlib.Core.Bool.{Bool, true, false, not, cond}
@@ -16,7 +18,6 @@ use Rattle.types.specs.declared.Operation.TheVariants.{Erase}
 use Rattle.types.specs.declared.Phase.{Phase}
 use Rattle.types.specs.declared.Phase.TheVariants.{Idle, Busy, Suspended}
 use Rattle.types.specs.declared.Command.TheVariants.{BlockErase64}
-use Rattle.types.specs.declared.Decoded.{Decoded}
 use Rattle.types.specs.declared.Record.{Record}
 use Rattle.types.specs.declared.Answer.{Answer}
 use Rattle.types.specs.declared.Ticked.{Ticked}
@@ -80,7 +81,7 @@ module _ (p : Record) (r : Ready p) (has : 3 < p.part.blocks) (free : Free (code
         rw e b
 
     sent_three : sent_as p input ≡ Three false
-    sent_three = ap (λ (c : Decoded). addressing_by c p.part.bank) (known_here p r 0xD8 BlockErase64 refl) ∙ three_bytes p r
+    sent_three = ap (λ (c : Option Command). addressing_by c p.part.bank) (known_here p r 0xD8 BlockErase64 refl) ∙ three_bytes p r
 
     unit_at : unit_base Block64 p.part.blocks (place_in Array (sent_as p input) p.part.blocks input) ≡ 0x030000
     unit_at = ap (λ (g : Addressing). unit_base Block64 p.part.blocks (place_in Array g p.part.blocks input)) sent_three ∙ at_block_3

@@ -1,4 +1,5 @@
 -- The proof of cases 4 to 11 on every part that they speak of.
+use Rattle.std.specs.Prelude.{Some}
 use Prim.Native.Nat.{ℕ, ◌+◌, ◌<◌, ◌≤◌}
 use mathlib.Core.Path.{◌≡◌, refl, ap, ◌∙◌}
 use mathlib.Core.Bool.{Bool, true, false}
@@ -14,7 +15,6 @@ use Rattle.types.specs.declared.Addressing.TheVariants.{Three}
 use Rattle.types.specs.declared.Operation.TheVariants.{Program}
 use Rattle.types.specs.declared.Phase.TheVariants.{Busy}
 use Rattle.types.specs.declared.Command.TheVariants.{ReadStatus, WriteEnable, ChipErase, Reset, RowProgram}
-use Rattle.types.specs.declared.Decoded.TheVariants.{Known}
 use Rattle.types.specs.declared.Record.{Record}
 use Rattle.types.specs.declared.Answer.{Answer}
 use Rattle.types.specs.declared.Ticked.{Ticked}
@@ -43,7 +43,7 @@ use Rattle.cases.proofs.ProgramSent.{program_run, program_ticks, program_array, 
 abbrev number : Answer → ℕ
 number t = t.number
 
-chip_barred : (p : Record) → Ready p → code_of p.part.stored.status ≡ 15 → p.part.wel ≡ true → ignored_number (Known ChipErase) p.part p.phase (0xC7 ∷ []) true ≡ 28
+chip_barred : (p : Record) → Ready p → code_of p.part.stored.status ≡ 15 → p.part.wel ≡ true → ignored_number (Some ChipErase) p.part p.phase (0xC7 ∷ []) true ≡ 28
 unfolding command_number ◌and◌ ◌or◌ unless ◌or_else◌ erase_of
 chip_barred p r c w = rw (r.awake, r.idle, w, c)
 
@@ -123,7 +123,7 @@ case_7 p r w h m l f xs e b = (
   program_tick p r w h m l (0xA5 ∷ []) (omega arith) (omega arith) f xs e ∙ over_5_a xs (address_in (Three false) p.part.blocks (0x02 ∷ h ∷ m ∷ l ∷ 0xA5 ∷ [])) b,
 )
 
-two_bytes : (p : Record) (b : ℕ) → Ready p → ignored_number (Known WriteEnable) p.part p.phase (0x06 ∷ b ∷ []) true ≡ 24
+two_bytes : (p : Record) (b : ℕ) → Ready p → ignored_number (Some WriteEnable) p.part p.phase (0x06 ∷ b ∷ []) true ≡ 24
 unfolding command_number ◌or◌ unless ◌or_else◌
 two_bytes p b r = rw (r.awake, r.idle)
 
@@ -146,12 +146,12 @@ case_9 p s e =
     rw (a, b, c) (refl, refl, refl)
 
 locked_row : (p : Record) → Ready p → p.part.wel ≡ true → locked p.part.stored.function 1 ≡ true → (d : List ℕ) → 1 ≤ length d
-    → ignored_number (Known RowProgram) p.part p.phase (0x62 ∷ 0x00 ∷ 0x10 ∷ 0x00 ∷ d) true ≡ 28
+    → ignored_number (Some RowProgram) p.part p.phase (0x62 ∷ 0x00 ∷ 0x10 ∷ 0x00 ∷ d) true ≡ 28
 unfolding command_number ◌and◌ ◌or◌ unless ◌or_else◌ row_ok row_place program_of
 locked_row p r w k d n = rw (r.awake, r.idle, le-leb 5 (length (0x62 ∷ 0x00 ∷ 0x10 ∷ 0x00 ∷ d)) (omega arith), w, k)
 
 no_row : (p : Record) → Ready p → p.part.wel ≡ true → (d : List ℕ) → 1 ≤ length d
-    → ignored_number (Known RowProgram) p.part p.phase (0x62 ∷ 0x00 ∷ 0x01 ∷ 0x00 ∷ d) true ≡ 27
+    → ignored_number (Some RowProgram) p.part p.phase (0x62 ∷ 0x00 ∷ 0x01 ∷ 0x00 ∷ d) true ≡ 27
 unfolding command_number ◌and◌ ◌or◌ unless ◌or_else◌ row_ok
 no_row p r w d n = rw (r.awake, r.idle, le-leb 5 (length (0x62 ∷ 0x00 ∷ 0x01 ∷ 0x00 ∷ d)) (omega arith), w)
 

@@ -1,4 +1,5 @@
 -- A ready part: its bank register and TBS are 0, so that its codes are those of 01, its addresses have three bytes and the protection question is asked the BP code. 06h makes a ready part of it. Memory that holds one byte throughout.
+use Rattle.std.specs.Prelude.{Some}
 use Prim.Native.Nat.{ℕ, ◌<◌}
 use mathlib.Core.Path.{◌≡◌, refl, ap, ◌∙◌}
 use mathlib.Core.Bool.{Bool, true, false, cond}
@@ -8,7 +9,6 @@ use lib.ListN.{length, get_or, length-replicate, get_or-replicate}
 use Rattle.types.specs.declared.Addressing.TheVariants.{Three}
 use Rattle.types.specs.declared.Named.TheVariants.{Place}
 use Rattle.types.specs.declared.Command.{Command}
-use Rattle.types.specs.declared.Decoded.TheVariants.{Known}
 use Rattle.types.specs.declared.Record.{Record}
 use Rattle.paper.specs.Sizes.{tick_limit}
 use Rattle.paper.specs.Protection.{code_of, whole_code, protected_at}
@@ -27,7 +27,7 @@ module _ (p : Record) (r : Ready p) where
   no_bank = without.1
 
   -- its codes are those of 01's table
-  pub known_here : (c : ℕ) (k : Command) → look_up codes c ≡ Known k → decoded p.part.blocks p.part.bank c ≡ Known k
+  pub known_here : (c : ℕ) (k : Command) → look_up codes c ≡ Some k → decoded p.part.blocks p.part.bank c ≡ Some k
   unfolding decoded
   known_here c k e = rw (no_bank, r.listed) e
 

@@ -1,4 +1,6 @@
 -- 02h sent to a ready part with WEL 1 at a free address: it fits, so that it is executed, and the ticks that follow run.
+use Rattle.types.specs.declared.Command.{Command}
+use Rattle.std.specs.Prelude.{Option}
 use Prim.Native.Nat.{ℕ, ◌+◌, ◌/◌, ◌≤◌}
 use mathlib.Core.Path.{◌≡◌, refl, sym, ap, ◌∙◌}
 use mathlib.Core.Bool.{true, false, not}
@@ -12,7 +14,6 @@ use Rattle.types.specs.declared.Addressing.{Addressing}
 use Rattle.types.specs.declared.Addressing.TheVariants.{Three}
 use Rattle.types.specs.declared.Phase.TheVariants.{Busy}
 use Rattle.types.specs.declared.Command.TheVariants.{PageProgram}
-use Rattle.types.specs.declared.Decoded.{Decoded}
 use Rattle.types.specs.declared.Record.{Record}
 use Rattle.paper.specs.Sizes.{block_bytes, array_bytes}
 use Rattle.paper.specs.Address.{address_in}
@@ -45,7 +46,7 @@ module _ (p : Record) (r : Ready p) (w : p.part.wel ≡ true) (h m l : ℕ) (d :
 
   -- it has three bytes
   three : sent_as p input ≡ Three false
-  three = ap (λ (c : Decoded). addressing_by c p.part.bank) (known_here p r 0x02 PageProgram refl) ∙ three_bytes p r
+  three = ap (λ (c : Option Command). addressing_by c p.part.bank) (known_here p r 0x02 PageProgram refl) ∙ three_bytes p r
 
   module _ (free : Free (code_of p.part.stored.status) p.part.blocks address) where
     page_free : target_free (program_of Array (Three false) p.part.blocks input) p.part.blocks p.part.stored ≡ true

@@ -1,4 +1,5 @@
 -- What an operation is, or none, comes back from its cells.
+use Rattle.std.specs.Prelude.{None, Option, Some}
 use Prim.Native.Nat.{ℕ}
 use mathlib.Core.Path.{◌≡◌, refl, ap}
 use mathlib.Core.Bool.{false}
@@ -8,8 +9,6 @@ use Rattle.types.specs.declared.EraseUnit.TheVariants.{Sector, Block32, Block64,
 use Rattle.types.specs.declared.Register.TheVariants.{Status, Function, Extended}
 use Rattle.types.specs.declared.Operation.{Operation}
 use Rattle.types.specs.declared.Operation.TheVariants.{Program, Erase, Write}
-use Rattle.types.specs.declared.Work.{Work}
-use Rattle.types.specs.declared.Work.TheVariants.{NoWork, At}
 use Rattle.cells.specs.Operations.{cells, cells_of, work_cells, operation_of, operation_in, work_of}
 
 -- an operation has a kind
@@ -38,9 +37,9 @@ operation_back (Write Status v) = refl
 operation_back (Write Function v) = refl
 operation_back (Write Extended v) = refl
 
-pub work_back : (w : Work) → work_of (work_cells w) ≡ w
-work_back NoWork = refl
-work_back (At o) = rw (some_kind o) (ap At (operation_back o))
+pub work_back : (w : Option Operation) → work_of (work_cells w) ≡ w
+work_back None = refl
+work_back (Some o) = rw (some_kind o) (ap Some (operation_back o))
 
 -- cells of which base, count and ticks done are one by one the same
 pub same_cells_lem : (k v b b' n n' d d' : ℕ) → b ≡ b' → n ≡ n' → d ≡ d' → cells k v b n d ≡ cells k v b' n' d'

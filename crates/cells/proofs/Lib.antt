@@ -1,3 +1,4 @@
 pub mod Back
+pub mod ByKind
 pub mod Own
 pub mod Tight

@@ -1,5 +1,5 @@
 -- An operation in plain numbers, its cells, and the operation of cells.
-use Rattle.std.specs.Prelude.{ℕ, Bool, cond, eqb}
+use Rattle.std.specs.Prelude.{ℕ, Bool, cond, eqb, None, Option, Some}
 use Rattle.types.specs.declared.Memory.{Memory}
 use Rattle.types.specs.declared.Memory.TheVariants.{Array, Rows}
 use Rattle.types.specs.declared.EraseUnit.{EraseUnit}
@@ -8,8 +8,6 @@ use Rattle.types.specs.declared.Register.{Register}
 use Rattle.types.specs.declared.Register.TheVariants.{Status, Function, Extended}
 use Rattle.types.specs.declared.Operation.{Operation}
 use Rattle.types.specs.declared.Operation.TheVariants.{Program, Erase, Write}
-use Rattle.types.specs.declared.Work.{Work}
-use Rattle.types.specs.declared.Work.TheVariants.{NoWork, At}
 use Rattle.words.specs.Logic.{◌and◌}
 use Rattle.cells.specs.declared.Cells.{Cells}
 
@@ -42,9 +40,9 @@ cells_of (Erase u b d) = cells (erase_kind u) 0 b 0 d
 cells_of (Write r v) = cells (write_kind r) v 0 0 0
 
 -- of no operation all cells are 0
-abbrev pub work_cells : Work → Cells
-work_cells NoWork = cells 0 0 0 0 0
-work_cells (At o) = cells_of o
+abbrev pub work_cells : Option Operation → Cells
+work_cells None = cells 0 0 0 0 0
+work_cells (Some o) = cells_of o
 
 -- the operation of each kind
 abbrev pub program_in : Memory → Cells → Operation
@@ -73,8 +71,8 @@ abbrev pub operation_in : Cells → Operation
 operation_in s = operation_of s.kind s
 
 -- the same, or none where the kind is 0
-abbrev pub work_of : Cells → Work
-work_of s = cond (eqb s.kind 0) NoWork (At (operation_in s))
+abbrev pub work_of : Cells → Option Operation
+work_of s = cond (eqb s.kind 0) None (Some (operation_in s))
 
 -- two operations have the same cells
 unfoldable pub same_cells : Cells → Cells → Bool

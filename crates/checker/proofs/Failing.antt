@@ -1,13 +1,15 @@
 -- The first failing step of a run that ended, by the answers of the steps before its last: all were made, or one stopped it.
 use Prim.Native.Nat.{ℕ, ◌<◌, ◌≤◌}
 use mathlib.Core.Path.{◌≡◌, refl, sym, ap, ◌∙◌}
-use mathlib.Core.Bool.{Bool, true, false, not}
+use mathlib.Core.Bool.{Bool, true, false, not, cond}
 use mathlib.Core.List.{List}
 use native.Mathlib.Omega.{arith}
 use borrow.Author.Tests.{eqb-true, eqb-false, eq-eqb, ne_eqb, ltb-true, ltb-false}
 use lib.Dec.{eqb, ltb}
 use lib.ListN.{length, take, length-take}
 use lib.Seq.{get_or-take}
+use Rattle.std.specs.Prelude.{Some, None, position, unwrap_or}
+use Rattle.std.proofs.lemmas.List.Sums.{position_or_len_is}
 use Rattle.words.specs.Logic.{◌and◌, ◌or◌}
 use Rattle.words.specs.Lists.{first_of}
 use Rattle.words.proofs.Tests.{and_false, or_false, or_true}
@@ -15,6 +17,17 @@ use Rattle.words.proofs.Search.{first_le, first_at, first_before, first_passes, 
 use Rattle.paper.specs.Script.{Scripted}
 use Rattle.paper.specs.Check.{step_fails, failing_step}
 use Rattle.checker.specs.InBytes.{non_zero, first_failing}
+
+-- the first answer that is not 0, or the list's length, as a search over the list finds it
+place_or : (k n : ℕ) → k ≤ n → (t : Bool) → ltb k n ≡ t → unwrap_or (cond t (Some k) None) n ≡ k
+place_or k n l true e = refl
+place_or k n l false e = omega (arith, l, ltb-false k n e)
+
+pub search_is : (n : List ℕ) → unwrap_or (position (λ x. not (eqb x 0)) n) (length n) ≡ first_failing n
+search_is n =
+    let test = non_zero n in
+    let e = position_or_len_is (λ x. not (eqb x 0)) n (first_failing n) 0 (first_le test (length n)) (first_before test (length n)) (first_passes test (length n)) in
+    place_or _ _ (omega (arith, e, first_le test (length n))) _ refl ∙ e
 
 -- of the first k answers
 pub first_of_some : (n : List ℕ) (k : ℕ) → k ≤ length n → first_failing (take k n) ≡ first_of k (non_zero n)

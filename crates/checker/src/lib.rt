@@ -2,6 +2,7 @@
 #![tactic(auto)]
 
 ghost use Rattle.std.specs.Prelude.{◌≡◌, length};
+ghost use Rattle.paper.specs.Refusals.{number};
 ghost use Rattle.paper.specs.Phases.{is_idle};
 ghost use Rattle.paper.specs.Check.{verdict_on};
 ghost use Rattle.record_bytes.specs.Read.{record_in, phase_again};
@@ -9,21 +10,25 @@ ghost use Rattle.script.specs.InBytes.{script_of, script_bytes};
 ghost use Rattle.checker.specs.InBytes.{held_check, image_refusal, has_run, first_failing, left_of, Ended};
 
 use script::Ran;
-use types::Verdict;
+use types::{Refusal, Verdict};
 
-// 1 or 38, where the image is not as long as the array. Where the bytes hold no record, 1 is not judged: there is no size.
-fn image_refusal(bytes: &[u8], array: usize) -> u8
-    ensures { result ≡ image_refusal (record_in bytes.now) array }
+// Why a check is refused whose image is not as long as the array: 1 or 38. Where the bytes hold no record, 1 is not judged: there
+// is no size.
+fn image_refusal(bytes: &[u8], array: usize) -> Refusal
+    ensures { number result ≡ image_refusal (record_in bytes.now) array }
 {
-    let found = record_bytes::reading::read(bytes);
-    if !found.ok {
-        return 38;
-    }
+    let Some(found) = record_bytes::reading::read(bytes) else {
+        return Refusal::Image;
+    };
     let part = found.part;
-    refusals::size_number_or(part.blocks, array, 38)
+    match refusals::check_size(part.blocks, array) {
+        Ok(()) => Refusal::Image,
+        Err(refusal) => refusal,
+    }
 }
 
-// Whether a script with this number ran: 3 and 6 stop it at a step, and any other number refuses it.
+// Whether a script with this number ran: 3 and 6 stop it at a step, and any other number refuses it. The tests are joined as in
+// the definition; a match on the number would leave a proof for each arm.
 fn has_run(number: u8) -> bool
     ensures { result ≡ has_run number }
 {
@@ -35,14 +40,10 @@ fn has_run(number: u8) -> bool
 fn first_failing(answers: &[u8]) -> usize
     ensures { result ≡ first_failing answers.now }
 {
-    let mut k = 0;
-    while k < answers.len() {
-        if answers[k] != 0 {
-            return k;
-        }
-        k += 1;
-    }
-    k
+    answers
+        .iter()
+        .position(|answer| *answer != 0)
+        .unwrap_or(answers.len())
 }
 
 // Whether the part is idle that bytes hold: nothing runs and nothing is suspended.
@@ -76,7 +77,7 @@ fn verdict_on(ran: Ran, bytes: &[u8], array: &[u8], answers: &[u8], image: &[u8]
     Verdict::Yes
 }
 
-// A check: the script runs on the array that is lent, as a script does, and what it leaves is held against the image. Refused,
+// A check, of lists that are lent one by one, as C lends them: the script runs on the array that is lent, as a script does, and what it leaves is held against the image. Refused,
 // with 1, 38, 2, 7, 4 or 5, every buffer is as it was.
 pub fn check(
     bytes: &mut [u8],
@@ -100,8 +101,8 @@ pub fn check(
     ensures done { done.new ≡ (held_check (record_in bytes.old) wp (script_of wp input.now lengths.now ticks.now) array.old rows.old output.old answers.old done.old image.now).run.done }
 {
     if image.len() != array.len() {
-        let number = image_refusal(bytes, array.len());
-        return Verdict::Refused(number);
+        let refusal = image_refusal(bytes, array.len());
+        return Verdict::Refused(refusals::number(refusal));
     }
     let mut none = [0u8; 0];
     let ran = script::run(

@@ -28,7 +28,7 @@ use Rattle.ticks.specs.InBytes.{held_ticks, held_reached, held_worked, tick_byte
 use Rattle.ticks.proofs.InBytes.{reached_count, next_bytes}
 use Rattle.counted.specs.declared.Counted.{Counted}
 use Rattle.counted.specs.InBytes.{held_wear_ticked, wear_refusal}
-use Rattle.counted.proofs.Judged.{passes, judged}
+use Rattle.beside.proofs.Records.{passes, judged}
 
 -- what ticks on bytes answer, and what they count
 module _ (h : Held) (a r n : ℕ) (v : Worked) (ev : v ≡ held_worked h a r n) (t : Tally) (et : t ≡ when_zero v.number (tally_of v.reached) no_tally) where

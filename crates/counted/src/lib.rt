@@ -4,14 +4,15 @@
 
 ghost use Rattle.std.specs.Prelude.{◌≡◌, length};
 ghost use Rattle.words.specs.Logic.{when_zero};
+ghost use Rattle.paper.specs.Refusals.{number_of};
 ghost use Rattle.paper.specs.Wear.{no_tally, tally_of};
 ghost use Rattle.record_bytes.specs.Read.{record_in};
 ghost use Rattle.beside.specs.Beside.{board_bytes};
 ghost use Rattle.counted.specs.InBytes.{held_wear_ticked, counted_of, wear_refusal};
 
-use types::{Reached, Tally};
+use types::{Reached, Refusal, Tally};
 
-// What ticks answer: the number, how many of them did work, and what they count.
+// What ticks answer: the number, how many of them did work, and what they count. C reads the number, which counted_of gives it.
 #[derive(Clone, Copy)]
 pub struct Counted {
     pub number: u8,
@@ -19,18 +20,21 @@ pub struct Counted {
     pub tally: Tally,
 }
 
-// A sector has 4,096 bytes, and a wear record.
-const SECTOR_BYTES: usize = 4096;
-
-// 1 or 35, where there isn't one record for each sector of the array; else 0, and the plain call judges what is left. Where the
+// Refused with 1 or 35, where there isn't one record for each sector of the array; else the plain call judges what is left. Where the
 // bytes hold no record there is no size to judge by.
-fn wear_refusal(bytes: &[u8], array: usize, records: usize) -> u8
-    ensures { result ≡ wear_refusal (record_in bytes.now) array records }
+fn check_wear(bytes: &[u8], array: usize, records: usize) -> Result<(), Refusal>
+    ensures { number_of result ≡ wear_refusal (record_in bytes.now) array records }
 {
-    beside::refusal(bytes, records == array / SECTOR_BYTES, array, 35)
+    beside::check(
+        bytes,
+        records == array / types::SECTOR_BYTES,
+        array,
+        Refusal::Wear,
+    )
 }
 
-// What ticks count that answered a number: refused, nothing.
+// What ticks count that answered a number: refused, nothing. The number and what was reached are those of `ticks::Worked`, which
+// has a number and no Result since C reads it.
 fn tally_unless(number: u8, reached: Reached) -> Tally
     ensures { result ≡ when_zero number (tally_of reached) no_tally }
 {
@@ -56,10 +60,9 @@ pub fn tick<'a>(
     ensures array { array.new ≡ (held_wear_ticked (record_in bytes.old) array.old rows.old ticks records).board.array }
     ensures rows { rows.new ≡ (held_wear_ticked (record_in bytes.old) array.old rows.old ticks records).board.rows }
 {
-    let number = wear_refusal(bytes, array.len(), records);
-    if number != 0 {
+    if let Err(refusal) = check_wear(bytes, array.len(), records) {
         return Counted {
-            number: number,
+            number: refusals::number(refusal),
             done: 0,
             tally: wear_records::nothing(),
         };

@@ -1,70 +1,62 @@
 // The command table's first column: one match over all codes.
 #![tactic(auto)]
 
-ghost use Rattle.std.specs.Prelude.{◌≡◌, cond};
-ghost use Rattle.types.specs.declared.Decoded.TheVariants.{Known, Unknown};
+ghost use Rattle.std.specs.Prelude.{◌≡◌, cond, None, Some};
 ghost use Rattle.paper.specs.Table.{decoded};
 
-use types::{Command, Decoded};
+use types::Command;
 
 // A command of the large part, which is known there alone.
-fn known_if(large: bool, command: Command) -> Decoded
-    ensures { result ≡ cond large (Known command) Unknown }
+fn known_if(large: bool, command: Command) -> Option<Command>
+    ensures { result ≡ cond large (Some command) None }
 {
-    if large {
-        Decoded::Known(command)
-    } else {
-        Decoded::Unknown
-    }
+    large.then_some(command)
 }
 
 // A command that the large part has with four address bytes too.
-fn known_far(far: bool, command: Command, other: Command) -> Decoded
-    ensures { result ≡ cond far (Known other) (Known command) }
+fn known_far(far: bool, command: Command, other: Command) -> Option<Command>
+    ensures { result ≡ cond far (Some other) (Some command) }
 {
-    if far {
-        Decoded::Known(other)
-    } else {
-        Decoded::Known(command)
-    }
+    Some(if far { other } else { command })
 }
 
-// The command that a code is on a part of so many blocks under a bank register, or Unknown where the code is in no row of
-// the table.
-pub fn decode(blocks: u16, bank: u8, code: u8) -> Decoded
+// The command that a code is on a part of so many blocks under a bank register, or None where the code is in no row of
+// the table. It takes three numbers, so it is no `TryFrom<u8>`.
+#[tactic(auto, using(crate::proofs::Codes::decoded_at))]
+pub fn decode(blocks: u16, bank: u8, code: u8) -> Option<Command>
     ensures { result ≡ decoded blocks bank code }
 {
-    let large = sizes::is_large(blocks as u64);
+    let large = sizes::is_large(u64::from(blocks));
     let far = bank / 128 % 2 == 1;
     match code {
         0x03 => known_far(far, Command::Read, Command::FarRead),
         0x0B => known_far(far, Command::FastRead, Command::FarFastRead),
-        0x05 => Decoded::Known(Command::ReadStatus),
-        0x48 => Decoded::Known(Command::ReadFunction),
-        0x9F => Decoded::Known(Command::ReadIdentity),
-        0x90 => Decoded::Known(Command::ReadMakerDevice),
-        0xAB => Decoded::Known(Command::Wake),
-        0x68 => Decoded::Known(Command::ReadRow),
-        0x06 => Decoded::Known(Command::WriteEnable),
-        0x04 => Decoded::Known(Command::WriteDisable),
-        0x01 => Decoded::Known(Command::WriteStatus),
-        0x42 => Decoded::Known(Command::WriteFunction),
+        0x05 => Some(Command::ReadStatus),
+        0x48 => Some(Command::ReadFunction),
+        0x9F => Some(Command::ReadIdentity),
+        0x90 => Some(Command::ReadMakerDevice),
+        0xAB => Some(Command::Wake),
+        0x68 => Some(Command::ReadRow),
+        0x06 => Some(Command::WriteEnable),
+        0x04 => Some(Command::WriteDisable),
+        0x01 => Some(Command::WriteStatus),
+        0x42 => Some(Command::WriteFunction),
         0x02 => known_far(far, Command::PageProgram, Command::FarPageProgram),
         0xD7 | 0x20 => known_far(far, Command::SectorErase, Command::FarSectorErase),
         0x52 => known_far(far, Command::BlockErase32, Command::FarBlockErase32),
         0xD8 => known_far(far, Command::BlockErase64, Command::FarBlockErase64),
-        0xC7 | 0x60 => Decoded::Known(Command::ChipErase),
-        0x75 | 0xB0 => Decoded::Known(Command::Suspend),
-        0x7A | 0x30 => Decoded::Known(Command::Resume),
-        0xB9 => Decoded::Known(Command::Sleep),
-        0x66 => Decoded::Known(Command::ArmReset),
-        0x99 => Decoded::Known(Command::Reset),
-        0x64 => Decoded::Known(Command::RowErase),
-        0x62 => Decoded::Known(Command::RowProgram),
-        0x81 => Decoded::Known(Command::ReadExtended),
-        0x85 => Decoded::Known(Command::SetStored),
-        0x83 => Decoded::Known(Command::SetLive),
-        0x82 => Decoded::Known(Command::ClearErrors),
+        0xC7 | 0x60 => Some(Command::ChipErase),
+        0x75 | 0xB0 => Some(Command::Suspend),
+        0x7A | 0x30 => Some(Command::Resume),
+        0xB9 => Some(Command::Sleep),
+        0x66 => Some(Command::ArmReset),
+        0x99 => Some(Command::Reset),
+        0x64 => Some(Command::RowErase),
+        0x62 => Some(Command::RowProgram),
+        0x81 => Some(Command::ReadExtended),
+        0x85 => Some(Command::SetStored),
+        0x83 => Some(Command::SetLive),
+        0x82 => Some(Command::ClearErrors),
         0x13 => known_if(large, Command::FarRead),
         0x0C => known_if(large, Command::FarFastRead),
         0x12 => known_if(large, Command::FarPageProgramAtRest),
@@ -75,6 +67,7 @@ pub fn decode(blocks: u16, bank: u8, code: u8) -> Decoded
         0x17 | 0xC5 => known_if(large, Command::WriteBank),
         0xB7 => known_if(large, Command::EnterFar),
         0x29 => known_if(large, Command::LeaveFar),
+        // In no row: each of them is listed, and no arm takes what is left.
         0x00
         | 0x07..=0x0A
         | 0x0D..=0x11
@@ -106,6 +99,6 @@ pub fn decode(blocks: u16, bank: u8, code: u8) -> Decoded
         | 0xC6
         | 0xC9..=0xD6
         | 0xD9..=0xDB
-        | 0xDD..=0xFF => Decoded::Unknown,
+        | 0xDD..=0xFF => None,
     }
 }

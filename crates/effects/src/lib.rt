@@ -6,7 +6,7 @@ ghost use Rattle.paper.specs.Records.{marked, resting, with_live, with_bank};
 ghost use Rattle.paper.specs.Registers.{bank_turned};
 ghost use Rattle.paper.specs.Commands.{page_after, part_after, phase_after, data_after, changed, unarmed, starts, change_by, errors_of, change_barred};
 
-use types::{Addressing, Change, Data, Effect, Part, Phase, Record, Register, Work};
+use types::{Addressing, Change, Data, Effect, Operation, Part, Phase, Record, Register};
 
 // The error bits of the extended read register.
 const E_ERR: u8 = 8;
@@ -18,40 +18,32 @@ const PROT_E: u8 = 2;
 fn mark(part: Part, armed: bool) -> Part
     ensures { result ≡ marked part armed }
 {
-    let mut next = part;
-    next.armed = armed;
-    next
+    Part { armed, ..part }
 }
 
 fn set_live(part: Part, live: u8) -> Part
     ensures { result ≡ with_live part live }
 {
-    let mut next = part;
-    next.live = live;
-    next
+    Part { live, ..part }
 }
 
 fn set_bank(part: Part, bank: u8) -> Part
     ensures { result ≡ with_bank part bank }
 {
-    let mut next = part;
-    next.bank = bank;
-    next
+    Part { bank, ..part }
 }
 
 // A bank register with EXTADD set or cleared, and the bank bit of a byte.
 fn turn_bank(far: bool, bank: u8) -> u8
     ensures { result ≡ bank_turned far bank }
 {
-    128 * words::bit_of(far) + bank % 2
+    128 * u8::from(far) + bank % 2
 }
 
 fn rest(part: Part, asleep: bool) -> Part
     ensures { result ≡ resting part asleep }
 {
-    let mut next = part;
-    next.asleep = asleep;
-    next
+    Part { asleep, ..part }
 }
 
 // The part, unarmed.
@@ -62,38 +54,36 @@ fn unarm(part: Part) -> Part
 }
 
 // The part busy with what a command begins.
-fn start(work: Work, part: Part, phase: Phase, page: Data) -> Change
+fn start(work: Option<Operation>, part: Part, phase: Phase, page: Data) -> Change
     ensures { result ≡ starts work part phase page }
 {
     match work {
-        Work::NoWork => Change::Marked(false),
-        Work::At(op) => {
+        None => Change::Marked(false),
+        Some(op) => {
             let next = unarm(record::settle(part, phases::working_on(phase, op), true));
-            Change::Runs(next, page, Work::At(op))
+            Change::Runs(next, page, Some(op))
         }
     }
 }
 
 // What an executed command changes, of a part in a phase, where it begins the work, with its address sent so. Only an
-// arming one leaves the armed mark set.
+// arming one leaves the armed mark set. Each effect has an arm, as in the definition `change_by`.
 pub fn change_by(
     effect: Effect,
     form: Addressing,
-    work: Work,
+    work: Option<Operation>,
     part: Part,
     phase: Phase,
     input: &[u8],
 ) -> Change
     ensures { result ≡ change_by effect form work part phase input.now }
 {
-    let stored = part.stored;
     match effect {
         Effect::Looks => Change::Marked(false),
         Effect::Enables => Change::Anew(unarm(record::settle(part, phase, true))),
         Effect::Disables => Change::Anew(unarm(record::settle(part, phase, false))),
         Effect::Programs(_) => start(work, part, phase, Data::Sent(form)),
-        Effect::Erases(_) => start(work, part, phase, Data::Kept),
-        Effect::Writes(_) => start(work, part, phase, Data::Kept),
+        Effect::Erases(_) | Effect::Writes(_) => start(work, part, phase, Data::Kept),
         Effect::Suspends => {
             let next = phases::suspended_in(phase);
             Change::Halts(unarm(record::settle(part, next, false)))
@@ -105,14 +95,10 @@ pub fn change_by(
         Effect::Sleeps => Change::Anew(unarm(rest(part, true))),
         Effect::Wakes => Change::Anew(unarm(rest(part, false))),
         Effect::Arms => Change::Marked(true),
-        Effect::Resets => {
-            let next = record::fresh_part(part.blocks, stored);
-            Change::Clears(next)
-        }
+        Effect::Resets => Change::Clears(record::fresh_part(part.blocks, part.stored)),
         Effect::SetsLive => {
             let set = operations::held_byte(Register::Extended, sent::byte_at(input, 1));
-            let live = set + part.live % 32;
-            Change::Live(live)
+            Change::Live(set + part.live % 32)
         }
         Effect::ClearsErrors => Change::Live(operations::held_byte(Register::Extended, part.live)),
         Effect::SetsBank => {
@@ -129,22 +115,22 @@ fn errors_of(effect: Effect) -> u8
     ensures { result ≡ errors_of effect }
 {
     match effect {
-        Effect::Looks => 0,
-        Effect::Enables => 0,
-        Effect::Disables => 0,
         Effect::Programs(_) => P_ERR + PROT_E,
         Effect::Erases(_) => E_ERR + PROT_E,
-        Effect::Writes(_) => 0,
-        Effect::Suspends => 0,
-        Effect::Resumes => 0,
-        Effect::Sleeps => 0,
-        Effect::Wakes => 0,
-        Effect::Arms => 0,
-        Effect::Resets => 0,
-        Effect::SetsLive => 0,
-        Effect::ClearsErrors => 0,
-        Effect::SetsBank => 0,
-        Effect::SetsFar(_) => 0,
+        Effect::Looks
+        | Effect::Enables
+        | Effect::Disables
+        | Effect::Writes(_)
+        | Effect::Suspends
+        | Effect::Resumes
+        | Effect::Sleeps
+        | Effect::Wakes
+        | Effect::Arms
+        | Effect::Resets
+        | Effect::SetsLive
+        | Effect::ClearsErrors
+        | Effect::SetsBank
+        | Effect::SetsFar(_) => 0,
     }
 }
 
@@ -174,11 +160,11 @@ fn part_after(change: Change, part: Part) -> Part
         Change::Same => part,
         Change::Marked(armed) => mark(part, armed),
         Change::Live(live) => set_live(mark(part, false), live),
-        Change::Anew(next) => next,
-        Change::Runs(next, _, _) => next,
-        Change::Halts(next) => next,
-        Change::GoesOn(next) => next,
-        Change::Clears(next) => next,
+        Change::Anew(next)
+        | Change::Runs(next, _, _)
+        | Change::Halts(next)
+        | Change::GoesOn(next)
+        | Change::Clears(next) => next,
     }
 }
 
@@ -187,10 +173,7 @@ fn phase_after(change: Change, phase: Phase) -> Phase
     ensures { result ≡ phase_after change phase }
 {
     match change {
-        Change::Same => phase,
-        Change::Marked(_) => phase,
-        Change::Live(_) => phase,
-        Change::Anew(_) => phase,
+        Change::Same | Change::Marked(_) | Change::Live(_) | Change::Anew(_) => phase,
         Change::Runs(_, _, work) => phases::running_in(phase, work),
         Change::Halts(_) => phases::suspended_in(phase),
         Change::GoesOn(_) => phases::resumed_in(phase),
@@ -203,14 +186,14 @@ fn data_after(change: Change) -> Data
     ensures { result ≡ data_after change }
 {
     match change {
-        Change::Same => Data::Kept,
-        Change::Marked(_) => Data::Kept,
-        Change::Live(_) => Data::Kept,
-        Change::Anew(_) => Data::Kept,
         Change::Runs(_, becomes, _) => becomes,
-        Change::Halts(_) => Data::Kept,
-        Change::GoesOn(_) => Data::Kept,
         Change::Clears(_) => Data::Zero,
+        Change::Same
+        | Change::Marked(_)
+        | Change::Live(_)
+        | Change::Anew(_)
+        | Change::Halts(_)
+        | Change::GoesOn(_) => Data::Kept,
     }
 }
 
@@ -218,17 +201,10 @@ fn data_after(change: Change) -> Data
 pub fn apply(change: Change, input: &[u8], state: Record) -> Record
     ensures { result ≡ changed change input.now state }
 {
-    let part = state.part;
-    let phase = state.phase;
-    let identity = state.identity;
-    let page = state.page;
-    let next = part_after(change, part);
-    let doing = phase_after(change, phase);
-    let data = page_after(data_after(change), input, page);
     Record {
-        part: next,
-        phase: doing,
-        identity: identity,
-        page: data,
+        part: part_after(change, state.part),
+        phase: phase_after(change, state.phase),
+        page: page_after(data_after(change), input, state.page),
+        ..state
     }
 }

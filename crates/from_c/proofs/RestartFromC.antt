@@ -1,4 +1,5 @@
 -- An interrupted erase, done over, from C: what calls and power-ups from C lead to is what the events lead to that they stand for.
+use Rattle.std.specs.Prelude.{Some}
 use Prim.Native.Nat.{ℕ, zero, suc}
 use mathlib.Core.Path.{◌≡◌, refl, sym, ap, ◌∙◌, subst, subst⁻¹}
 use mathlib.Core.Bool.{Bool, true}
@@ -8,7 +9,6 @@ use lib.ListN.{length, get_or}
 use lib.Dec.{eqb}
 use Rattle.types.specs.declared.EraseUnit.{EraseUnit}
 use Rattle.types.specs.declared.Command.TheVariants.{Reset}
-use Rattle.types.specs.declared.Decoded.TheVariants.{Known}
 use Rattle.types.specs.declared.Identity.{Identity}
 use Rattle.types.specs.declared.Stored.{Stored}
 use Rattle.types.specs.declared.PoweredUp.{PoweredUp}
@@ -95,7 +95,7 @@ lives_from_c l m p es h same lives =
     record { next = on.next; holding = on.holding; is = (lives_told (record { is_sound = h.is_sound; own_array = h.array; own_rows = h.rows }) on.lives).next; lives = on.lives }
 
 -- a part that 99h is sent to: C hears that it was executed only if it was
-reset_heard : (p : Record) → sound p ≡ true → (wp : Bool) (n : ℕ) → ignored_number (Known Reset) p.part p.phase (0x99 ∷ []) wp ≡ n
+reset_heard : (p : Record) → sound p ≡ true → (wp : Bool) (n : ℕ) → ignored_number (Some Reset) p.part p.phase (0x99 ∷ []) wp ≡ n
     → packed (answer_to_byte wp 0x99 p).number (answer_to_byte wp 0x99 p).first ≡ packed 0 1 → (answer_to_byte wp 0x99 p).number ≡ 0
 reset_heard p s wp zero e h =
     ap (λ (t : Answer). t.number) (executes p s wp Reset (0x99 ∷ []) (omega arith) (omega arith) (known 0x99 Reset refl refl p.part.blocks p.part.bank) e)
@@ -120,7 +120,7 @@ cut_held m at k h n-is id-is (c.by_reset wp x l chain hears) =
     let run = subst (λ (cs : List Call). Makes (board_in m at) cs (board_in k made.next)) calls_are made.made in
     let told : packed 0 1 ∷ [] ≡ packed_steps (course_of (reset (eqb wp 1) ∷ []) at (length m.array) (length m.rows)) = sym hears ∙ made.plain_answers (and_in refl refl) ∙ ap (λ (cs : List Call). packed_steps (course_of cs at (length m.array) (length m.rows))) calls_are in
     let own : answer_to (board_in m at) (eqb wp 1) (0x99 ∷ []) 1 ≡ answer_to_byte (eqb wp 1) 0x99 at = ap (λ (n : ℕ). transacted at n (length m.rows) (eqb wp 1) (0x99 ∷ []) 1) h.array ∙ ap (λ (n : ℕ). transacted at (array_bytes at.part.blocks) n (eqb wp 1) (0x99 ∷ []) 1) h.rows in
-    let z = reset_heard at h.is_sound (eqb wp 1) (ignored_number (Known Reset) at.part at.phase (0x99 ∷ []) (eqb wp 1)) refl (sym (ap (λ (a : Answer). packed a.number a.first) own) ∙ sym (ap (λ (ks : List ℕ). get_or ks 0 0) told)) in
+    let z = reset_heard at h.is_sound (eqb wp 1) (ignored_number (Some Reset) at.part at.phase (0x99 ∷ []) (eqb wp 1)) refl (sym (ap (λ (a : Answer). packed a.number a.first) own) ∙ sym (ap (λ (ks : List ℕ). get_or ks 0 0) told)) in
     record { after = made.next; held = made.holding; board = after_call (reset (eqb wp 1)) (board_in m at); is = run_folded run; cut = by_reset (eqb wp 1) (ap (λ (a : Answer). a.number) own ∙ z); registers = refl }
 cut_held m at k h n-is id-is (c.by_power q bs blocks-are id-are z) =
     let e = blocks-are ∙ sym n-is in

@@ -17,7 +17,8 @@ use Rattle.yawlspar_script.specs.Face.{script_answer, check_answer}
 use Rattle.yawlspar_map.specs.Face.{map_tick_answer}
 use Rattle.script.specs.InBytes.{script_of, held_script, script_bytes}
 use Rattle.checker.specs.InBytes.{held_check}
-use Rattle.mapped.specs.InBytes.{held_map_ticked, held_map_scripted, board_bytes}
+use Rattle.beside.specs.Beside.{board_bytes}
+use Rattle.mapped.specs.InBytes.{held_map_ticked, held_map_scripted}
 
 -- what every call is lent: the record's bytes, the array and the rows
 pub record Lent : Type 0 where

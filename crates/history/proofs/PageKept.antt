@@ -1,11 +1,10 @@
 -- Calls keep page data a page.
+use Rattle.std.specs.Prelude.{None, Option, Some}
 use Prim.Native.Nat.{ℕ, zero, suc, ◌+◌}
 use mathlib.Core.Bool.{Bool, true, false, cond}
 use mathlib.Core.List.{List, [], ◌∷◌}
 use lib.Dec.{ltb}
 use Rattle.types.specs.declared.Operation.{Operation}
-use Rattle.types.specs.declared.Work.{Work}
-use Rattle.types.specs.declared.Work.TheVariants.{NoWork, At}
 use Rattle.types.specs.declared.Change.{Change}
 use Rattle.types.specs.declared.Record.{Record}
 use Rattle.paper.specs.Sizes.{array_bytes, rows_bytes}
@@ -29,10 +28,10 @@ worked_page : (p : Record) (o : Operation) (t : Bool) → Page p → Page (cond 
 worked_page p o true h = h
 worked_page p o false h = none_page
 
-ticked_page : (p : Record) (w : Work) → Page p → Page (ticked_at p w)
+ticked_page : (p : Record) (w : Option Operation) → Page p → Page (ticked_at p w)
 unfolding worked
-ticked_page p NoWork h = h
-ticked_page p (At o) h = worked_page p o (ltb (ticks_done o + 1) (ticks_in_all o p.part.blocks)) h
+ticked_page p None h = h
+ticked_page p (Some o) h = worked_page p o (ltb (ticks_done o + 1) (ticks_in_all o p.part.blocks)) h
 
 run_page : (n : ℕ) (p : Record) → Page p → Page (record_after n p)
 run_page zero p h = h

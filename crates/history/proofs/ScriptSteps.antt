@@ -1,4 +1,6 @@
 -- One step of a script on a sound part with its own memory. Its transaction is refused by 3 alone and its ticks by 6 alone, since all else was tested before; and its calls answer what its entries say.
+use Rattle.types.specs.declared.Operation.{Operation}
+use Rattle.std.specs.Prelude.{None, Option, Some}
 use Prim.Native.Nat.{ℕ, suc, ◌+◌, ◌≤◌}
 use mathlib.Core.Path.{◌≡◌, refl, sym, ap, ◌∙◌}
 use mathlib.Core.Bool.{Bool, true, false, cond}
@@ -13,14 +15,11 @@ use Rattle.types.specs.declared.Addressing.{Addressing}
 use Rattle.types.specs.declared.Answer.{Answer}
 use Rattle.types.specs.declared.Columns.{Columns}
 use Rattle.types.specs.declared.Command.{Command}
-use Rattle.types.specs.declared.Decoded.{Decoded}
-use Rattle.types.specs.declared.Decoded.TheVariants.{Known, Unknown}
 use Rattle.types.specs.declared.Identity.{Identity}
 use Rattle.types.specs.declared.Part.{Part}
 use Rattle.types.specs.declared.Phase.{Phase}
 use Rattle.types.specs.declared.Record.{Record}
 use Rattle.types.specs.declared.Ticked.{Ticked}
-use Rattle.types.specs.declared.Work.{Work}
 use Rattle.words.specs.Logic.{◌and◌, unless, ◌or_else◌, when_zero}
 use Rattle.words.specs.Lists.{every, between, put_between}
 use Rattle.words.proofs.Tests.{and_in, or_else_none, or_else_on, or_else_first}
@@ -57,20 +56,20 @@ unfolding unless
 above_last true n e = record { is = refl }
 above_last false n e = record { is = rw e refl }
 
-command_goes : (k : Columns) (g : Addressing) (w : Work) (p : Part) (f : Phase) (i : List ℕ) (wp : Bool) → Goes (command_number k g w p f i wp)
+command_goes : (k : Columns) (g : Addressing) (w : Option Operation) (p : Part) (f : Phase) (i : List ℕ) (wp : Bool) → Goes (command_number k g w p f i wp)
 unfolding command_number
 command_goes k g w p f i wp =
     above _ 20 _ refl (above _ 21 _ refl (above _ 22 _ refl (above _ 23 _ refl (above _ 24 _ refl (above _ 25 _ refl (above _ 26 _ refl (above_last _ 27 refl)))))))
 
 module _ (p : Part) (f : Phase) (wp : Bool) (i : List ℕ) where
-  known_goes : (k : Command) (t : Bool) → stopping (cond t (executed (columns k) p f i) (ignored (Known k) (ignored_number (Known k) p f i wp) p (length i))).number ≡ 0
+  known_goes : (k : Command) (t : Bool) → stopping (cond t (executed (columns k) p f i) (ignored (Some k) (ignored_number (Some k) p f i wp) p (length i))).number ≡ 0
   known_goes k true = refl
   known_goes k false = (command_goes _ _ _ p f i wp).is
 
   -- so a transaction that is not refused goes on
-  outcome_goes : (d : Decoded) → stopping (outcome_to d p f wp i).number ≡ 0
-  outcome_goes (Known k) = known_goes k (eqb (ignored_number (Known k) p f i wp) 0)
-  outcome_goes Unknown = refl
+  outcome_goes : (d : Option Command) → stopping (outcome_to d p f wp i).number ≡ 0
+  outcome_goes (Some k) = known_goes k (eqb (ignored_number (Some k) p f i wp) 0)
+  outcome_goes None = refl
 
 -- 3 and 6 stop a script
 unless_stops : (b : Bool) (n : ℕ) → leb n 6 ≡ true → stopping (unless b n) ≡ unless b n
@@ -165,13 +164,13 @@ length_either true xs ys n e f = e
 length_either false xs ys n e f = f
 
 module _ (id : Identity) (p : Part) (f : Phase) (s : Bool) (xs rs : List ℕ) (wp : Bool) (i : List ℕ) where
-  length_output : (d : Decoded) → length (output_to d id p f xs rs wp i) ≡ length i
+  length_output : (d : Option Command) → length (output_to d id p f xs rs wp i) ≡ length i
   unfolding output_of
-  length_output (Known k) =
-      length_either (eqb (ignored_number (Known k) p f i wp) 0) (output_of (columns k) id p xs rs i) (undriven (length i)) (length i)
+  length_output (Some k) =
+      length_either (eqb (ignored_number (Some k) p f i wp) 0) (output_of (columns k) id p xs rs i) (undriven (length i)) (length i)
       (length_up_to (length i) (output_byte (columns k) id p xs rs i))
       (length-replicate (length i) undriven_byte)
-  length_output Unknown = length-replicate (length i) undriven_byte
+  length_output None = length-replicate (length i) undriven_byte
 
   length_after : (o : List ℕ) → length i ≡ length o → length (output_after id p f s xs rs wp i o) ≡ length o
   unfolding output_after

@@ -1,4 +1,5 @@
 -- A byte whose block is protected throughout, or whose row is locked throughout, holds its starting value after any run of calls: no touch reaches it.
+use Rattle.std.specs.Prelude.{None, Option, Some}
 use Prim.Native.Nat.{ℕ, zero, suc, ◌+◌, ◌*◌, ◌/◌, ◌%◌, ◌≤◌, ◌<◌}
 use mathlib.Core.Path.{◌≡◌, refl, sym, ap, ◌∙◌}
 use mathlib.Core.Bool.{Bool, true, false, not, cond, false≢true}
@@ -14,8 +15,6 @@ use Rattle.types.specs.declared.EraseUnit.{EraseUnit}
 use Rattle.types.specs.declared.EraseUnit.TheVariants.{Sector, Block32, Block64, Chip, Row}
 use Rattle.types.specs.declared.Operation.{Operation}
 use Rattle.types.specs.declared.Operation.TheVariants.{Program, Erase, Write}
-use Rattle.types.specs.declared.Work.{Work}
-use Rattle.types.specs.declared.Work.TheVariants.{NoWork, At}
 use Rattle.types.specs.declared.Stored.{Stored}
 use Rattle.types.specs.declared.Record.{Record}
 use Rattle.words.specs.Logic.{◌and◌}
@@ -106,19 +105,19 @@ module _ (m : Memory) (at : ℕ) where
   abbrev Guarded : Record → Type 0
   Guarded p = is_busy p.phase ≡ true → shielded m at p ≡ true
 
-  touch_spares : (p : Record) (w : Work) (x : ℕ) → running p.phase ≡ w → sound p ≡ true → Guarded p → byte_after m at (touch_at w p.page) x ≡ x
-  touch_spares p NoWork x e s g = refl
-  touch_spares p (At o) x e s g = next_spares at p.part.blocks p.part.stored m o p.page x (running_in_order p o e s) (g (ap (work_is any_operation) e))
+  touch_spares : (p : Record) (w : Option Operation) (x : ℕ) → running p.phase ≡ w → sound p ≡ true → Guarded p → byte_after m at (touch_at w p.page) x ≡ x
+  touch_spares p None x e s g = refl
+  touch_spares p (Some o) x e s g = next_spares at p.part.blocks p.part.stored m o p.page x (running_in_order p o e s) (g (ap (work_is any_operation) e))
 
   -- a tick keeps it so: a register changes with the last tick alone, after which nothing runs
   worked_guarded : (p : Record) (o : Operation) (t : Bool) → shielded m at p ≡ true → Guarded (cond t (advanced p (advanced_by 1 o)) (finished p o))
   worked_guarded p o true g b = g
-  worked_guarded p o false g b = absurd (false≢true (sym (ap (work_is any_operation) (other_runs p.phase NoWork)) ∙ b))
+  worked_guarded p o false g b = absurd (false≢true (sym (ap (work_is any_operation) (other_runs p.phase None)) ∙ b))
 
-  tick_guarded : (p : Record) (w : Work) → running p.phase ≡ w → Guarded p → Guarded (ticked_at p w)
+  tick_guarded : (p : Record) (w : Option Operation) → running p.phase ≡ w → Guarded p → Guarded (ticked_at p w)
   unfolding worked
-  tick_guarded p NoWork e g = g
-  tick_guarded p (At o) e g =
+  tick_guarded p None e g = g
+  tick_guarded p (Some o) e g =
       worked_guarded p o (ltb (ticks_done o + 1) (ticks_in_all o p.part.blocks)) (g (ap (work_is any_operation) e))
 
   run_guarded : (n : ℕ) (p : Record) → shielded m at p ≡ true → Guarded (record_after n p)

@@ -6,10 +6,12 @@ ghost use Rattle.words.specs.Logic.{◌or◌};
 ghost use Rattle.paper.specs.Phases.{erase_halted, is_suspended};
 ghost use Rattle.paper.specs.Table.{taken_suspended};
 ghost use Rattle.paper.specs.Suspend.{suspendable};
+ghost use Rattle.paper.specs.Refusals.{number_of};
 ghost use Rattle.paper.specs.Numbers.{state_ok, address_ok, pin_ok, write_ok, free_ok, command_number};
 
+use refusals::ensure;
 use types::{
-    Addressing, Columns, Named, Operation, Part, Phase, Register, Stored, Taken, Wanted, Work,
+    Addressing, Columns, Named, Operation, Part, Phase, Refusal, Register, Stored, Taken, Wanted,
 };
 
 // Something runs that can be suspended, and nothing is suspended already.
@@ -70,13 +72,13 @@ fn write_ok(op: Operation, stored: Stored, wp: bool) -> bool
 }
 
 // 28: what a command begins is not protected or locked, no program into the suspended unit, and not barred.
-fn free_ok(work: Work, part: Part, phase: Phase, wp: bool) -> bool
+fn free_ok(work: Option<Operation>, part: Part, phase: Phase, wp: bool) -> bool
     ensures { result ≡ free_ok work part phase wp }
 {
     let stored = part.stored;
     match work {
-        Work::NoWork => true,
-        Work::At(op) => {
+        None => true,
+        Some(op) => {
             let free = operations::target_free(op, part.blocks, stored);
             let apart = operations::outside_of(phases::halted(phase), part.blocks, op);
             words::both(free, words::both(apart, write_ok(op, stored, wp)))
@@ -94,33 +96,28 @@ fn suspended_ok(taken: Taken, phase: Phase) -> bool
     table::taken_suspended(taken, phases::erase_halted(phase))
 }
 
-// The number 21 to 28 that a known command answers, whose address is sent so and which begins the work, 0 where it is
-// executed. WP# is high where wp is true.
-pub fn command_number(
+// Why a known command is ignored, 21 to 28, whose address is sent so and which begins the work. WP# is high where wp is
+// true.
+pub fn check_command(
     k: Columns,
     form: Addressing,
-    work: Work,
+    work: Option<Operation>,
     part: Part,
     phase: Phase,
     input: &[u8],
     wp: bool,
-) -> u8
-    ensures { result ≡ command_number k form work part phase input.now wp }
+) -> Result<(), Refusal>
+    ensures { number_of result ≡ command_number k form work part phase input.now wp }
 {
-    let taken = k.taken;
-    let length = k.length;
-    let wanted = k.wanted;
-    let named = k.named;
-    let address = address_ok(named, form, input);
-    let awake = words::either(table::taken_asleep(taken), !part.asleep);
-    let at_rest = words::either(table::taken_busy(taken), !phases::is_busy(phase));
-    let suspended = suspended_ok(taken, phase);
-    let long = table::length_ok(length, input.len());
-    let state = state_ok(wanted, part, phase);
+    let awake = words::either(table::taken_asleep(k.taken), !part.asleep);
+    let at_rest = words::either(table::taken_busy(k.taken), !phases::is_busy(phase));
     let latch = words::either(!k.wel, part.wel);
-    let free = free_ok(work, part, phase, wp);
-    let n27 = words::number_or(address, 27, words::number_or(free, 28, 0));
-    let n25 = words::number_or(state, 25, words::number_or(latch, 26, n27));
-    let n23 = words::number_or(suspended, 23, words::number_or(long, 24, n25));
-    words::number_or(awake, 21, words::number_or(at_rest, 22, n23))
+    ensure(awake, Refusal::Asleep)?;
+    ensure(at_rest, Refusal::Busy)?;
+    ensure(suspended_ok(k.taken, phase), Refusal::Suspended)?;
+    ensure(table::length_ok(k.length, input.len()), Refusal::Length)?;
+    ensure(state_ok(k.wanted, part, phase), Refusal::OutOfTurn)?;
+    ensure(latch, Refusal::NotEnabled)?;
+    ensure(address_ok(k.named, form, input), Refusal::NoSuchRow)?;
+    ensure(free_ok(work, part, phase, wp), Refusal::Protected)
 }

@@ -1,4 +1,5 @@
 -- A write in its parts. On an idle, awake part with WEL 1 an input that fits answers 0, and a wait runs the operation that it begins to its end. On an idle, awake part 06h answers 0.
+use Rattle.std.specs.Prelude.{Option, Some}
 use Prim.Native.Nat.{ℕ, ◌≤◌}
 use mathlib.Core.Path.{◌≡◌, refl, sym, ap, ◌∙◌}
 use mathlib.Core.Bool.{Bool, true, false}
@@ -11,13 +12,9 @@ use Rattle.types.specs.declared.Addressing.{Addressing}
 use Rattle.types.specs.declared.Operation.{Operation}
 use Rattle.types.specs.declared.Phase.{Phase}
 use Rattle.types.specs.declared.Phase.TheVariants.{Idle, Busy}
-use Rattle.types.specs.declared.Work.{Work}
-use Rattle.types.specs.declared.Work.TheVariants.{At}
 use Rattle.types.specs.declared.Effect.{Effect}
 use Rattle.types.specs.declared.Command.{Command}
 use Rattle.types.specs.declared.Command.TheVariants.{WriteEnable}
-use Rattle.types.specs.declared.Decoded.{Decoded}
-use Rattle.types.specs.declared.Decoded.TheVariants.{Known}
 use Rattle.types.specs.declared.Stored.{Stored}
 use Rattle.types.specs.declared.Record.{Record}
 use Rattle.types.specs.declared.Answer.{Answer}
@@ -57,7 +54,7 @@ pub standing_again : (p : Record) (f : Phase) (wel : Bool) (g : List ℕ) (h : P
 standing_again p f wel g h w k = rw (registers_again f wel p.part.stored h w)
 
 -- what is so of both kinds: the operation that the command begins; its error bits; no pin bars it; it writes no register; and which page data it keeps
-kind_begins : (d : Kind) (g : Addressing) (n : ℕ) (i : List ℕ) → begins (effect_of d) g n i ≡ At (operation_of d g n i)
+kind_begins : (d : Kind) (g : Addressing) (n : ℕ) (i : List ℕ) → begins (effect_of d) g n i ≡ Some (operation_of d g n i)
 kind_begins (program m) g n i = refl
 kind_begins (erase u) g n i = refl
 
@@ -81,9 +78,9 @@ kept_for (program m) g i page = page_data (data_sent g i)
 kept_for (erase u) g i page = page
 
 kind_changes : (d : Kind) (g : Addressing) (o : Operation) (i : List ℕ) (p : Record) → p.phase ≡ Idle
-    → changed (change_by (effect_of d) g (At o) p.part p.phase i) i p ≡ standing p (Busy o) true (kept_for d g i p.page)
-kind_changes (program m) g o i p e = ap (λ (f : Phase). changed (change_by (effect_of (program m)) g (At o) p.part f i) i (record_of p.identity p.part f p.page)) e
-kind_changes (erase u) g o i p e = ap (λ (f : Phase). changed (change_by (effect_of (erase u)) g (At o) p.part f i) i (record_of p.identity p.part f p.page)) e
+    → changed (change_by (effect_of d) g (Some o) p.part p.phase i) i p ≡ standing p (Busy o) true (kept_for d g i p.page)
+kind_changes (program m) g o i p e = ap (λ (f : Phase). changed (change_by (effect_of (program m)) g (Some o) p.part f i) i (record_of p.identity p.part f p.page)) e
+kind_changes (erase u) g o i p e = ap (λ (f : Phase). changed (change_by (effect_of (erase u)) g (Some o) p.part f i) i (record_of p.identity p.part f p.page)) e
 
 -- an executed transaction's answer
 abbrev pub did : Record → ℕ → Answer
@@ -96,9 +93,9 @@ started p d i = standing p (Busy (begun_by p d i)) true (kept_for d (sent_as p i
 -- an input of a kind: how its address is sent, and what it begins
 module _ (p : Record) (d : Kind) (i : List ℕ) (k : OfKind p.part.blocks p.part.bank d i) where
   pub sent_as_lem : addressing_on (columns k.command) p.part ≡ sent_as p i
-  sent_as_lem = sym (ap (λ (c : Decoded). addressing_by c p.part.bank) k.known)
+  sent_as_lem = sym (ap (λ (c : Option Command). addressing_by c p.part.bank) k.known)
 
-  pub begun_as_lem : begun (columns k.command) p.part i ≡ At (begun_by p d i)
+  pub begun_as_lem : begun (columns k.command) p.part i ≡ Some (begun_by p d i)
   begun_as_lem =
       ap (λ (x : Effect). begins x (addressing_on (columns k.command) p.part) p.part.blocks i) k.does
       ∙ ap (λ (g : Addressing). begins (effect_of d) g p.part.blocks i) sent_as_lem
@@ -112,12 +109,12 @@ module _ (p : Record) (s : sound p ≡ true) (idle : p.phase ≡ Idle) (awake : 
   abbrev command : Command
   command = f.code.command
 
-  no_number : (wp : Bool) → ignored_number (Known command) p.part p.phase i wp ≡ 0
+  no_number : (wp : Bool) → ignored_number (Some command) p.part p.phase i wp ≡ 0
   no_number wp =
       let k = columns command in
       let g = addressing_on k p.part in
       ap (λ (h : Phase). command_number k g (begun k p.part i) p.part h i wp) idle
-      ∙ ap (λ (w : Work). command_number k g w p.part Idle i wp) (begun_as_lem p d i f.code)
+      ∙ ap (λ (w : Option Operation). command_number k g w p.part Idle i wp) (begun_as_lem p d i f.code)
       ∙ at_rest_number k g working p.part i wp awake wel f.right_length
       (write_state p.part.blocks p.part.bank (get_or i 0 0) command p.part Idle f.code.known (ap (λ (e : Effect). eqb (errors_of e) 0) f.code.does ∙ kind_errors d))
       (ap (λ (a : Addressing). address_ok k.named a i) (sent_as_lem p d i f.code) ∙ f.right_address)
@@ -127,9 +124,9 @@ module _ (p : Record) (s : sound p ≡ true) (idle : p.phase ≡ Idle) (awake : 
   begins_so : changed (change_by (columns command).effect (addressing_on (columns command) p.part) (begun (columns command) p.part i) p.part p.phase i) i p ≡ started p d i
   begins_so =
       let g = addressing_on (columns command) p.part in
-      ap (λ (w : Work). changed (change_by (columns command).effect g w p.part p.phase i) i p) (begun_as_lem p d i f.code)
-      ∙ ap (λ (e : Effect). changed (change_by e g (At working) p.part p.phase i) i p) f.code.does
-      ∙ ap (λ (a : Addressing). changed (change_by (effect_of d) a (At working) p.part p.phase i) i p) (sent_as_lem p d i f.code)
+      ap (λ (w : Option Operation). changed (change_by (columns command).effect g w p.part p.phase i) i p) (begun_as_lem p d i f.code)
+      ∙ ap (λ (e : Effect). changed (change_by e g (Some working) p.part p.phase i) i p) f.code.does
+      ∙ ap (λ (a : Addressing). changed (change_by (effect_of d) a (Some working) p.part p.phase i) i p) (sent_as_lem p d i f.code)
       ∙ kind_changes d (sent_as p i) working i p idle
 
   -- it answers 0, and the operation begins
@@ -164,7 +161,7 @@ abbrev pub enabled : Record → Record
 enabled p = standing p Idle true p.page
 
 module _ (p : Record) (s : sound p ≡ true) (idle : p.phase ≡ Idle) (awake : p.part.asleep ≡ false) where
-  enable_number : (wp : Bool) → ignored_number (Known WriteEnable) p.part p.phase (0x06 ∷ []) wp ≡ 0
+  enable_number : (wp : Bool) → ignored_number (Some WriteEnable) p.part p.phase (0x06 ∷ []) wp ≡ 0
   unfolding command_number ◌or◌ unless ◌or_else◌
   enable_number wp = rw (awake, idle)
 

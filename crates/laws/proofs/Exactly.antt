@@ -1,4 +1,6 @@
 -- After 06h and checks an input of a kind is executed exactly where it fits the part.
+use Rattle.types.specs.declared.Operation.{Operation}
+use Rattle.std.specs.Prelude.{Option}
 use Prim.Native.Nat.{ℕ}
 use mathlib.Core.Path.{◌≡◌, refl, sym, ap, ◌∙◌}
 use mathlib.Core.Bool.{Bool, true}
@@ -6,7 +8,6 @@ use mathlib.Core.List.{List}
 use lib.ListN.{length}
 use Rattle.types.specs.declared.Addressing.{Addressing}
 use Rattle.types.specs.declared.Phase.TheVariants.{Idle}
-use Rattle.types.specs.declared.Work.{Work}
 use Rattle.types.specs.declared.Record.{Record}
 use Rattle.types.specs.declared.Answer.{Answer}
 use Rattle.words.proofs.Tests.{and_l}
@@ -35,7 +36,7 @@ executed_fits p d wp i c z =
       most = t.few;
       right_length = x.length_ok_lem;
       right_address = sym (ap (λ (g : Addressing). address_ok k.named g i) (sent_as_lem p d i c)) ∙ x.address_ok_lem;
-      free_target = and_l _ _ (sym (ap (λ (w : Work). free_ok w p.part p.phase wp) (begun_as_lem p d i c)) ∙ x.free_ok_lem);
+      free_target = and_l _ _ (sym (ap (λ (w : Option Operation). free_ok w p.part p.phase wp) (begun_as_lem p d i c)) ∙ x.free_ok_lem);
     }
 
 -- a board: after 06h and checks the record has WEL 1, and what fits it then fitted before

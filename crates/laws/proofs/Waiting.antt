@@ -1,11 +1,11 @@
 -- Waiting is ticks: calls that wait leave an awake, unarmed part as the ticks that they give do, and reach what these reach.
+use Rattle.types.specs.declared.Command.{Command}
+use Rattle.std.specs.Prelude.{None, Option, Some}
 use Prim.Native.Nat.{ℕ}
 use mathlib.Core.Path.{◌≡◌, refl, sym, ap, ◌∙◌, subst}
 use mathlib.Core.Bool.{Bool, true, false, false≢true}
 use mathlib.Core.List.{List, [], ◌∷◌, ◌++◌}
 use lib.ListN.{get_or}
-use Rattle.types.specs.declared.Decoded.{Decoded}
-use Rattle.types.specs.declared.Decoded.TheVariants.{Known, Unknown}
 use Rattle.types.specs.declared.Part.{Part}
 use Rattle.types.specs.declared.Record.{Record}
 use Rattle.words.proofs.Tests.{and_l, and_r}
@@ -39,10 +39,10 @@ record Does (c : Call) (p q : Record) (ts : List Touch) : Type 0 where
 
 module _ (n bank : ℕ) (p : Record) (r : Quiet n bank p) where
   -- a read
-  read_by : (wp : Bool) (i : List ℕ) (o : ℕ) (d : Decoded) → decoded p.part.blocks p.part.bank (get_or i 0 0) ≡ d → is_read_by d ≡ true → record_after_call (transaction wp i o) p ≡ p
-  read_by wp i o (Known k) e h =
+  read_by : (wp : Bool) (i : List ℕ) (o : ℕ) (d : Option Command) → decoded p.part.blocks p.part.bank (get_or i 0 0) ≡ d → is_read_by d ≡ true → record_after_call (transaction wp i o) p ≡ p
+  read_by wp i o (Some k) e h =
       after_read (λ (q : Record). q ≡ p) p r.awake wp i refl (ap (λ (t : Bool). record_of p.identity (marked p.part t) p.phase p.page) (sym r.unarmed)) k e h (array_bytes p.part.blocks) rows_bytes o
-  read_by wp i o Unknown e h = absurd (false≢true h)
+  read_by wp i o None e h = absurd (false≢true h)
 
   waits_one : (c : Call) → waits n bank c ≡ true → Does c p (record_after (ticks_by n c) p) (tick_touches (ticks_by n c) p)
   waits_one (transaction wp i o) h =

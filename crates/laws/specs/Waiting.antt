@@ -1,15 +1,14 @@
 -- Waiting: calls that read and let ticks pass, in any order, and how many ticks they give.
-use Rattle.std.specs.Prelude.{ℕ, ◌+◌, Bool, true, false, List, [], ◌∷◌, get_or}
-use Rattle.types.specs.declared.Decoded.{Decoded}
-use Rattle.types.specs.declared.Decoded.TheVariants.{Known, Unknown}
+use Rattle.types.specs.declared.Command.{Command}
+use Rattle.std.specs.Prelude.{ℕ, ◌+◌, Bool, true, false, List, [], ◌∷◌, get_or, None, Option, Some}
 use Rattle.words.specs.Logic.{◌and◌}
 use Rattle.paper.specs.Table.{decoded, columns, is_read}
 use Rattle.paper.specs.History.{Call, transaction, ticks, ticks_by}
 
 -- the command that a first byte is, is a read
-abbrev pub is_read_by : Decoded → Bool
-is_read_by (Known k) = is_read (columns k)
-is_read_by Unknown = false
+abbrev pub is_read_by : Option Command → Bool
+is_read_by (Some k) = is_read (columns k)
+is_read_by None = false
 
 -- a call that waits, on a part of n blocks under a bank register: ticks, or a read. While the part is busy it ignores most reads, and any call may be refused: it waits all the same
 abbrev pub waits : ℕ → ℕ → Call → Bool

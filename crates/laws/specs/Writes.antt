@@ -1,5 +1,5 @@
 -- What a driver does to write, as a list of calls: write enable, a program or an erase, and a wait until it is done. And what it leaves of the part and of each byte.
-use Rattle.std.specs.Prelude.{ℕ, ◌+◌, ◌-◌, ◌≤◌, ◌<◌, ◌≡◌, Bool, true, false, cond, List, [], ◌∷◌, ◌++◌, length, get_or, ltb}
+use Rattle.std.specs.Prelude.{ℕ, ◌+◌, ◌-◌, ◌≤◌, ◌<◌, ◌≡◌, Bool, true, false, cond, List, [], ◌∷◌, ◌++◌, length, get_or, ltb, None, Option, Some}
 use Rattle.types.specs.declared.Memory.{Memory}
 use Rattle.types.specs.declared.Memory.TheVariants.{Array, Rows}
 use Rattle.types.specs.declared.EraseUnit.{EraseUnit}
@@ -11,8 +11,6 @@ use Rattle.types.specs.declared.Phase.TheVariants.{Idle}
 use Rattle.types.specs.declared.Effect.{Effect}
 use Rattle.types.specs.declared.Effect.TheVariants.{Programs, Erases}
 use Rattle.types.specs.declared.Command.{Command}
-use Rattle.types.specs.declared.Decoded.{Decoded}
-use Rattle.types.specs.declared.Decoded.TheVariants.{Known, Unknown}
 use Rattle.types.specs.declared.Record.{Record}
 use Rattle.words.specs.Logic.{◌and◌}
 use Rattle.paper.specs.Sizes.{array_bytes, rows_bytes, page_bytes, transaction_limit, same_memory, from_on}
@@ -79,9 +77,9 @@ abbrev pub write_of : Bool → Bool → List ℕ → List Call → Write
 write_of first second i cs = record { enabled_at = first; checks = []; sent_at = second; input = i; wait = cs }
 
 -- how the address of an input is sent to a part, under its bank register
-abbrev pub addressing_by : Decoded → ℕ → Addressing
-addressing_by (Known k) bank = addressing (columns k).named bank
-addressing_by Unknown bank = Three false
+abbrev pub addressing_by : Option Command → ℕ → Addressing
+addressing_by (Some k) bank = addressing (columns k).named bank
+addressing_by None bank = Three false
 
 abbrev pub sent_as : Record → List ℕ → Addressing
 sent_as p i = addressing_by (decoded p.part.blocks p.part.bank (get_or i 0 0)) p.part.bank
@@ -93,7 +91,7 @@ begun_by p kind i = operation_of kind (sent_as p i) p.part.blocks i
 -- an input of a kind, for a part of n blocks under a bank register: its first byte is the code of such a command
 pub record OfKind (n bank : ℕ) (kind : Kind) (i : List ℕ) : Type 0 where
   pub command : Command
-  pub known : decoded n bank (get_or i 0 0) ≡ Known command
+  pub known : decoded n bank (get_or i 0 0) ≡ Some command
   pub does : (columns command).effect ≡ effect_of kind
 
 -- it fits the part: it has 1 to 4,096 bytes, its length and its address are right, and its page, row or unit is unprotected or unlocked. CER needs a BP code of 0

@@ -1,24 +1,21 @@
 -- What a line says.
-use Prim.Native.Nat.{ℕ, ◌*◌, ◌-◌, ◌/◌, ◌%◌, ◌≤◌, ◌<◌, min}
-use mathlib.Core.Path.{◌≡◌, refl, ◌∙◌}
+use Prim.Native.Nat.{ℕ, ◌*◌, ◌-◌, ◌%◌, ◌≤◌, ◌<◌}
+use mathlib.Core.Path.{◌≡◌, refl}
 use mathlib.Core.Bool.{Bool, true, false, cond}
 use mathlib.Core.List.{List}
 use native.Mathlib.Omega.{arith}
-use lib.Dec.{eqb, leb}
 use lib.ListN.{length, take, drop, get_or, length-drop, get_or-eq_default}
 use lib.Seq.{take_all}
 use borrow.Author.Tests.{leb-true, eqb-true}
 use Rattle.types.specs.declared.Line.{Line}
 use Rattle.types.specs.declared.Line.TheVariants.{Transaction, Ticks, Neither}
 use Rattle.words.specs.Logic.{◌and◌}
-use Rattle.words.specs.Lists.{every}
-use Rattle.words.proofs.Lists.{drop_min}
-use Rattle.words.proofs.Tests.{and_l, and_r, and_false, same_leb}
-use Rattle.paper.specs.Bench.{is_hex, letter_t, letter_l, letter_k, begins, numeral_from, pairs_ok, digits_ok, line_of}
+use Rattle.words.proofs.Tests.{and_l, and_r, and_false}
+use Rattle.paper.specs.Bench.{letter_t, letter_l, letter_k, begins, numeral_from, pairs_ok, digits_ok, line_of}
 
 -- what follows the first two characters, if they are there
-pub rest_is : (l : List ℕ) (s : ℕ) → s ≡ min 2 (length l) → take (length l - s) (drop s l) ≡ drop 2 l
-rest_is l s h = take_all (length l - s) (drop s l) (simp length-drop (omega arith)) ∙ rw h (drop_min 2 l)
+pub rest_is : (l : List ℕ) → 2 ≤ length l → take (length l - 2) (drop 2 l) ≡ drop 2 l
+rest_is l h = take_all (length l - 2) (drop 2 l) (simp length-drop (omega arith))
 
 -- a line of fewer than two characters begins with no letter and space
 pub begins_short : (letter : ℕ) (l : List ℕ) → length l < 2 → begins letter l ≡ false
@@ -26,18 +23,6 @@ unfolding begins
 begins_short letter l h =
     let e : get_or l 1 0 ≡ 0 = get_or-eq_default l 0 (omega arith) in
     rw e (and_false _)
-
--- an even number of characters is at most twice so many where its half is at most so many
-few_pairs : (n most : ℕ) (t u v : Bool) → eqb (n % 2) 0 ≡ t → (t and u and leb (n / 2) most and v) ≡ (t and u and leb n (2 * most) and v)
-unfolding ◌and◌
-few_pairs n most true u v e =
-    let z : n % 2 ≡ 0 = eqb-true (n % 2) 0 e in
-    rw (same_leb (n / 2) most n (2 * most) (λ h. omega arith) (λ h. omega arith))
-few_pairs n most false u v e = refl
-
-pub pairs_as : (most : ℕ) (xs : List ℕ) → (eqb (length xs % 2) 0 and leb 2 (length xs) and leb (length xs / 2) most and every is_hex xs) ≡ pairs_ok most xs
-unfolding pairs_ok
-pairs_as most xs = few_pairs (length xs) most _ _ _ refl
 
 -- the lengths of digits, and of pairs
 pub digits_count : (xs : List ℕ) → digits_ok xs ≡ true → (1 ≤ length xs) × (length xs ≤ 5)
@@ -48,10 +33,6 @@ pub pairs_count : (most : ℕ) (xs : List ℕ) → pairs_ok most xs ≡ true →
 unfolding pairs_ok
 pairs_count most xs e =
     (eqb-true _ _ (and_l _ _ e), leb-true _ _ (and_l _ _ (and_r _ _ e)), leb-true _ _ (and_l _ _ (and_r _ _ (and_r _ _ e))))
-
--- a test r of a line's beginning and of what follows, ds, which the code has as ts
-pub said : (F : List ℕ → Bool) (X x y r v : Bool) (ts ds : List ℕ) → ts ≡ ds → r ≡ (x and y) → x ≡ X → y ≡ F ts → r ≡ v → (X and F ds) ≡ v
-said F X x y r v ts ds e f g h k = rw (← e, ← h, ← g, ← f) k
 
 -- a line that says a transaction has pairs, and one that says ticks has digits
 abbrev pub Says : ℕ → List ℕ → Line → Type 0

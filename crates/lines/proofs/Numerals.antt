@@ -5,11 +5,11 @@ use mathlib.Core.Bool.{Bool, true, false}
 use mathlib.Core.List.{List, [], ◌∷◌, append-nil}
 use native.Mathlib.Omega.{arith}
 use lib.Dec.{leb}
-use lib.ListN.{length, drop, get_or, set, length-drop, drop_of_length-le}
-use lib.Seq.{sets, sets-eq, drop-cons, drop-length}
+use lib.ListN.{length, drop, length-drop}
+use lib.Seq.{sets, sets-eq, drop-length}
 use borrow.Author.Tests.{leb-true, leb-false}
 use Rattle.words.proofs.Lists.{sets_out}
-use Rattle.paper.specs.Bench.{digit_value, hex_value, pairs, numeral_from}
+use Rattle.paper.specs.Bench.{pairs}
 
 -- 10 times 10, so often
 abbrev pub tens : ℕ → ℕ
@@ -26,26 +26,13 @@ tens_most (suc (suc (suc (suc zero)))) h = omega arith
 tens_most (suc (suc (suc (suc (suc zero))))) h = omega arith
 tens_most (suc (suc (suc (suc (suc (suc i)))))) h = absurd (omega arith)
 
-pub numeral_more : (xs : List ℕ) (n i : ℕ) → i < length xs → numeral_from n (drop i xs) ≡ numeral_from (10 * n + digit_value (get_or xs i 0)) (drop (suc i) xs)
-numeral_more xs n i h = rw (drop-cons xs i 0 h)
-
-pub numeral_end : (xs : List ℕ) (n i : ℕ) → length xs ≤ i → numeral_from n (drop i xs) ≡ n
-numeral_end xs n i h = rw (drop_of_length-le xs h)
-
--- pairs put into bs from a place on: one more, and none where the pairs or the places are at an end
-pub pairs_more : (xs bs : List ℕ) (i : ℕ) → 2 * i + 1 < length xs
-    → sets bs i (pairs (drop (2 * i) xs)) ≡ sets (set bs i (16 * hex_value (get_or xs (2 * i) 0) + hex_value (get_or xs (2 * i + 1) 0))) (suc i) (pairs (drop (2 * suc i) xs))
-pairs_more xs bs i h =
-    let e : suc (2 * i) ≡ 2 * i + 1 = omega arith in
-    let f : 2 * suc i ≡ suc (2 * i + 1) = omega arith in
-    rw (drop-cons xs (2 * i) 0 (omega arith), e, drop-cons xs (2 * i + 1) 0 h, f)
-
 -- a character alone is no pair
 pairs_none : (xs : List ℕ) → length xs < 2 → pairs xs ≡ []
 pairs_none [] h = refl
 pairs_none (x ∷ []) h = refl
 pairs_none (x ∷ y ∷ xs) h = absurd (omega arith)
 
+-- pairs that are put into bs from a place on change nothing where the pairs or the places are at an end
 pairs_end_as : (xs bs : List ℕ) (i : ℕ) (t : Bool) → leb (length bs) i ≡ t → min (length xs / 2) (length bs) ≤ i → sets bs i (pairs (drop (2 * i) xs)) ≡ bs
 pairs_end_as xs bs i true e h = sets_out bs i (pairs (drop (2 * i) xs)) (leb-true (length bs) i e)
 pairs_end_as xs bs i false e h =

@@ -1,6 +1,5 @@
 -- Request 12: a map of blank pages. What its bits say, that there is one right map of an array, what calls make of a map, whatever it was, and what a query tells.
 use Rattle.std.specs.Prelude.{ℕ, ◌+◌, ◌-◌, ◌*◌, ◌/◌, ◌%◌, ◌^◌, ◌≤◌, ◌<◌, ◌≡◌, Bool, true, false, List, ◌++◌, ◌↔◌, length, get_or, replicate}
-use Rattle.types.specs.declared.Blank.TheVariants.{Page, NoPage}
 use Rattle.types.specs.declared.Record.{Record}
 use Rattle.words.specs.Lists.{AreBytes}
 use Rattle.words.specs.Bits.{bit_in}
@@ -16,7 +15,7 @@ use Rattle.paper.specs.Reached.{reached, touches_of, touch_page, reaches_page}
 use Rattle.paper.specs.History.{Call, transaction, ticks, tick_touches, call_touches, history}
 use Rattle.paper.specs.Board.{Board, Own, after_call, after_calls}
 use Rattle.paper.specs.Script.{Script}
-use Rattle.paper.specs.Map.{blank_page, Right, rebuilt, queried, map_after_calls, map_ticked, map_scripted, map_tick_calls, map_script_calls}
+use Rattle.paper.specs.Map.{Page, NoPage, blank_page, Right, rebuilt, queried, map_after_calls, map_ticked, map_scripted, map_tick_calls, map_script_calls}
 
 -- "page p is bit p % 8 of byte p / 8", low bit first
 abbrev pub LowFirst : Type 0

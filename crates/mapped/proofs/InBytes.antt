@@ -1,4 +1,6 @@
 -- What the definitions for ticks and a script with a map come to on bytes: a map of another length, and the plain call with the map kept.
+use Rattle.types.specs.declared.Operation.{Operation}
+use Rattle.std.specs.Prelude.{None, Option, Some}
 use Prim.Native.Nat.{ℕ, ◌+◌, ◌/◌}
 use mathlib.Core.Path.{◌≡◌, refl, sym, ap, ◌∙◌}
 use mathlib.Core.Bool.{Bool, true, false}
@@ -6,17 +8,14 @@ use mathlib.Core.List.{List}
 use native.Mathlib.Nat.{suc-ne-zero}
 use lib.Dec.{eqb, leb}
 use lib.ListN.{length}
-use borrow.Author.Tests.{eqb-true, eq-eqb, ne_eqb}
+use borrow.Author.Tests.{eqb-true, ne_eqb}
 use Rattle.types.specs.declared.Memory.{Memory}
 use Rattle.types.specs.declared.Memory.TheVariants.{Array, Rows}
 use Rattle.types.specs.declared.Operation.TheVariants.{Program, Erase, Write}
-use Rattle.types.specs.declared.Work.{Work}
-use Rattle.types.specs.declared.Work.TheVariants.{NoWork, At}
 use Rattle.types.specs.declared.Record.{Record}
 use Rattle.types.specs.declared.Ticked.{Ticked}
 use Rattle.types.specs.declared.Worked.{Worked}
 use Rattle.words.specs.Logic.{◌and◌, ◌or_else◌}
-use Rattle.words.proofs.Tests.{or_else_zero}
 use Rattle.words.proofs.BitLists.{puts_none}
 use Rattle.paper.specs.Sizes.{same_memory, page_bytes}
 use Rattle.paper.specs.Erase.{memory_of}
@@ -30,45 +29,26 @@ use Rattle.paper.specs.Script.{Script, unstepped, refusal_of, scripted}
 use Rattle.paper.specs.Map.{blank_page, MapTicked, map_ticked, script_map, map_refusal_of, map_scripted}
 use Rattle.paper.proofs.Numbers.{ticks_taken}
 use Rattle.record_bytes.specs.Layout.{record_bytes}
-use Rattle.record_bytes.specs.declared.Found.{Found}
-use Rattle.record_bytes.specs.Read.{Held, record_in, found}
-use Rattle.record_bytes.proofs.Back.{held_bytes, on_none, on_held_lem}
+use Rattle.record_bytes.specs.Read.{Held, record_in}
+use Rattle.record_bytes.proofs.Back.{on_none, on_held_lem}
 use Rattle.ticks.specs.InBytes.{held_ticks, held_reached, held_worked, tick_bytes, tick_memory}
 use Rattle.ticks.proofs.InBytes.{reached_count}
 use Rattle.blank_map.specs.Marked.{marked}
 use Rattle.blank_map.proofs.Kept.{marked_kept}
 use Rattle.script.specs.InBytes.{held_script, held_map}
 use Rattle.mapped.specs.declared.Kept.{Kept}
-use Rattle.mapped.specs.InBytes.{held_map_ticked, held_map_scripted, board_bytes, map_refusal}
+use Rattle.beside.specs.Beside.{board_bytes}
+use Rattle.beside.proofs.Told.{refused_told, passed_fits}
+use Rattle.mapped.specs.InBytes.{held_map_ticked, held_map_scripted, map_refusal}
 use Rattle.mapped.proofs.Judged.{passes, judged}
 
--- 1 or 36 by the lengths, as they are told apart
-module _ (h : Held) (a m : ℕ) where
-  pub map_fits : m ≡ a / 2048 → 0 ≡ map_refusal h a m
-  unfolding map_refusal
-  map_fits e = rw (eq-eqb m (a / 2048) e) refl
-
-  pub map_unheld : (m ≡ a / 2048 → ⊥) → h.ok ≡ false → 0 ≡ map_refusal h a m
-  unfolding map_refusal
-  map_unheld off e = rw (ne_eqb m (a / 2048) off) (sym (on_none h (λ p. size_number p.part.blocks a or_else 36) 0 e))
-
-pub map_held : (bs : List ℕ) (a m : ℕ) → (m ≡ a / 2048 → ⊥) → (x : Found) → x ≡ found (record_in bs) → (record_in bs).ok ≡ true → (k : ℕ) → k ≡ (size_number x.part.blocks a or_else 36) → k ≡ map_refusal (record_in bs) a m
-unfolding map_refusal
-map_held bs a m off x ex e k ek =
-    ek ∙ ap (λ (f : Found). size_number f.part.blocks a or_else 36) ex
-    ∙ sym (rw (ne_eqb m (a / 2048) off) (on_held_lem (record_in bs) (λ p. size_number p.part.blocks a or_else 36) 0 e))
-
--- a number or else 36 is not 0
-never : (n : ℕ) → (n or_else 36) ≡ 0 → ⊥
-never n e = suc-ne-zero 35 (or_else_zero n 36 e).1
-
 -- ticks that reached nothing leave the map
-marked_none : (w : Work) (xs m : List ℕ) → marked (record { work = w; count = 0 }) xs m ≡ m
+marked_none : (w : Option Operation) (xs m : List ℕ) → marked (record { work = w; count = 0 }) xs m ≡ m
 unfolding marked
-marked_none NoWork xs m = refl
-marked_none (At (Program w s b c d)) xs m = puts_none (same_memory Array w) (b / page_bytes) (blank_page xs) m
-marked_none (At (Erase u b d)) xs m = puts_none (same_memory Array (memory_of u)) (b / page_bytes + d) (λ q. true) m
-marked_none (At (Write r v)) xs m = refl
+marked_none None xs m = refl
+marked_none (Some (Program w s b c d)) xs m = puts_none (same_memory Array w) (b / page_bytes) (blank_page xs) m
+marked_none (Some (Erase u b d)) xs m = puts_none (same_memory Array (memory_of u)) (b / page_bytes + d) (λ q. true) m
+marked_none (Some (Write r v)) xs m = refl
 
 -- what ticks on bytes answer, and what they reached
 module _ (h : Held) (a r n : ℕ) (w : Worked) (ew : w ≡ held_worked h a r n) where
@@ -114,36 +94,20 @@ module _ (bs : List ℕ) (xs rs m : List ℕ) where
   abbrev state : Record
   state = here.state
 
-  -- the bytes of a part that is as it was
-  pub same_bytes : bs ≡ board_bytes here (board_of state xs rs) bs
-  same_bytes = bytes_as here.ok refl
-    where
-      bytes_as : (t : Bool) → here.ok ≡ t → bs ≡ board_bytes here (board_of state xs rs) bs
-      bytes_as true e = sym (on_held_lem here (λ p. record_bytes state) bs e ∙ held_bytes bs e)
-      bytes_as false e = sym (on_none here (λ p. record_bytes state) bs e)
-
   -- a map whose length doesn't fit the array: a record is held, and the number is 1 or 36
   module _ (k : ℕ) (ek : k ≡ map_refusal here (length xs) (length m)) where
     abbrev fits : Bool
     fits = eqb (length m) (length xs / 2048)
 
-    abbrev early : ℕ
-    early = size_number state.part.blocks (length xs) or_else 36
-
-    told_as : (t u : Bool) → fits ≡ t → here.ok ≡ u → (k ≡ 0 → ⊥) → (fits ≡ false) × (here.ok ≡ true) × (k ≡ early)
+    refused_so : (k ≡ 0 → ⊥) → (fits ≡ false) × (here.ok ≡ true) × (k ≡ (size_number state.part.blocks (length xs) or_else 36))
     unfolding map_refusal
-    told_as true u f o stop = absurd (stop (ek ∙ rw f refl))
-    told_as false true f o stop = (f, o, ek ∙ rw f (on_held_lem here (λ p. size_number p.part.blocks (length xs) or_else 36) 0 o))
-    told_as false false f o stop = absurd (stop (ek ∙ rw f (on_none here (λ p. size_number p.part.blocks (length xs) or_else 36) 0 o)))
-
-    refused_told : (k ≡ 0 → ⊥) → (fits ≡ false) × (here.ok ≡ true) × (k ≡ early)
-    refused_told = told_as fits here.ok refl refl
+    refused_so = refused_told here fits (length xs) 36 k ek
 
     module _ (stop : k ≡ 0 → ⊥) where
       pub refused_ticks : (n : ℕ) → held_map_ticked here xs rs n m ≡ record { board = board_of state xs rs; map = m; number = k; done = 0 }
       unfolding held_map_ticked map_ticked map_tick_number
       refused_ticks n =
-          let t = refused_told stop in
+          let t = refused_so stop in
           let number = judged state.part.blocks (length xs) (length m) (rows_number (length rs) or_else sound_number (sound state) or_else ticks_number state.part.blocks n) t.0 ∙ sym t.2 in
           on_held_lem here (λ p. map_ticked (board_of p xs rs) n m) _ t.1
           ∙ rw (number, ne_eqb k 0 stop) refl
@@ -151,21 +115,16 @@ module _ (bs : List ℕ) (xs rs m : List ℕ) where
       pub refused_script : (wp : ℕ) (s : Script) (o n d : List ℕ) → held_map_scripted here wp s xs rs o n d m ≡ record { run = unstepped k (board_of state xs rs) o n d; map = m }
       unfolding held_map_scripted map_scripted map_script_refusal
       refused_script wp s o n d =
-          let t = refused_told stop in
+          let t = refused_so stop in
           let number = judged state.part.blocks (length xs) (length m) (later_script_refusal (sound state and leb wp 1) (length rs) s.lengths (length s.ticks) (length n) (length d) (length s.input) (length o)) t.0 ∙ sym t.2 in
           on_held_lem here (λ p. map_scripted (sound p and leb wp 1) s (board_of p xs rs) o n d m) _ t.1
           ∙ rw (number, ne_eqb k 0 stop) refl
 
     -- one whose length fits, or there is no record: the plain call, and the map kept
     module _ (pass : k ≡ 0) where
-      fits_as : (t : Bool) → fits ≡ t → here.ok ≡ true → fits ≡ true
-      unfolding map_refusal
-      fits_as true f o = f
-      fits_as false f o =
-          absurd (never (size_number state.part.blocks (length xs)) (sym (ek ∙ rw f (on_held_lem here (λ p. size_number p.part.blocks (length xs) or_else 36) 0 o)) ∙ pass))
-
       fitting : here.ok ≡ true → fits ≡ true
-      fitting = fits_as fits refl
+      unfolding map_refusal
+      fitting = passed_fits here fits (length xs) 36 k ek pass (λ z. suc-ne-zero 35 z)
 
       -- ticks
       module _ (n : ℕ) where
@@ -211,7 +170,7 @@ module _ (bs : List ℕ) (xs rs m : List ℕ) where
             ∙ sym (rw (on_held_lem here (λ p. ticked p (length xs) (length rs) n) (record { next = state; number = rows_number (length rs) or_else sound_number false; done = 0 }) e, on_held_lem here (λ p. reached p (ticked p (length xs) (length rs) n)) nothing e, on_held_lem here (λ p. ticked_memory Array p (length xs) (length rs) n xs) xs e, on_held_lem here (λ p. ticked_memory Rows p (length xs) (length rs) n rs) rs e) refl)
         passed_as false e =
             on_none here (λ p. map_ticked (board_of p xs rs) n m) _ e
-            ∙ sym (rw (on_none here (λ p. ticked p (length xs) (length rs) n) (record { next = state; number = rows_number (length rs) or_else sound_number false; done = 0 }) e, on_none here (λ p. reached p (ticked p (length xs) (length rs) n)) nothing e, on_none here (λ p. ticked_memory Array p (length xs) (length rs) n xs) xs e, on_none here (λ p. ticked_memory Rows p (length xs) (length rs) n rs) rs e, marked_none NoWork xs m) refl)
+            ∙ sym (rw (on_none here (λ p. ticked p (length xs) (length rs) n) (record { next = state; number = rows_number (length rs) or_else sound_number false; done = 0 }) e, on_none here (λ p. reached p (ticked p (length xs) (length rs) n)) nothing e, on_none here (λ p. ticked_memory Array p (length xs) (length rs) n xs) xs e, on_none here (λ p. ticked_memory Rows p (length xs) (length rs) n rs) rs e, marked_none None xs m) refl)
 
         pub passed_ticks : held_map_ticked here xs rs n m ≡ plain
         passed_ticks = passed_as here.ok refl

@@ -1,13 +1,13 @@
 -- Ticks and a script that are lent a map of blank pages, on the record that bytes hold.
-use Rattle.std.specs.Prelude.{ℕ, ◌/◌, false, cond, List, eqb, leb, length}
+use Rattle.std.specs.Prelude.{ℕ, ◌/◌, false, List, eqb, leb, length}
 use Rattle.words.specs.Logic.{◌and◌, ◌or_else◌}
 use Rattle.paper.specs.Soundness.{sound}
-use Rattle.paper.specs.Numbers.{size_number, rows_number, sound_number, later_script_refusal}
-use Rattle.paper.specs.Board.{Board, board_of}
+use Rattle.paper.specs.Numbers.{rows_number, sound_number, later_script_refusal}
+use Rattle.paper.specs.Board.{board_of}
 use Rattle.paper.specs.Script.{Script, unstepped}
 use Rattle.paper.specs.Map.{MapTicked, map_ticked, MapScripted, map_scripted}
-use Rattle.record_bytes.specs.Layout.{record_bytes}
 use Rattle.record_bytes.specs.Read.{Held, on_held}
+use Rattle.beside.specs.Beside.{beside_refusal}
 use Rattle.mapped.specs.declared.Kept.{Kept}
 
 -- ticks: where the bytes hold no record there is no size for 1 and 36 to judge by, and it is 2 or 5
@@ -26,10 +26,6 @@ held_map_scripted h wp s xs rs o n d m =
     on_held h (λ p. map_scripted (sound p and leb wp 1) s (board_of p xs rs) o n d m)
     (record { run = unstepped (later_script_refusal false (length rs) s.lengths (length s.ticks) (length n) (length d) (length s.input) (length o)) (board_of h.state xs rs) o n d; map = m })
 
--- the record's bytes after either: those of the part's record; where none was held, as they were
-abbrev pub board_bytes : Held → Board → List ℕ → List ℕ
-board_bytes h b bs = on_held h (λ p. record_bytes b.state) bs
-
 -- 1 or 36, where a map of m bytes hasn't one bit for each page of an array of a bytes; else 0, and the plain call judges what is left. A byte of the map has 8 pages of 256 bytes
 unfoldable pub map_refusal : Held → ℕ → ℕ → ℕ
-map_refusal h a m = cond (eqb m (a / 2048)) 0 (on_held h (λ p. size_number p.part.blocks a or_else 36) 0)
+map_refusal h a m = beside_refusal h (eqb m (a / 2048)) a 36

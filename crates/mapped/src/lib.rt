@@ -2,13 +2,16 @@
 #![tactic(auto)]
 
 ghost use Rattle.std.specs.Prelude.{◌≡◌, length};
+ghost use Rattle.paper.specs.Refusals.{number_of};
 ghost use Rattle.record_bytes.specs.Read.{record_in};
+ghost use Rattle.beside.specs.Beside.{board_bytes};
 ghost use Rattle.script.specs.InBytes.{script_of, ran_of};
-ghost use Rattle.mapped.specs.InBytes.{held_map_ticked, kept_of, held_map_scripted, board_bytes, map_refusal};
+ghost use Rattle.mapped.specs.InBytes.{held_map_ticked, kept_of, held_map_scripted, map_refusal};
 
 use script::Ran;
+use types::Refusal;
 
-// What ticks answer: the number, and how many of them did work.
+// What ticks answer: the number, and how many of them did work. `kept_of` gives both, and C reads them.
 #[derive(Clone, Copy)]
 pub struct Kept {
     pub number: u8,
@@ -16,22 +19,14 @@ pub struct Kept {
 }
 
 // A byte of a map has a bit for each of 8 pages.
-const MAPPED: usize = 2048;
+const MAPPED: usize = 8 * types::PAGE_BYTES;
 
-// 1 or 36, where the map hasn't one bit for each page of the array; else 0, and the plain call judges what is left. Where the
-// bytes hold no record there is no size to judge by.
-fn map_refusal(bytes: &[u8], array: usize, map: usize) -> u8
-    ensures { result ≡ map_refusal (record_in bytes.now) array map }
+// Refused with 1 or 36, where the map hasn't one bit for each page of the array; else the plain call judges what is left. Where
+// the bytes hold no record there is no size to judge by.
+fn check_map(bytes: &[u8], array: usize, map: usize) -> Result<(), Refusal>
+    ensures { number_of result ≡ map_refusal (record_in bytes.now) array map }
 {
-    if map == array / MAPPED {
-        return 0;
-    }
-    let found = record_bytes::reading::read(bytes);
-    if !found.ok {
-        return 0;
-    }
-    let part = found.part;
-    refusals::size_number_or(part.blocks, array, 36)
+    beside::check(bytes, map == array / MAPPED, array, Refusal::Map)
 }
 
 // So many ticks of the record that bytes hold, which is written over them, and the map is kept. Refused, with 1, 36, 2, 5 or 6,
@@ -49,10 +44,9 @@ pub fn tick(
     ensures rows { rows.new ≡ (held_map_ticked (record_in bytes.old) array.old rows.old ticks map.old).board.rows }
     ensures map { map.new ≡ (held_map_ticked (record_in bytes.old) array.old rows.old ticks map.old).map }
 {
-    let number = map_refusal(bytes, array.len(), map.len());
-    if number != 0 {
+    if let Err(refusal) = check_map(bytes, array.len(), map.len()) {
         return Kept {
-            number: number,
+            number: refusals::number(refusal),
             done: 0,
         };
     }
@@ -65,8 +59,8 @@ pub fn tick(
     }
 }
 
-// A script on the record that bytes hold, which is written over them, and the map is kept. Refused, with 1, 36, 2, 7, 4 or 5,
-// every buffer is as it was. Where the bytes hold no record, 1 and 36 are not judged: there is no size.
+// A script on the record that bytes hold, of lists that are lent one by one, as C lends them. The record is written over the
+// bytes, and the map is kept. Refused, with 1, 36, 2, 7, 4 or 5, every buffer is as it was. Where the bytes hold no record, 1 and 36 are not judged: there is no size.
 pub fn script(
     bytes: &mut [u8],
     array: &mut [u8],
@@ -89,10 +83,9 @@ pub fn script(
     ensures done { done.new ≡ (held_map_scripted (record_in bytes.old) wp (script_of wp input.now lengths.now ticks.now) array.old rows.old output.old answers.old done.old map.old).run.done }
     ensures map { map.new ≡ (held_map_scripted (record_in bytes.old) wp (script_of wp input.now lengths.now ticks.now) array.old rows.old output.old answers.old done.old map.old).map }
 {
-    let number = map_refusal(bytes, array.len(), map.len());
-    if number != 0 {
+    if let Err(refusal) = check_map(bytes, array.len(), map.len()) {
         return Ran {
-            number: number,
+            number: refusals::number(refusal),
             step: 0,
         };
     }

@@ -10,7 +10,7 @@ ghost use Rattle.paper.specs.Registers.{held_byte};
 ghost use Rattle.paper.specs.Operations.{ticks_in_all, ticks_done, free, unit_free, target_free, memory_suspends, unit_suspends, can_suspend, in_unit, outside, outside_of, kept_by};
 ghost use Rattle.paper.specs.Soundness.{operation_ok};
 
-use types::{EraseUnit, Memory, Operation, Register, Stored, Work};
+use types::{EraseUnit, Memory, Operation, Register, Stored};
 
 // The ticks that an operation takes in all on a part of so many blocks.
 pub fn ticks_in_all(op: Operation, blocks: u16) -> usize
@@ -28,8 +28,7 @@ pub fn ticks_done(op: Operation) -> usize
     ensures { result ≡ ticks_done op }
 {
     match op {
-        Operation::Program { done, .. } => done,
-        Operation::Erase { done, .. } => done,
+        Operation::Program { done, .. } | Operation::Erase { done, .. } => done,
         Operation::Write { .. } => 0,
     }
 }
@@ -40,30 +39,23 @@ pub fn kept_by(op: Operation) -> usize
 {
     match op {
         Operation::Program { count: kept, .. } => kept,
-        Operation::Erase { .. } => 0,
-        Operation::Write { .. } => 0,
+        Operation::Erase { .. } | Operation::Write { .. } => 0,
     }
 }
 
 fn memory_suspends(memory: Memory) -> bool
     ensures { result ≡ memory_suspends memory }
 {
-    match memory {
-        Memory::Array => true,
-        Memory::Rows => false,
-    }
+    memory == Memory::Array
 }
 
 fn unit_suspends(unit: EraseUnit) -> bool
     ensures { result ≡ unit_suspends unit }
 {
-    match unit {
-        EraseUnit::Sector => true,
-        EraseUnit::Block32 => true,
-        EraseUnit::Block64 => true,
-        EraseUnit::Chip => false,
-        EraseUnit::Row => false,
-    }
+    matches!(
+        unit,
+        EraseUnit::Sector | EraseUnit::Block32 | EraseUnit::Block64
+    )
 }
 
 // Whether it can be suspended: PP, SER, BER32 and BER64 can.
@@ -92,19 +84,16 @@ fn memory_bytes(memory: Memory, blocks: u16) -> usize
     ensures { result ≡ memory_bytes memory blocks }
 {
     match memory {
-        Memory::Array => (blocks as usize) * types::BLOCK_BYTES,
+        Memory::Array => usize::from(blocks) * types::BLOCK_BYTES,
         Memory::Rows => types::ROWS_BYTES,
     }
 }
 
-// Whether size bytes from a base on end within all.
+// Whether size bytes from a base on end within all. It subtracts, since a sum could be more than a usize holds.
 fn ends_within(base: usize, size: usize, all: usize) -> bool
     ensures { result ≡ leb (base + size) all }
 {
-    if all < size {
-        return false;
-    }
-    base <= all - size
+    size <= all && base <= all - size
 }
 
 // The code BP3..BP0 of a status register.
@@ -122,7 +111,7 @@ fn whole_code(stored: Stored) -> u8
 }
 
 // Whether a place of a memory is unprotected or unlocked: the block of an array's place is none of those that the
-// protection question answers.
+// protection question answers. Place, size and registers are apart, as `free` and `unit_free` take them.
 fn is_free(memory: Memory, base: usize, blocks: u16, stored: Stored) -> bool
     ensures { result ≡ free memory base blocks stored }
 {
@@ -141,9 +130,9 @@ fn is_unit_free(unit: EraseUnit, base: usize, blocks: u16, stored: Stored) -> bo
     ensures { result ≡ unit_free unit base blocks stored }
 {
     match unit {
-        EraseUnit::Sector => is_free(Memory::Array, base, blocks, stored),
-        EraseUnit::Block32 => is_free(Memory::Array, base, blocks, stored),
-        EraseUnit::Block64 => is_free(Memory::Array, base, blocks, stored),
+        EraseUnit::Sector | EraseUnit::Block32 | EraseUnit::Block64 => {
+            is_free(Memory::Array, base, blocks, stored)
+        }
         EraseUnit::Chip => code_of(stored.status) == 0,
         EraseUnit::Row => is_free(Memory::Rows, base, blocks, stored),
     }
@@ -160,29 +149,11 @@ pub fn target_free(op: Operation, blocks: u16, stored: Stored) -> bool
     }
 }
 
-fn same_memory(a: Memory, b: Memory) -> bool
-    ensures { result ≡ same_memory a b }
-{
-    match a {
-        Memory::Array => match b {
-            Memory::Array => true,
-            Memory::Rows => false,
-        },
-        Memory::Rows => match b {
-            Memory::Array => false,
-            Memory::Rows => true,
-        },
-    }
-}
-
 // Whether a place is one of size bytes from a base on.
 fn lies_within(place: usize, base: usize, size: usize) -> bool
     ensures { result ≡ from_on base size place }
 {
-    if place < base {
-        return false;
-    }
-    place - base < size
+    base <= place && place - base < size
 }
 
 // Whether a place of a memory lies in its unit, if it is an erase.
@@ -190,13 +161,12 @@ fn in_unit(op: Operation, blocks: u16, memory: Memory, place: usize) -> bool
     ensures { result ≡ in_unit op blocks memory place }
 {
     match op {
-        Operation::Program { .. } => false,
         Operation::Erase { unit, base, .. } => {
             let size = pages::unit_pages(unit, blocks) * types::PAGE_BYTES;
-            let same = same_memory(memory, pages::unit_memory(unit));
+            let same = memory == pages::unit_memory(unit);
             words::both(same, lies_within(place, base, size))
         }
-        Operation::Write { .. } => false,
+        Operation::Program { .. } | Operation::Write { .. } => false,
     }
 }
 
@@ -206,18 +176,17 @@ fn is_outside(outer: Operation, blocks: u16, op: Operation) -> bool
 {
     match op {
         Operation::Program { memory, base, .. } => !in_unit(outer, blocks, memory, base),
-        Operation::Erase { .. } => true,
-        Operation::Write { .. } => true,
+        Operation::Erase { .. } | Operation::Write { .. } => true,
     }
 }
 
 // Whether it lies outside the suspended unit, where one is suspended.
-pub fn outside_of(halted: Work, blocks: u16, op: Operation) -> bool
+pub fn outside_of(halted: Option<Operation>, blocks: u16, op: Operation) -> bool
     ensures { result ≡ outside_of halted blocks op }
 {
     match halted {
-        Work::NoWork => true,
-        Work::At(outer) => is_outside(outer, blocks, op),
+        None => true,
+        Some(outer) => is_outside(outer, blocks, op),
     }
 }
 

@@ -11,7 +11,7 @@ use types::{EraseUnit, Memory};
 pub fn page_place(start: u8, index: usize) -> u8
     ensures { result ≡ page_place start index }
 {
-    std::num::wrapping_add_u8(start, (index % 256) as u8)
+    start.wrapping_add((index % 256) as u8)
 }
 
 // The memory that a unit is a part of.
@@ -32,10 +32,10 @@ pub fn unit_pages(unit: EraseUnit, blocks: u16) -> usize
     ensures { result ≡ unit_pages unit blocks }
 {
     match unit {
-        EraseUnit::Sector => 16,
-        EraseUnit::Block32 => 128,
-        EraseUnit::Block64 => 256,
-        EraseUnit::Chip => (blocks as usize) * 256,
+        EraseUnit::Sector => types::SECTOR_PAGES,
+        EraseUnit::Block32 => types::BLOCK_PAGES / 2,
+        EraseUnit::Block64 => types::BLOCK_PAGES,
+        EraseUnit::Chip => usize::from(blocks) * types::BLOCK_PAGES,
         EraseUnit::Row => 1,
     }
 }
@@ -51,15 +51,13 @@ pub fn unit_base(unit: EraseUnit, blocks: u16, place: usize) -> usize
     place / size * size
 }
 
-// The page of 256 bytes from base on set to FFh. A page that does not fit leaves the bytes as they are.
+// The page of 256 bytes from base on, a place of the whole memory as in `page_erased`, set to FFh. A page that does not
+// fit leaves the bytes as they are.
 pub fn erase_page(memory: &mut [u8], base: usize)
     ensures { memory.new ≡ page_erased memory.old base }
 {
     let n = memory.len();
-    if n < types::PAGE_BYTES {
-        return;
-    }
-    if n - types::PAGE_BYTES < base {
+    if n < types::PAGE_BYTES || n - types::PAGE_BYTES < base {
         return;
     }
     let end = base + types::PAGE_BYTES;

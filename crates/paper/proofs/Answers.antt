@@ -1,4 +1,5 @@
 -- What a sound record's transactions and tick calls answer: no refusal applies, and the command's number decides. And what a transaction did that answers 0.
+use Rattle.std.specs.Prelude.{None, Some}
 use Prim.Native.Nat.{ℕ, suc, ◌≤◌}
 use mathlib.Core.Path.{◌≡◌, refl, sym, ap, ◌∙◌}
 use mathlib.Core.Bool.{Bool, true, false, cond}
@@ -9,9 +10,7 @@ use borrow.Author.Tests.{eqb-true, le-leb, eq-eqb}
 use Rattle.types.specs.declared.Memory.{Memory}
 use Rattle.types.specs.declared.Command.{Command}
 use Rattle.types.specs.declared.Command.TheVariants.{ReadStatus, ArmReset, Reset}
-use Rattle.types.specs.declared.Decoded.TheVariants.{Known}
 use Rattle.types.specs.declared.Phase.{Phase}
-use Rattle.types.specs.declared.Work.TheVariants.{NoWork}
 use Rattle.types.specs.declared.Part.{Part}
 use Rattle.types.specs.declared.Record.{Record}
 use Rattle.types.specs.declared.Outcome.{Outcome}
@@ -34,19 +33,19 @@ module _ (p : Record) (s : sound p ≡ true) where
   unfolding transaction_refusal rows_number length_number output_number sound_number ◌and◌ unless ◌or_else◌
   not_refused n a b = rw (size_fits, le-leb 1 n a, le-leb n transaction_limit b, eq-eqb n n refl, s)
 
-  module _ (wp : Bool) (k : Command) (i : List ℕ) (a : 1 ≤ length i) (b : length i ≤ transaction_limit) (e : decoded p.part.blocks p.part.bank (get_or i 0 0) ≡ Known k) where
-    answered_to : transacted p (array_bytes p.part.blocks) rows_bytes wp i (length i) ≡ answered (outcome_to (Known k) p.part p.phase wp i) i p
+  module _ (wp : Bool) (k : Command) (i : List ℕ) (a : 1 ≤ length i) (b : length i ≤ transaction_limit) (e : decoded p.part.blocks p.part.bank (get_or i 0 0) ≡ Some k) where
+    answered_to : transacted p (array_bytes p.part.blocks) rows_bytes wp i (length i) ≡ answered (outcome_to (Some k) p.part p.phase wp i) i p
     unfolding transacted outcome_of
     answered_to = rw (not_refused (length i) a b, e)
 
     -- a command that no number applies to is executed
-    pub executes : ignored_number (Known k) p.part p.phase i wp ≡ 0
+    pub executes : ignored_number (Some k) p.part p.phase i wp ≡ 0
         → transacted p (array_bytes p.part.blocks) rows_bytes wp i (length i) ≡ answered (executed (columns k) p.part p.phase i) i p
     executes n = answered_to ∙ rw n
 
     -- else it is ignored
-    pub ignores : (c : ℕ) → ignored_number (Known k) p.part p.phase i wp ≡ suc c
-        → transacted p (array_bytes p.part.blocks) rows_bytes wp i (length i) ≡ answered (ignored (Known k) (suc c) p.part (length i)) i p
+    pub ignores : (c : ℕ) → ignored_number (Some k) p.part p.phase i wp ≡ suc c
+        → transacted p (array_bytes p.part.blocks) rows_bytes wp i (length i) ≡ answered (ignored (Some k) (suc c) p.part (length i)) i p
     ignores c n = answered_to ∙ rw (n, eqb-suc-zero c)
 
   ticks_not_refused : (n : ℕ) → n ≤ tick_limit p.part.blocks → tick_number p.part.blocks (sound p) (array_bytes p.part.blocks) rows_bytes n ≡ 0
@@ -69,15 +68,15 @@ module _ (p : Record) (s : sound p ≡ true) where
 
 -- 66h, 05h and 99h are taken in every phase
 module _ (p : Part) (f : Phase) (e : p.asleep ≡ false) (wp : Bool) where
-  pub arm_number : command_number (columns ArmReset) (addressing_on (columns ArmReset) p) NoWork p f (0x66 ∷ []) wp ≡ 0
+  pub arm_number : command_number (columns ArmReset) (addressing_on (columns ArmReset) p) None p f (0x66 ∷ []) wp ≡ 0
   unfolding command_number ◌or◌ unless ◌or_else◌
   arm_number = rw e
 
-  pub read_status_number : command_number (columns ReadStatus) (addressing_on (columns ReadStatus) p) NoWork p f (0x05 ∷ []) wp ≡ 0
+  pub read_status_number : command_number (columns ReadStatus) (addressing_on (columns ReadStatus) p) None p f (0x05 ∷ []) wp ≡ 0
   unfolding command_number ◌or◌ unless ◌or_else◌
   read_status_number = rw e
 
-  pub reset_number : (armed : Bool) → p.armed ≡ armed → command_number (columns Reset) (addressing_on (columns Reset) p) NoWork p f (0x99 ∷ []) wp ≡ unless armed 25
+  pub reset_number : (armed : Bool) → p.armed ≡ armed → command_number (columns Reset) (addressing_on (columns Reset) p) None p f (0x99 ∷ []) wp ≡ unless armed 25
   unfolding command_number ◌or◌ unless ◌or_else◌
   reset_number true a = rw (e, a)
   reset_number false a = rw (e, a)
@@ -88,21 +87,21 @@ zero_number n x y true e h z = eqb-true _ _ e
 zero_number n x y false e h z = sym h ∙ z
 
 -- a transaction that answers 0 executed the command that its first byte is, to which no number applied
-module _ (p : Record) (a r : ℕ) (wp : Bool) (i : List ℕ) (o : ℕ) (k : Command) (e : decoded p.part.blocks p.part.bank (get_or i 0 0) ≡ Known k) (z : (transacted p a r wp i o).number ≡ 0) where
+module _ (p : Record) (a r : ℕ) (wp : Bool) (i : List ℕ) (o : ℕ) (k : Command) (e : decoded p.part.blocks p.part.bank (get_or i 0 0) ≡ Some k) (z : (transacted p a r wp i o).number ≡ 0) where
   pub not_refused_then : transaction_refusal p.part.blocks (sound p) a r (length i) o ≡ 0
   unfolding transacted outcome_of
   not_refused_then =
       let n = transaction_refusal p.part.blocks (sound p) a r (length i) o in
       zero_number n (outcome_to (decoded p.part.blocks p.part.bank (get_or i 0 0)) p.part p.phase wp i) (refused n) (eqb n 0) refl refl z
 
-  taken : transacted p a r wp i o ≡ answered (outcome_to (Known k) p.part p.phase wp i) i p
+  taken : transacted p a r wp i o ≡ answered (outcome_to (Some k) p.part p.phase wp i) i p
   unfolding transacted outcome_of
   taken = rw (not_refused_then, e)
 
-  pub not_ignored : ignored_number (Known k) p.part p.phase i wp ≡ 0
+  pub not_ignored : ignored_number (Some k) p.part p.phase i wp ≡ 0
   not_ignored =
-      let n = ignored_number (Known k) p.part p.phase i wp in
-      zero_number n (executed (columns k) p.part p.phase i) (ignored (Known k) n p.part (length i)) (eqb n 0) refl refl (sym (ap (λ (t : Answer). t.number) taken) ∙ z)
+      let n = ignored_number (Some k) p.part p.phase i wp in
+      zero_number n (executed (columns k) p.part p.phase i) (ignored (Some k) n p.part (length i)) (eqb n 0) refl refl (sym (ap (λ (t : Answer). t.number) taken) ∙ z)
 
   pub executed_so : transacted p a r wp i o ≡ answered (executed (columns k) p.part p.phase i) i p
   executed_so = taken ∙ rw not_ignored

@@ -1,4 +1,5 @@
 -- What ticks leave of each page of the array: one that an erase reached is blank, and one that was not reached is as it was.
+use Rattle.std.specs.Prelude.{None, Option, Some}
 use Prim.Native.Nat.{ℕ, ◌+◌, ◌-◌, ◌*◌, ◌/◌, ◌≤◌, ◌<◌, min}
 use mathlib.Core.Path.{◌≡◌, refl, sym, ap, ◌∙◌}
 use mathlib.Core.Bool.{Bool, true, false, cond, false≢true}
@@ -12,8 +13,6 @@ use Rattle.types.specs.declared.Memory.TheVariants.{Array, Rows}
 use Rattle.types.specs.declared.EraseUnit.{EraseUnit}
 use Rattle.types.specs.declared.Operation.{Operation}
 use Rattle.types.specs.declared.Operation.TheVariants.{Program, Erase, Write}
-use Rattle.types.specs.declared.Work.{Work}
-use Rattle.types.specs.declared.Work.TheVariants.{NoWork, At}
 use Rattle.types.specs.declared.Stored.{Stored}
 use Rattle.types.specs.declared.Record.{Record}
 use Rattle.types.specs.declared.Ticked.{Ticked}
@@ -91,11 +90,11 @@ module _ (q i : ℕ) (l : i < page_bytes) where
 
 -- n ticks of a sound part, on its own array
 module _ (p : Record) (s : sound p ≡ true) (xs : List ℕ) (own : length xs ≡ array_bytes p.part.blocks) (n : ℕ) where
-  after_working : (o : Operation) → running p.phase ≡ At o → (at : ℕ) → at < length xs → get_or (memory_after Array n p xs) at 0 ≡ byte_ran (working_ticks n p) o p.page Array at (get_or xs at 0)
+  after_working : (o : Operation) → running p.phase ≡ Some o → (at : ℕ) → at < length xs → get_or (memory_after Array n p xs) at 0 ≡ byte_ran (working_ticks n p) o p.page Array at (get_or xs at 0)
   after_working o e at l = memory_at Array n p xs at s own l ∙ working_bytes p o e s Array at (get_or xs at 0) n
 
   -- a page that an erase reached is blank
-  pub erased_blank : (u : EraseUnit) (b d : ℕ) → running p.phase ≡ At (Erase u b d) → (q : ℕ) → reaches_page (record { work = At (Erase u b d); count = working_ticks n p }) q ≡ true
+  pub erased_blank : (u : EraseUnit) (b d : ℕ) → running p.phase ≡ Some (Erase u b d) → (q : ℕ) → reaches_page (record { work = Some (Erase u b d); count = working_ticks n p }) q ≡ true
       → blank_page (memory_after Array n p xs) q ≡ true
   erased_blank u b d e q f =
       let o = Erase u b d in
@@ -108,10 +107,10 @@ module _ (p : Record) (s : sound p ≡ true) (xs : List ℕ) (own : length xs �
       after_working o e (q * page_bytes + i) (rw own (h.1 p.part.blocks (omega (arith, within, working_fits p o e s n))))
       ∙ ap (λ (t : Bool). cond t erased_byte (get_or xs (q * page_bytes + i) 0)) h.0)
 
-  same_at : (w : Work) → running p.phase ≡ w → (q : ℕ) → q < array_pages p.part.blocks → reaches_page (record { work = w; count = working_ticks n p }) q ≡ false
+  same_at : (w : Option Operation) → running p.phase ≡ w → (q : ℕ) → q < array_pages p.part.blocks → reaches_page (record { work = w; count = working_ticks n p }) q ≡ false
       → blank_page (memory_after Array n p xs) q ≡ blank_page xs q
-  same_at NoWork e q l f = ap (λ (ys : List ℕ). blank_page ys q) (rest_memory p e Array xs n)
-  same_at (At o) e q l f =
+  same_at None e q l f = ap (λ (ys : List ℕ). blank_page ys q) (rest_memory p e Array xs n)
+  same_at (Some o) e q l f =
       same_page (memory_after Array n p xs) xs q
       (λ i m. after_working o e (q * page_bytes + i) (omega arith)
       ∙ missed q i m o p.part.blocks p.part.stored p.page (working_ticks n p) (get_or xs (q * page_bytes + i) 0) (running_in_order p o e s) f)
@@ -133,12 +132,12 @@ module _ (p : Record) (n : ℕ) (m : Memory) (xs : List ℕ) (P : ℕ → List �
   of_tick_call = call_as (eqb (tick_number p.part.blocks (sound p) a r n) 0) refl
 
 module _ (p : Record) (s : sound p ≡ true) (xs : List ℕ) (own : length xs ≡ array_bytes p.part.blocks) (n a r : ℕ) where
-  pub call_blank : (u : EraseUnit) (b d : ℕ) → running p.phase ≡ At (Erase u b d) → (q : ℕ) → reaches_page (record { work = At (Erase u b d); count = (ticked p a r n).done }) q ≡ true
+  pub call_blank : (u : EraseUnit) (b d : ℕ) → running p.phase ≡ Some (Erase u b d) → (q : ℕ) → reaches_page (record { work = Some (Erase u b d); count = (ticked p a r n).done }) q ≡ true
       → blank_page (ticked_memory Array p a r n xs) q ≡ true
   call_blank u b d e q =
-      of_tick_call p n Array xs (λ (k : ℕ) (ys : List ℕ). reaches_page (record { work = At (Erase u b d); count = k }) q ≡ true → blank_page ys q ≡ true)
+      of_tick_call p n Array xs (λ (k : ℕ) (ys : List ℕ). reaches_page (record { work = Some (Erase u b d); count = k }) q ≡ true → blank_page ys q ≡ true)
       (erased_blank p s xs own n u b d e q)
-      (λ f. absurd (false≢true (sym (none_reached (At (Erase u b d)) q) ∙ f)))
+      (λ f. absurd (false≢true (sym (none_reached (Some (Erase u b d)) q) ∙ f)))
       a r
 
   pub call_same : (q : ℕ) → q < array_pages p.part.blocks → reaches_page (reached p (ticked p a r n)) q ≡ false

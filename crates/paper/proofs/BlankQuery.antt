@@ -7,15 +7,13 @@ use native.Mathlib.Omega.{arith}
 use lib.Dec.{eqb, ltb, leb}
 use lib.ListN.{length}
 use borrow.Author.Tests.{leb-true, le-leb, ltb-true, ltb-false}
-use Rattle.types.specs.declared.Blank.{Blank}
-use Rattle.types.specs.declared.Blank.TheVariants.{Page, NoPage, Refused}
 use Rattle.words.specs.Logic.{◌and◌}
 use Rattle.words.specs.Bits.{bit_in}
 use Rattle.words.proofs.Tests.{and_l, and_r, and_in, fails}
 use Rattle.words.proofs.Search.{first_before, first_passes}
 use Rattle.paper.specs.Sizes.{array_pages}
 use Rattle.paper.specs.Numbers.{query_number}
-use Rattle.paper.specs.Map.{next_blank, queried}
+use Rattle.paper.specs.Map.{Blank, Page, NoPage, Refused, next_blank, queried}
 
 abbrev is_page : Blank → Bool
 is_page (Page r) = true

@@ -1,4 +1,5 @@
 -- What ticks of an operation leave, place by place, is what they reach one after the other: an erase's ticks set one page after the other, and a program's narrow each place at most once.
+use Rattle.std.specs.Prelude.{Some}
 use Prim.Native.Nat.{ℕ, zero, suc, ◌+◌, ◌-◌, ◌*◌, ◌%◌, ◌≤◌, ◌<◌}
 use mathlib.Core.Path.{◌≡◌, refl, sym, ap, ◌∙◌}
 use mathlib.Core.Bool.{Bool, true, false, cond, false≢true}
@@ -12,7 +13,6 @@ use Rattle.types.specs.declared.Memory.{Memory}
 use Rattle.types.specs.declared.EraseUnit.{EraseUnit}
 use Rattle.types.specs.declared.Operation.{Operation}
 use Rattle.types.specs.declared.Operation.TheVariants.{Program, Erase, Write}
-use Rattle.types.specs.declared.Work.TheVariants.{At}
 use Rattle.types.specs.declared.Stored.{Stored}
 use Rattle.types.specs.declared.Record.{Record}
 use Rattle.words.specs.Logic.{◌and◌}
@@ -122,7 +122,7 @@ module _ (m : Memory) (at : ℕ) where
   ran_none (Write q v) g x = refl
 
 -- a part that works on an operation
-module _ (p : Record) (o : Operation) (e : running p.phase ≡ At o) (i : InOrder o p.part.blocks p.part.stored) (m : Memory) (at x : ℕ) where
+module _ (p : Record) (o : Operation) (e : running p.phase ≡ Some o) (i : InOrder o p.part.blocks p.part.stored) (m : Memory) (at x : ℕ) where
   -- k ticks that are not more than those left
   pub ran_bytes : (k : ℕ) → ticks_done o + k ≤ ticks_in_all o p.part.blocks → byte_after_all m at (tick_touches k p) x ≡ byte_ran k o p.page m at x
   ran_bytes zero h = sym (ran_none m at o p.page x)

@@ -1,4 +1,7 @@
 -- The error bits of the extended read register: a call sets one only by a transaction that answers 28, and one that is set stays, or all three are cleared.
+use Rattle.types.specs.declared.Command.{Command}
+use Rattle.types.specs.declared.Operation.{Operation}
+use Rattle.std.specs.Prelude.{None, Option, Some}
 use Prim.Native.Nat.{ℕ, ◌/◌, ◌%◌}
 use mathlib.Core.Path.{◌≡◌, refl}
 use mathlib.Core.Bool.{Bool, true, false, cond}
@@ -8,10 +11,6 @@ use native.Mathlib.Omega.{arith}
 use lib.ListN.{get_or}
 use lib.Dec.{eqb}
 use borrow.Author.Tests.{eqb-true}
-use Rattle.types.specs.declared.Work.{Work}
-use Rattle.types.specs.declared.Work.TheVariants.{NoWork, At}
-use Rattle.types.specs.declared.Decoded.{Decoded}
-use Rattle.types.specs.declared.Decoded.TheVariants.{Known, Unknown}
 use Rattle.types.specs.declared.Effect.{Effect}
 use Rattle.types.specs.declared.Effect.TheVariants.{Looks, Enables, Disables, Programs, Erases, Writes, Suspends, Resumes, Sleeps, Wakes, Arms, Resets, SetsLive, ClearsErrors, SetsBank, SetsFar}
 use Rattle.types.specs.declared.Data.{Data}
@@ -42,11 +41,11 @@ module _ (p : Record) (i : List ℕ) where
   abbrev live_by : Outcome → Type 0
   live_by u = LiveAfter p.part.live u.number (changed u.change i p).part.live
 
-  starts_live : (w : Work) (d : Data) → LiveAfter p.part.live 0 (changed (starts w p.part p.phase d) i p).part.live
-  starts_live NoWork d = as_it_was refl
-  starts_live (At o) d = as_it_was refl
+  starts_live : (w : Option Operation) (d : Data) → LiveAfter p.part.live 0 (changed (starts w p.part p.phase d) i p).part.live
+  starts_live None d = as_it_was refl
+  starts_live (Some o) d = as_it_was refl
 
-  effect_live : (e : Effect) (a : Addressing) (w : Work) → LiveAfter p.part.live 0 (changed (change_by e a w p.part p.phase i) i p).part.live
+  effect_live : (e : Effect) (a : Addressing) (w : Option Operation) → LiveAfter p.part.live 0 (changed (change_by e a w p.part p.phase i) i p).part.live
   effect_live Looks a w = as_it_was refl
   effect_live Enables a w = as_it_was refl
   effect_live Disables a w = as_it_was refl
@@ -68,9 +67,9 @@ module _ (p : Record) (i : List ℕ) where
   barred_live e n true h = failed e (eqb-true _ _ h) refl
   barred_live e n false h = as_it_was refl
 
-  ignored_live : (d : Decoded) (n : ℕ) → LiveAfter p.part.live n (changed (change_ignored d n p.part) i p).part.live
-  ignored_live (Known k) n = barred_live (columns k).effect n (eqb n 28) refl
-  ignored_live Unknown n = as_it_was refl
+  ignored_live : (d : Option Command) (n : ℕ) → LiveAfter p.part.live n (changed (change_ignored d n p.part) i p).part.live
+  ignored_live (Some k) n = barred_live (columns k).effect n (eqb n 28) refl
+  ignored_live None n = as_it_was refl
 
   -- after every transaction, refused, ignored or executed
   pub transaction_live : (a r : ℕ) (wp : Bool) (o : ℕ) → LiveAfter p.part.live (transacted p a r wp i o).number (transacted p a r wp i o).next.part.live

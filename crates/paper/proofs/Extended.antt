@@ -1,4 +1,5 @@
 -- The extended read register bit by bit: what 81h shows, what 83h, 82h, power-up and reset leave in the live byte, and what 28 sets in it.
+use Rattle.std.specs.Prelude.{None}
 use Prim.Native.Nat.{ℕ, ◌/◌, ◌%◌, ◌^◌, max}
 use mathlib.Core.Path.{◌≡◌, refl, ap, ◌∙◌}
 use mathlib.Core.Bool.{Bool, true}
@@ -7,7 +8,6 @@ use lib.Bits.{bit_or, or_step, or_shr, or_zero_r}
 use Rattle.types.specs.declared.Memory.{Memory}
 use Rattle.types.specs.declared.EraseUnit.{EraseUnit}
 use Rattle.types.specs.declared.Register.{Register}
-use Rattle.types.specs.declared.Work.TheVariants.{NoWork}
 use Rattle.types.specs.declared.Effect.TheVariants.{Programs, Erases, Writes}
 use Rattle.types.specs.declared.Phase.{Phase}
 use Rattle.types.specs.declared.Stored.{Stored}
@@ -75,5 +75,5 @@ program_sets m live =
 pub writes_set_none : (r : Register) → errors_of (Writes r) ≡ 0
 writes_set_none r = refl
 
-pub others_answer_none : (p : Part) (f : Phase) (wp : Bool) → free_ok NoWork p f wp ≡ true
+pub others_answer_none : (p : Part) (f : Phase) (wp : Bool) → free_ok None p f wp ≡ true
 others_answer_none p f wp = refl

@@ -1,4 +1,5 @@
 -- What power-up and ticks keep: the record that power-up gives is sound and, not refused, as asked; ticks keep a record sound and its size; at most as many ticks do work as are asked.
+use Rattle.std.specs.Prelude.{None, Option, Some}
 use Prim.Native.Nat.{ℕ, zero, suc, ◌+◌, ◌≤◌, ◌<◌}
 use mathlib.Core.Path.{◌≡◌, refl, sym, ap, ◌∙◌, subst}
 use mathlib.Core.Bool.{Bool, true, false, cond, false≢true}
@@ -12,8 +13,6 @@ use Rattle.types.specs.declared.Operation.TheVariants.{Program, Erase, Write}
 use Rattle.types.specs.declared.Register.TheVariants.{Status, Function, Extended}
 use Rattle.types.specs.declared.Phase.{Phase}
 use Rattle.types.specs.declared.Phase.TheVariants.{Idle, Busy, Suspended, Nested}
-use Rattle.types.specs.declared.Work.{Work}
-use Rattle.types.specs.declared.Work.TheVariants.{NoWork, At}
 use Rattle.types.specs.declared.Identity.{Identity}
 use Rattle.types.specs.declared.Stored.{Stored}
 use Rattle.types.specs.declared.Part.{Part}
@@ -152,7 +151,7 @@ module _ (p : Part) (g : List ℕ) where
         page_ok_lem = ap (λ (k : ℕ). all_zero (drop k g)) (advanced_keeps 1 o) ∙ s.page_ok_lem;
       })
 
-  going_sound : (f : Phase) (o : Operation) → running f ≡ At o → Sound p f g → ticks_done o + 1 < ticks_in_all o p.blocks → sound_of p (working_on f (advanced_by 1 o)) g ≡ true
+  going_sound : (f : Phase) (o : Operation) → running f ≡ Some o → Sound p f g → ticks_done o + 1 < ticks_in_all o p.blocks → sound_of p (working_on f (advanced_by 1 o)) g ≡ true
   going_sound Idle o e s h = absurd (no_work_at e)
   going_sound (Busy x) o e s h = busy_sound o (subst (λ (y : Operation). Sound p (Busy y) g) (at_same e) s) h
   going_sound (Suspended x) o e s h = absurd (no_work_at e)
@@ -169,22 +168,22 @@ module _ (p : Part) (g : List ℕ) where
       (sound_of_lem (made p p.stored (Suspended e) false) (Suspended e) no_data
       (made_sound p p.stored (Suspended e) false s.size s.sleep l (and_in i.suspends (and_l _ _ (and_r _ _ s.phase_ok_lem))) s.large) k)
 
-  finished_sound : (f : Phase) (o : Operation) → running f ≡ At o → Sound p f g → sound_of (finished_part p f o) (rest_of f) no_data ≡ true
+  finished_sound : (f : Phase) (o : Operation) → running f ≡ Some o → Sound p f g → sound_of (finished_part p f o) (rest_of f) no_data ≡ true
   finished_sound Idle o e s = absurd (no_work_at e)
   finished_sound (Busy x) o e s = idle_sound p (stored_after o p.stored) s.size (after_large o p.blocks p.stored p.bank ∙ s.large)
   finished_sound (Suspended x) o e s = absurd (no_work_at e)
   finished_sound (Nested x y) o e s = outer_sound y o (subst (λ (z : Operation). Sound p (Nested z y) g) (at_same e) s)
 
 module _ (p : Record) where
-  worked_as : (o : Operation) → running p.phase ≡ At o → sound p ≡ true → (t : Bool) → ltb (ticks_done o + 1) (ticks_in_all o p.part.blocks) ≡ t
+  worked_as : (o : Operation) → running p.phase ≡ Some o → sound p ≡ true → (t : Bool) → ltb (ticks_done o + 1) (ticks_in_all o p.part.blocks) ≡ t
       → sound (cond t (advanced p (advanced_by 1 o)) (finished p o)) ≡ true
   worked_as o e s true h = going_sound p.part p.page p.phase o e (sound_parts p s) (ltb-true _ _ h)
   worked_as o e s false h = finished_sound p.part p.page p.phase o e (sound_parts p s)
 
-  ticked_sound : (w : Work) → running p.phase ≡ w → sound p ≡ true → sound (ticked_at p w) ≡ true
+  ticked_sound : (w : Option Operation) → running p.phase ≡ w → sound p ≡ true → sound (ticked_at p w) ≡ true
   unfolding worked
-  ticked_sound NoWork e s = s
-  ticked_sound (At o) e s = worked_as o e s (ltb (ticks_done o + 1) (ticks_in_all o p.part.blocks)) refl
+  ticked_sound None e s = s
+  ticked_sound (Some o) e s = worked_as o e s (ltb (ticks_done o + 1) (ticks_in_all o p.part.blocks)) refl
 
   pub tick_sound : sound p ≡ true → sound (tick_once p) ≡ true
   tick_sound = ticked_sound (running p.phase) refl
@@ -200,10 +199,10 @@ module _ {A : Type 0} (f : Part → A) (kept : (q : Part) (g : Stored) (h : Phas
   worked_keeps p o true = refl
   worked_keeps p o false = kept p.part (stored_after o p.part.stored) (rest_of p.phase) false
 
-  ticked_keeps : (p : Record) (w : Work) → f (ticked_at p w).part ≡ f p.part
+  ticked_keeps : (p : Record) (w : Option Operation) → f (ticked_at p w).part ≡ f p.part
   unfolding worked
-  ticked_keeps p NoWork = refl
-  ticked_keeps p (At o) = worked_keeps p o (ltb (ticks_done o + 1) (ticks_in_all o p.part.blocks))
+  ticked_keeps p None = refl
+  ticked_keeps p (Some o) = worked_keeps p o (ltb (ticks_done o + 1) (ticks_in_all o p.part.blocks))
 
   pub run_keeps : (n : ℕ) (p : Record) → f (record_after n p).part ≡ f p.part
   run_keeps zero p = refl

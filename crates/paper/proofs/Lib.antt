@@ -35,3 +35,4 @@ pub mod Nested
 pub mod ByPlace
 pub mod RunToEnd
 pub mod AtRest
+pub mod Refusals

@@ -1,4 +1,5 @@
 -- A locked row stays locked over every call: the tick of 42h sets IRL bits and clears none, and nothing else writes them.
+use Rattle.std.specs.Prelude.{None, Option, Some}
 use Prim.Native.Nat.{ℕ, zero, suc, ◌+◌, ◌*◌, ◌/◌, ◌%◌, ◌^◌}
 use mathlib.Core.Path.{◌≡◌, sym, ap, ◌∙◌}
 use mathlib.Core.Bool.{Bool, true, false, cond}
@@ -13,8 +14,6 @@ use Rattle.types.specs.declared.Operation.{Operation}
 use Rattle.types.specs.declared.Operation.TheVariants.{Program, Erase, Write}
 use Rattle.types.specs.declared.Phase.{Phase}
 use Rattle.types.specs.declared.Phase.TheVariants.{Idle}
-use Rattle.types.specs.declared.Work.{Work}
-use Rattle.types.specs.declared.Work.TheVariants.{NoWork, At}
 use Rattle.types.specs.declared.Effect.{Effect}
 use Rattle.types.specs.declared.Effect.TheVariants.{Looks, Enables, Disables, Programs, Erases, Writes, Suspends, Resumes, Sleeps, Wakes, Arms, Resets, SetsLive, ClearsErrors, SetsBank, SetsFar}
 use Rattle.types.specs.declared.Stored.{Stored}
@@ -74,11 +73,11 @@ abbrev pub Locked : ℕ → Record → Type 0
 Locked k p = LockedIn k p.part.stored
 
 module _ (k : ℕ) (p : Record) (h : Locked k p) where
-  starts_locked : (w : Work) (d : Data) (i : List ℕ) → Locked k (changed (starts w p.part p.phase d) i p)
-  starts_locked NoWork d i = h
-  starts_locked (At o) d i = made_locked k p.part.stored h (working_on p.phase o) true
+  starts_locked : (w : Option Operation) (d : Data) (i : List ℕ) → Locked k (changed (starts w p.part p.phase d) i p)
+  starts_locked None d i = h
+  starts_locked (Some o) d i = made_locked k p.part.stored h (working_on p.phase o) true
 
-  effect_locked : (e : Effect) (a : Addressing) (w : Work) (i : List ℕ) → Locked k (changed (change_by e a w p.part p.phase i) i p)
+  effect_locked : (e : Effect) (a : Addressing) (w : Option Operation) (i : List ℕ) → Locked k (changed (change_by e a w p.part p.phase i) i p)
   effect_locked Looks a w i = h
   effect_locked Enables a w i = made_locked k p.part.stored h p.phase true
   effect_locked Disables a w i = made_locked k p.part.stored h p.phase false
@@ -100,10 +99,10 @@ module _ (k : ℕ) (p : Record) (h : Locked k p) where
   worked_locked o true = h
   worked_locked o false = made_locked k (stored_after o p.part.stored) (after_locked k p.part.stored h o) (rest_of p.phase) false
 
-  ticked_locked : (w : Work) → Locked k (ticked_at p w)
+  ticked_locked : (w : Option Operation) → Locked k (ticked_at p w)
   unfolding worked
-  ticked_locked NoWork = h
-  ticked_locked (At o) = worked_locked o (ltb (ticks_done o + 1) (ticks_in_all o p.part.blocks))
+  ticked_locked None = h
+  ticked_locked (Some o) = worked_locked o (ltb (ticks_done o + 1) (ticks_in_all o p.part.blocks))
 
 run_locked : (k n : ℕ) (p : Record) → Locked k p → Locked k (record_after n p)
 run_locked k zero p h = h

@@ -1,4 +1,5 @@
 -- Runs of ticks, over any operation: the record, each memory and the working ticks after so many ticks.
+use Rattle.std.specs.Prelude.{None, Option, Some}
 use Prim.Native.Nat.{ℕ, zero, suc, ◌+◌, ◌-◌, ◌≤◌, ◌<◌, min}
 use mathlib.Core.Path.{◌≡◌, refl, sym, ap, ◌∙◌, subst⁻¹}
 use mathlib.Core.Bool.{Bool, true, false, cond}
@@ -13,8 +14,6 @@ use Rattle.types.specs.declared.EraseUnit.{EraseUnit}
 use Rattle.types.specs.declared.Operation.{Operation}
 use Rattle.types.specs.declared.Operation.TheVariants.{Program, Erase, Write}
 use Rattle.types.specs.declared.Phase.{Phase}
-use Rattle.types.specs.declared.Work.{Work}
-use Rattle.types.specs.declared.Work.TheVariants.{NoWork, At}
 use Rattle.types.specs.declared.Stored.{Stored}
 use Rattle.types.specs.declared.Record.{Record}
 use Rattle.words.specs.Logic.{bit}
@@ -30,7 +29,7 @@ use Rattle.paper.proofs.Phases.{other_runs, other_again, other_same}
 use Rattle.paper.proofs.Soundness.{record_of}
 
 -- 1 where there is work
-abbrev work_bit : Work → ℕ
+abbrev work_bit : Option Operation → ℕ
 work_bit w = bit (work_is any_operation w)
 
 -- an operation with ticks more done
@@ -60,7 +59,7 @@ by_stored t (Erase u b d) g = refl
 by_stored t (Write r v) g = refl
 
 -- a tick of a part that works on an operation is not the last, or the last
-module _ (p : Record) (o : Operation) (e : running p.phase ≡ At o) where
+module _ (p : Record) (o : Operation) (e : running p.phase ≡ Some o) where
   tick_more : ticks_done o + 1 < ticks_in_all o p.part.blocks → tick_once p ≡ advanced p (advanced_by 1 o)
   unfolding worked
   tick_more h = ap (ticked_at p) e ∙ rw (lt-ltb _ _ h)
@@ -70,21 +69,21 @@ module _ (p : Record) (o : Operation) (e : running p.phase ≡ At o) where
   tick_last h = ap (ticked_at p) e ∙ rw (le-ltb _ _ h)
 
 -- a part that works on an operation
-module _ (p : Record) (o : Operation) (e : running p.phase ≡ At o) where
+module _ (p : Record) (o : Operation) (e : running p.phase ≡ Some o) where
   -- the same with its operation at another point
-  runs_at : (x : Operation) → running (advanced p x).phase ≡ At x
-  runs_at x = other_runs p.phase (At x)
+  runs_at : (x : Operation) → running (advanced p x).phase ≡ Some x
+  runs_at x = other_runs p.phase (Some x)
 
   advanced_again : (x y : Operation) → advanced (advanced p x) y ≡ advanced p y
-  advanced_again x y = ap (λ (f : Phase). record_of p.identity p.part f p.page) (other_again p.phase (At x) (At y))
+  advanced_again x y = ap (λ (f : Phase). record_of p.identity p.part f p.page) (other_again p.phase (Some x) (Some y))
 
   advanced_none : advanced p (advanced_by 0 o) ≡ p
   advanced_none =
-      ap (λ (f : Phase). record_of p.identity p.part f p.page) (ap (working_on p.phase) (by_none o) ∙ other_same p.phase (At o) e)
+      ap (λ (f : Phase). record_of p.identity p.part f p.page) (ap (working_on p.phase) (by_none o) ∙ other_same p.phase (Some o) e)
 
   finished_from : (t : ℕ) → finished (advanced p (advanced_by t o)) (advanced_by t o) ≡ finished p o
   finished_from t =
-      ap (λ (f : Phase). record_of p.identity (made p.part (stored_after (advanced_by t o) p.part.stored) f false) f no_data) (other_again p.phase (At (advanced_by t o)) NoWork)
+      ap (λ (f : Phase). record_of p.identity (made p.part (stored_after (advanced_by t o) p.part.stored) f false) f no_data) (other_again p.phase (Some (advanced_by t o)) None)
       ∙ ap (λ (g : Stored). record_of p.identity (made p.part g (rest_of p.phase) false) (rest_of p.phase) no_data) (by_stored t o p.part.stored)
 
   -- its record after k ticks that are not the last: so many ticks more are done
@@ -108,21 +107,21 @@ module _ (p : Record) (o : Operation) (e : running p.phase ≡ At o) where
   -- ticks past the last change nothing
   pub run_past : (k j : ℕ) → ticks_done o + suc k ≡ ticks_in_all o p.part.blocks → record_after (suc k + j) p ≡ finished p o
   run_past k zero h = rw add-zero (run_last k h)
-  run_past k (suc j) h = rw add-suc (ap tick_once (run_past k j h) ∙ ap (ticked_at (finished p o)) (other_runs p.phase NoWork))
+  run_past k (suc j) h = rw add-suc (ap tick_once (run_past k j h) ∙ ap (ticked_at (finished p o)) (other_runs p.phase None))
 
   -- what runs then, and what runs past the end
-  pub run_runs : (k : ℕ) → ticks_done o + k < ticks_in_all o p.part.blocks → running (record_after k p).phase ≡ At (advanced_by k o)
+  pub run_runs : (k : ℕ) → ticks_done o + k < ticks_in_all o p.part.blocks → running (record_after k p).phase ≡ Some (advanced_by k o)
   run_runs k h = ap (λ (q : Record). running q.phase) (run_record k h) ∙ runs_at (advanced_by k o)
 
-  pub past_runs : running (finished p o).phase ≡ NoWork
-  past_runs = other_runs p.phase NoWork
+  pub past_runs : running (finished p o).phase ≡ None
+  past_runs = other_runs p.phase None
 
   -- what k ticks reach
   pub run_touch : (k : ℕ) → ticks_done o + k < ticks_in_all o p.part.blocks → touch_of (record_after k p) ≡ next_touch (advanced_by k o) p.page
-  run_touch k h = ap touch_of (run_record k h) ∙ ap (λ (w : Work). touch_at w p.page) (runs_at (advanced_by k o))
+  run_touch k h = ap touch_of (run_record k h) ∙ ap (λ (w : Option Operation). touch_at w p.page) (runs_at (advanced_by k o))
 
   pub past_touch : touch_of (finished p o) ≡ none
-  past_touch = ap (λ (w : Work). touch_at w no_data) (other_runs p.phase NoWork)
+  past_touch = ap (λ (w : Option Operation). touch_at w no_data) (other_runs p.phase None)
 
   pub run_memory : (m : Memory) (xs : List ℕ) (k : ℕ) → ticks_done o + k ≤ ticks_in_all o p.part.blocks → memory_after m k p xs ≡ ran m k o p.page xs
   run_memory m xs zero h = refl
@@ -145,7 +144,7 @@ module _ (p : Record) (o : Operation) (e : running p.phase ≡ At o) where
   pub run_works_past : (k j : ℕ) → ticks_done o + suc k ≡ ticks_in_all o p.part.blocks → working_ticks (suc k + j) p ≡ suc k
   run_works_past k zero h = rw add-zero (run_works (suc k) (omega arith))
   run_works_past k (suc j) h =
-      let w : works (record_after (suc k + j) p) ≡ 0 = ap works (run_past k j h) ∙ ap work_bit (other_runs p.phase NoWork) in
+      let w : works (record_after (suc k + j) p) ≡ 0 = ap works (run_past k j h) ∙ ap work_bit (other_runs p.phase None) in
       rw (add-suc) (rw (w, run_works_past k j h) (add-zero (suc k)))
 
   -- n ticks, of which k find something left to do
@@ -179,7 +178,7 @@ module _ (p : Record) (o : Operation) (e : running p.phase ≡ At o) where
   ran_all n k g e = ran_by n k _ refl g e
 
 -- a part on which nothing runs: ticks change nothing and do no work
-module _ (p : Record) (e : running p.phase ≡ NoWork) where
+module _ (p : Record) (e : running p.phase ≡ None) where
   pub rest_record : (n : ℕ) → record_after n p ≡ p
   rest_record zero = refl
   rest_record (suc n) = ap tick_once (rest_record n) ∙ ap (ticked_at p) e
@@ -187,7 +186,7 @@ module _ (p : Record) (e : running p.phase ≡ NoWork) where
   pub rest_memory : (m : Memory) (xs : List ℕ) (n : ℕ) → memory_after m n p xs ≡ xs
   rest_memory m xs zero = refl
   rest_memory m xs (suc n) =
-      let t : touch_of (record_after n p) ≡ none = ap touch_of (rest_record n) ∙ ap (λ (w : Work). touch_at w p.page) e in
+      let t : touch_of (record_after n p) ≡ none = ap touch_of (rest_record n) ∙ ap (λ (w : Option Operation). touch_at w p.page) e in
       ap (λ (w : Touch). touched m w (memory_after m n p xs)) t ∙ rest_memory m xs n
 
   pub rest_works : (n : ℕ) → working_ticks n p ≡ 0

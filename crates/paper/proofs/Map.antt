@@ -1,4 +1,6 @@
 -- A map of blank pages: there is one right map of an array; a map that is kept has right bits of the pages that were reached, and no other bit changed; and so over calls, where a right map stays right.
+use Rattle.types.specs.declared.Operation.{Operation}
+use Rattle.std.specs.Prelude.{None, Option, Some}
 use Prim.Native.Nat.{ℕ, ◌+◌, ◌*◌, ◌/◌, ◌<◌}
 use mathlib.Core.Path.{◌≡◌, refl, sym, ap, ◌∙◌}
 use mathlib.Core.Bool.{Bool, true, false, cond}
@@ -7,8 +9,6 @@ use native.Mathlib.Omega.{arith}
 use lib.ListN.{length}
 use Rattle.types.specs.declared.Memory.TheVariants.{Array}
 use Rattle.types.specs.declared.Operation.TheVariants.{Program, Erase, Write}
-use Rattle.types.specs.declared.Work.{Work}
-use Rattle.types.specs.declared.Work.TheVariants.{NoWork, At}
 use Rattle.types.specs.declared.Record.{Record}
 use Rattle.types.specs.declared.Reached.{Reached}
 use Rattle.words.specs.Logic.{◌or◌}
@@ -55,12 +55,12 @@ module _ (r : Reached) (xs m : List ℕ) where
   kept_bit q l = puts_bit (work_first r.work) (blank_page xs) m (work_pages r.work r.count) q l
 
 -- where no tick did work, it is as it was
-pub none_kept : (w : Work) (xs m : List ℕ) → kept (record { work = w; count = 0 }) xs m ≡ m
+pub none_kept : (w : Option Operation) (xs m : List ℕ) → kept (record { work = w; count = 0 }) xs m ≡ m
 unfolding kept
-none_kept NoWork xs m = refl
-none_kept (At (Program w s b c d)) xs m = puts_none (same_memory Array w) (b / page_bytes) (blank_page xs) m
-none_kept (At (Erase u b d)) xs m = puts_none (same_memory Array (memory_of u)) (b / page_bytes + d) (blank_page xs) m
-none_kept (At (Write r v)) xs m = refl
+none_kept None xs m = refl
+none_kept (Some (Program w s b c d)) xs m = puts_none (same_memory Array w) (b / page_bytes) (blank_page xs) m
+none_kept (Some (Erase u b d)) xs m = puts_none (same_memory Array (memory_of u)) (b / page_bytes + d) (blank_page xs) m
+none_kept (Some (Write r v)) xs m = refl
 
 -- a tick call reached the pages that its touches lie in
 own_pages : (n : ℕ) (b : Board) → Own b → (q : ℕ) → touch_page (call_touches (ticks n) b.state) q ≡ reaches_page (reached b.state (waited b n)) q

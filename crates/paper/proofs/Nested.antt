@@ -1,4 +1,5 @@
 -- A program within a suspended erase: what the registers show, and how it begins and goes on.
+use Rattle.std.specs.Prelude.{Some}
 use Prim.Native.Nat.{ℕ, ◌+◌, ◌<◌}
 use mathlib.Core.Path.{◌≡◌, refl, ap, ◌∙◌, subst}
 use mathlib.Core.Bool.{Bool, true, false≢true}
@@ -10,7 +11,6 @@ use Rattle.types.specs.declared.Operation.TheVariants.{Program, Erase, Write}
 use Rattle.types.specs.declared.Phase.{Phase}
 use Rattle.types.specs.declared.Phase.TheVariants.{Suspended, Nested}
 use Rattle.types.specs.declared.Command.{Command}
-use Rattle.types.specs.declared.Decoded.TheVariants.{Known}
 use Rattle.types.specs.declared.Effect.{Effect}
 use Rattle.types.specs.declared.Effect.TheVariants.{Programs}
 use Rattle.types.specs.declared.Stored.{Stored}
@@ -73,7 +73,7 @@ suspended_shows p e f h s =
     record { wip_shown = q.wip_shown; wel_shown = q.wel_shown; esus_shown = q.esus_shown ∙ b.0; psus_shown = q.psus_shown ∙ b.1 }
 
 -- a 02h that is executed on a part that is suspended from e begins a program within it, with three address bytes or with four; WEL is 1 still, and the bytes that count are kept
-pub program_nests : (p : Record) (e : Operation) (a r : ℕ) (wp : Bool) (i : List ℕ) (o : ℕ) (k : Command) → p.phase ≡ Suspended e → decoded p.part.blocks p.part.bank (get_or i 0 0) ≡ Known k
+pub program_nests : (p : Record) (e : Operation) (a r : ℕ) (wp : Bool) (i : List ℕ) (o : ℕ) (k : Command) → p.phase ≡ Suspended e → decoded p.part.blocks p.part.bank (get_or i 0 0) ≡ Some k
     → (columns k).effect ≡ Programs Array → (transacted p a r wp i o).number ≡ 0
     → let q = (transacted p a r wp i o).next in
     let w = addressing_on (columns k) p.part in

@@ -1,4 +1,6 @@
 -- What a call that is not refused may rest on.
+use Rattle.types.specs.declared.Operation.{Operation}
+use Rattle.std.specs.Prelude.{Option}
 use Prim.Native.Nat.{ℕ, zero, suc, ◌≤◌, ◌<◌}
 use mathlib.Core.Path.{◌≡◌, refl, ap, ◌∙◌}
 use mathlib.Core.Bool.{Bool, true, false, not, false≢true}
@@ -8,7 +10,6 @@ use lib.Dec.{eqb}
 use lib.ListN.{length}
 use borrow.Author.Tests.{eqb-true, leb-true, eq-eqb, ne_eqb}
 use Rattle.types.specs.declared.Phase.{Phase}
-use Rattle.types.specs.declared.Work.{Work}
 use Rattle.types.specs.declared.Part.{Part}
 use Rattle.types.specs.declared.Columns.{Columns}
 use Rattle.words.specs.Logic.{◌or◌, unless, ◌or_else◌}
@@ -140,7 +141,7 @@ module _ (b : ℕ) (sound : Bool) (m a r : ℕ) (ls : List ℕ) (t n d i o : ℕ
       (eqb-true _ _ (unless_zero _ 37 y.0), or_else_on _ _ x.0 ∙ y.1)
 
 -- a command that is executed: none of the numbers 21 to 28 applies
-pub record CommandTaken (k : Columns) (w : Work) (p : Part) (f : Phase) (i : List ℕ) (wp : Bool) : Type 0 where
+pub record CommandTaken (k : Columns) (w : Option Operation) (p : Part) (f : Phase) (i : List ℕ) (wp : Bool) : Type 0 where
   pub not_asleep : (taken_asleep k.taken or not p.asleep) ≡ true
   pub not_busy : (taken_busy k.taken or not (is_busy f)) ≡ true
   pub not_suspended : (taken_suspended k.taken (erase_halted f) or not (is_suspended f)) ≡ true
@@ -150,7 +151,7 @@ pub record CommandTaken (k : Columns) (w : Work) (p : Part) (f : Phase) (i : Lis
   pub address_ok_lem : address_ok k.named (addressing_on k p) i ≡ true
   pub free_ok_lem : free_ok w p f wp ≡ true
 
-pub command_taken : (k : Columns) (w : Work) (p : Part) (f : Phase) (i : List ℕ) (wp : Bool) → command_number k (addressing_on k p) w p f i wp ≡ 0 → CommandTaken k w p f i wp
+pub command_taken : (k : Columns) (w : Option Operation) (p : Part) (f : Phase) (i : List ℕ) (wp : Bool) → command_number k (addressing_on k p) w p f i wp ≡ 0 → CommandTaken k w p f i wp
 unfolding command_number
 command_taken k w p f i wp e =
     let a = or_else_zero _ _ e in

@@ -1,4 +1,5 @@
 -- What ticks reached: their touches are those of the working ticks, and these lie in the pages that they reached; place by place, and of a tick call.
+use Rattle.std.specs.Prelude.{None, Option, Some}
 use Prim.Native.Nat.{ℕ, zero, suc, ◌+◌, ◌-◌, ◌*◌, ◌/◌, ◌%◌, ◌≤◌, ◌<◌, min}
 use mathlib.Core.Path.{◌≡◌, refl, sym, ap, ◌∙◌}
 use mathlib.Core.Bool.{Bool, true, false, cond}
@@ -15,8 +16,6 @@ use Rattle.types.specs.declared.EraseUnit.{EraseUnit}
 use Rattle.types.specs.declared.EraseUnit.TheVariants.{Sector, Block32, Block64, Chip, Row}
 use Rattle.types.specs.declared.Operation.{Operation}
 use Rattle.types.specs.declared.Operation.TheVariants.{Program, Erase, Write}
-use Rattle.types.specs.declared.Work.{Work}
-use Rattle.types.specs.declared.Work.TheVariants.{NoWork, At}
 use Rattle.types.specs.declared.Stored.{Stored}
 use Rattle.types.specs.declared.Record.{Record}
 use Rattle.types.specs.declared.Ticked.{Ticked}
@@ -46,7 +45,7 @@ none_after : (ts : List Touch) (k : ℕ) → (ts ++ replicate k none) ++ (none �
 none_after ts k = append_assoc ts (replicate k none) (none ∷ []) ∙ ap (λ (us : List Touch). ts ++ us) (none_more k)
 
 -- a part that works on an operation
-module _ (p : Record) (o : Operation) (e : running p.phase ≡ At o) where
+module _ (p : Record) (o : Operation) (e : running p.phase ≡ Some o) where
   -- k ticks that are not more than those left
   run_touches : (k : ℕ) → ticks_done o + k ≤ ticks_in_all o p.part.blocks → tick_touches k p ≡ next_touches o k p.page
   run_touches zero h = refl
@@ -109,20 +108,20 @@ module _ (p : Record) (o : Operation) (e : running p.phase ≡ At o) where
     working_bytes m at x n = bytes_as m at x n (working_ticks n p) (ltb n left) refl (working_is n)
 
 -- a part on which nothing runs
-rest_touches : (p : Record) → running p.phase ≡ NoWork → (n : ℕ) → tick_touches n p ≡ replicate n none
+rest_touches : (p : Record) → running p.phase ≡ None → (n : ℕ) → tick_touches n p ≡ replicate n none
 rest_touches p e zero = refl
 rest_touches p e (suc n) =
     ap (λ (q : Record). tick_touches n p ++ (touch_of q ∷ [])) (rest_record p e n)
-    ∙ ap (λ (w : Work). tick_touches n p ++ (touch_at w p.page ∷ [])) e
+    ∙ ap (λ (w : Option Operation). tick_touches n p ++ (touch_at w p.page ∷ [])) e
     ∙ ap (λ (ts : List Touch). ts ++ (none ∷ [])) (rest_touches p e n)
     ∙ none_more n
 
 module _ (p : Record) (s : sound p ≡ true) (n : ℕ) where
-  touches_at : (w : Work) → running p.phase ≡ w → tick_touches n p ≡ work_touches w (working_ticks n p) p.page ++ replicate (n - working_ticks n p) none
-  touches_at NoWork e =
+  touches_at : (w : Option Operation) → running p.phase ≡ w → tick_touches n p ≡ work_touches w (working_ticks n p) p.page ++ replicate (n - working_ticks n p) none
+  touches_at None e =
       let z : n - working_ticks n p ≡ n = omega (arith, rest_works p e n) in
       rest_touches p e n ∙ ap (λ (j : ℕ). replicate j none) (sym z)
-  touches_at (At o) e = working_touches p o e s n
+  touches_at (Some o) e = working_touches p o e s n
 
   -- what n ticks reach: the touches of the working ones, and nothing after them
   pub reached_touches : tick_touches n p ≡ touches_of (record { work = running p.phase; count = working_ticks n p }) p.page ++ replicate (n - working_ticks n p) none
@@ -189,9 +188,9 @@ none_first (Program w c b l d) q = none_as (same_memory Array w) (b / page_bytes
 none_first (Erase u b d) q = none_as (same_memory Array (memory_of u)) (b / page_bytes + d) q
 none_first (Write r v) q = no_page 0 q
 
-pub none_reached : (w : Work) (q : ℕ) → reaches_page (record { work = w; count = 0 }) q ≡ false
-none_reached NoWork q = no_page 0 q
-none_reached (At o) q = none_first o q
+pub none_reached : (w : Option Operation) (q : ℕ) → reaches_page (record { work = w; count = 0 }) q ≡ false
+none_reached None q = no_page 0 q
+none_reached (Some o) q = none_first o q
 
 -- the next tick's touch, after k ticks of an operation that is in order
 program_page : (t : Bool) (c b d k q : ℕ) → b / page_bytes * page_bytes ≡ b
@@ -228,9 +227,9 @@ module _ (n : ℕ) (s : Stored) (g : List ℕ) (q : ℕ) where
       ∙ page_next o i k
 
 module _ (p : Record) (s : sound p ≡ true) (q : ℕ) where
-  pages_at : (w : Work) → running p.phase ≡ w → (k : ℕ) → touch_page (work_touches w k p.page) q ≡ from_on (work_first w) (work_pages w k) q
-  pages_at NoWork e k = sym (no_page 0 q)
-  pages_at (At o) e k = pages_next p.part.blocks p.part.stored p.page q o (running_in_order p o e s) k
+  pages_at : (w : Option Operation) → running p.phase ≡ w → (k : ℕ) → touch_page (work_touches w k p.page) q ≡ from_on (work_first w) (work_pages w k) q
+  pages_at None e k = sym (no_page 0 q)
+  pages_at (Some o) e k = pages_next p.part.blocks p.part.stored p.page q o (running_in_order p o e s) k
 
   -- page by page: n ticks of a sound part
   pub touched_pages : (n : ℕ) → touch_page (tick_touches n p) q ≡ reaches_page (record { work = running p.phase; count = working_ticks n p }) q

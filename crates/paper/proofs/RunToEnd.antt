@@ -1,4 +1,5 @@
 -- Run to the end: an operation that runs on a sound part ends with the ticks that are left, and ticks past them change nothing. The part is then idle, or suspended again from the erase that the operation ran within; WEL is 0, page data is zero, and every byte is as the whole operation leaves it.
+use Rattle.std.specs.Prelude.{Some}
 use Prim.Native.Nat.{ℕ, suc, ◌+◌, ◌-◌, ◌≤◌}
 use mathlib.Core.Path.{◌≡◌, ap, ◌∙◌, subst⁻¹}
 use mathlib.Core.Bool.{true, false}
@@ -10,7 +11,6 @@ use Rattle.types.specs.declared.EraseUnit.TheVariants.{Sector, Block32, Block64,
 use Rattle.types.specs.declared.Operation.{Operation}
 use Rattle.types.specs.declared.Operation.TheVariants.{Program, Erase, Write}
 use Rattle.types.specs.declared.Phase.{Phase}
-use Rattle.types.specs.declared.Work.TheVariants.{At}
 use Rattle.types.specs.declared.Stored.{Stored}
 use Rattle.types.specs.declared.Record.{Record}
 use Rattle.types.specs.declared.Ticked.{Ticked}
@@ -36,7 +36,7 @@ pub record Rests (f : Phase) (q : Record) : Type 0 where
   pub latch : q.part.wel ≡ false
   pub page_data_lem : q.page ≡ no_data
 
-module _ (p : Record) (o : Operation) (e : running p.phase ≡ At o) (s : sound p ≡ true) (n : ℕ) (l : ticks_left o p.part.blocks ≤ n) where
+module _ (p : Record) (o : Operation) (e : running p.phase ≡ Some o) (s : sound p ≡ true) (n : ℕ) (l : ticks_left o p.part.blocks ≤ n) where
   in-order-now : InOrder o p.part.blocks p.part.stored
   in-order-now = running_in_order p o e s
 

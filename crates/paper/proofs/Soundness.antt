@@ -1,4 +1,5 @@
 -- What a sound record may be relied on for, part by part.
+use Rattle.std.specs.Prelude.{Some}
 use Prim.Native.Nat.{ℕ, ◌<◌}
 use mathlib.Core.Path.{◌≡◌, refl, sym, ap, ◌∙◌}
 use mathlib.Core.Bool.{Bool, true, false}
@@ -7,7 +8,6 @@ use borrow.Author.Tests.{eqb-true, ltb-true, lt-ltb}
 use Rattle.types.specs.declared.Operation.{Operation}
 use Rattle.types.specs.declared.Phase.{Phase}
 use Rattle.types.specs.declared.Phase.TheVariants.{Idle, Busy, Suspended, Nested}
-use Rattle.types.specs.declared.Work.TheVariants.{At}
 use Rattle.types.specs.declared.Identity.{Identity}
 use Rattle.types.specs.declared.Stored.{Stored}
 use Rattle.types.specs.declared.Part.{Part}
@@ -128,24 +128,24 @@ in-nest-whole e o n i =
     and_in i.erases (and_in i.suspends (and_in i.programs (and_in i.array_page i.apart)))
 
 -- what runs on a sound part is in order
-running_ok : (f : Phase) (o : Operation) (n : ℕ) (s : Stored) → running f ≡ At o → phase_ok f n s ≡ true → operation_ok o n s ≡ true
+running_ok : (f : Phase) (o : Operation) (n : ℕ) (s : Stored) → running f ≡ Some o → phase_ok f n s ≡ true → operation_ok o n s ≡ true
 running_ok Idle o n s e h = absurd (no_work_at e)
 running_ok (Busy x) o n s e h = ap (λ (y : Operation). operation_ok y n s) (sym (at_same e)) ∙ h
 running_ok (Suspended x) o n s e h = absurd (no_work_at e)
 running_ok (Nested x y) o n s e h =
     ap (λ (z : Operation). operation_ok z n s) (sym (at_same e)) ∙ and_r _ _ (and_r _ _ h)
 
-pub running_in_order : (p : Record) (o : Operation) → running p.phase ≡ At o → sound p ≡ true → InOrder o p.part.blocks p.part.stored
+pub running_in_order : (p : Record) (o : Operation) → running p.phase ≡ Some o → sound p ≡ true → InOrder o p.part.blocks p.part.stored
 running_in_order p o e h =
     in_order o p.part.blocks p.part.stored (running_ok p.phase o p.part.blocks p.part.stored e (sound_parts p h).phase_ok_lem)
 
 -- so is what is suspended on it
-halted_ok : (f : Phase) (o : Operation) (n : ℕ) (s : Stored) → halted f ≡ At o → phase_ok f n s ≡ true → operation_ok o n s ≡ true
+halted_ok : (f : Phase) (o : Operation) (n : ℕ) (s : Stored) → halted f ≡ Some o → phase_ok f n s ≡ true → operation_ok o n s ≡ true
 halted_ok Idle o n s e h = absurd (no_work_at e)
 halted_ok (Busy x) o n s e h = absurd (no_work_at e)
 halted_ok (Suspended x) o n s e h = ap (λ (y : Operation). operation_ok y n s) (sym (at_same e)) ∙ and_r _ _ h
 halted_ok (Nested x y) o n s e h = ap (λ (z : Operation). operation_ok z n s) (sym (at_same e)) ∙ and_l _ _ (and_r _ _ h)
 
-pub halted_in_order : (p : Record) (o : Operation) → halted p.phase ≡ At o → sound p ≡ true → InOrder o p.part.blocks p.part.stored
+pub halted_in_order : (p : Record) (o : Operation) → halted p.phase ≡ Some o → sound p ≡ true → InOrder o p.part.blocks p.part.stored
 halted_in_order p o e h =
     in_order o p.part.blocks p.part.stored (halted_ok p.phase o p.part.blocks p.part.stored e (sound_parts p h).phase_ok_lem)

@@ -1,4 +1,5 @@
 -- The lists of codes that the paper prints, read off the command table; and what each row of it keeps to.
+use Rattle.std.specs.Prelude.{None, Option, Some}
 use Prim.Native.Nat.{ℕ}
 use mathlib.Core.Path.{◌≡◌, refl, sym, ap, ◌∙◌}
 use mathlib.Core.List.{List, [], ◌∷◌, ◌++◌}
@@ -9,8 +10,6 @@ use Rattle.types.specs.declared.Addressing.{Addressing}
 use Rattle.types.specs.declared.Columns.{Columns}
 use Rattle.types.specs.declared.Command.{Command}
 use Rattle.types.specs.declared.Command.TheVariants.{Read}
-use Rattle.types.specs.declared.Decoded.{Decoded}
-use Rattle.types.specs.declared.Decoded.TheVariants.{Known, Unknown}
 use Rattle.types.specs.declared.Effect.{Effect}
 use Rattle.types.specs.declared.Effect.TheVariants.{Looks, Enables, Disables, Programs, Erases, Writes, Suspends, Resumes, Sleeps, Wakes, Arms, Resets, SetsLive, ClearsErrors, SetsBank, SetsFar}
 use Rattle.types.specs.declared.Wanted.{Wanted}
@@ -89,20 +88,20 @@ far_needs_wel = refl
 abbrev passes : (Command → Bool) → List Entry → Bool
 passes test es = every (λ (e : Entry). test e.command) es
 
-abbrev is_known : Decoded → Bool
-is_known (Known k) = true
-is_known Unknown = false
+abbrev is_known : Option Command → Bool
+is_known (Some k) = true
+is_known None = false
 
-abbrev command_in : Decoded → Command
-command_in (Known k) = k
-command_in Unknown = Read
+abbrev command_in : Option Command → Command
+command_in (Some k) = k
+command_in None = Read
 
-found_as : (test : Command → Bool) (x k : Command) (rest : Decoded) (t : Bool)
-    → test x ≡ true → (rest ≡ Known k → test k ≡ true) → cond t (Known x) rest ≡ Known k → test k ≡ true
+found_as : (test : Command → Bool) (x k : Command) (rest : Option Command) (t : Bool)
+    → test x ≡ true → (rest ≡ Some k → test k ≡ true) → cond t (Some x) rest ≡ Some k → test k ≡ true
 found_as test x k rest true h r e = ap test (sym (ap command_in e)) ∙ h
 found_as test x k rest false h r e = r e
 
-found : (test : Command → Bool) (es : List Entry) (c : ℕ) (k : Command) → passes test es ≡ true → look_up es c ≡ Known k → test k ≡ true
+found : (test : Command → Bool) (es : List Entry) (c : ℕ) (k : Command) → passes test es ≡ true → look_up es c ≡ Some k → test k ≡ true
 found test [] c k h e = absurd (false≢true (ap is_known e))
 found test (x ∷ xs) c k h e =
     found_as test x.command k (look_up xs c) (eqb c x.code) (and_l _ _ h) (found test xs c k (and_r _ _ h)) e
@@ -112,25 +111,25 @@ passes_asked test true es h = h
 passes_asked test false es h = refl
 
 -- so does every command that a part knows, if every entry of the three lists of codes does
-pub of_decoded : (test : Command → Bool) → passes test far_codes ≡ true → passes test codes ≡ true → passes test large_codes ≡ true → (n bank c : ℕ) (k : Command) → decoded n bank c ≡ Known k → test k ≡ true
+pub of_decoded : (test : Command → Bool) → passes test far_codes ≡ true → passes test codes ≡ true → passes test large_codes ≡ true → (n bank c : ℕ) (k : Command) → decoded n bank c ≡ Some k → test k ≡ true
 unfolding decoded
 of_decoded test f h l n bank c k e =
     found test (codes_on n bank) c k (every_both (λ (x : Entry). test x.command) (cond (extadd bank) far_codes []) (codes ++ cond (is_large n) large_codes []) (passes_asked test (extadd bank) far_codes f) (every_both (λ (x : Entry). test x.command) codes (cond (is_large n) large_codes []) h (passes_asked test (is_large n) large_codes l))) e
 
 -- What a code is, from what each of the three lists of codes has at it: what a list has, where the test lets it be asked, or else what comes after it
-abbrev on : Bool → Decoded → Decoded → Decoded
-on t (Known k) d = cond t (Known k) d
-on t Unknown d = d
+abbrev on : Bool → Option Command → Option Command → Option Command
+on t (Some k) d = cond t (Some k) d
+on t None d = d
 
-on_unasked : (a d : Decoded) → d ≡ on false a d
-on_unasked (Known k) d = refl
-on_unasked Unknown d = refl
+on_unasked : (a d : Option Command) → d ≡ on false a d
+on_unasked (Some k) d = refl
+on_unasked None d = refl
 
-on_last : (a : Decoded) → a ≡ on true a Unknown
-on_last (Known k) = refl
-on_last Unknown = refl
+on_last : (a : Option Command) → a ≡ on true a None
+on_last (Some k) = refl
+on_last None = refl
 
-on_more : (t : Bool) (k : Command) (a d e : Decoded) → e ≡ on true a d → cond t (Known k) e ≡ on true (cond t (Known k) a) d
+on_more : (t : Bool) (k : Command) (a d e : Option Command) → e ≡ on true a d → cond t (Some k) e ≡ on true (cond t (Some k) a) d
 on_more true k a d e h = refl
 on_more false k a d e h = h
 
@@ -143,13 +142,13 @@ before : (t : Bool) (es fs : List Entry) (c : ℕ) → look_up (cond t es [] ++ 
 before true es fs c = joined es fs c
 before false es fs c = on_unasked (look_up es c) (look_up fs c)
 
-last : (t : Bool) (es : List Entry) (c : ℕ) → look_up (cond t es []) c ≡ on t (look_up es c) Unknown
+last : (t : Bool) (es : List Entry) (c : ℕ) → look_up (cond t es []) c ≡ on t (look_up es c) None
 last true es c = on_last (look_up es c)
-last false es c = on_unasked (look_up es c) Unknown
+last false es c = on_unasked (look_up es c) None
 
 -- by the tests for EXTADD and for the large part; at a known code it computes to an answer by these
-abbrev pub answer : Bool → Bool → ℕ → Decoded
-answer far large c = on far (look_up far_codes c) (on true (look_up codes c) (on large (look_up large_codes c) Unknown))
+abbrev pub answer : Bool → Bool → ℕ → Option Command
+answer far large c = on far (look_up far_codes c) (on true (look_up codes c) (on large (look_up large_codes c) None))
 
 pub answered : (n bank c : ℕ) → decoded n bank c ≡ answer (extadd bank) (is_large n) c
 unfolding decoded
@@ -159,10 +158,10 @@ answered n bank c =
 
 -- a code is one command on every part, under every bank register
 abbrev pub Always : ℕ → Command → Type 0
-Always c k = (n bank : ℕ) → decoded n bank c ≡ Known k
+Always c k = (n bank : ℕ) → decoded n bank c ≡ Some k
 
 -- so is each of the command table that table 8.3 does not list
-pub known : (c : ℕ) (k : Command) → look_up far_codes c ≡ Unknown → look_up codes c ≡ Known k → Always c k
+pub known : (c : ℕ) (k : Command) → look_up far_codes c ≡ None → look_up codes c ≡ Some k → Always c k
 known c k f e n bank = answered n bank c ∙ rw (f, e)
 
 -- what writes the bank register
@@ -193,12 +192,12 @@ unfolding ◌and◌
 spares_all far = every_both (λ (x : Entry). spares_bank x.command) (cond far far_codes []) (codes ++ []) (passes_asked spares_bank far far_codes refl) refl
 
 bank_large_as : (n bank c : ℕ) (k : Command) (t : Bool) → is_large n ≡ t
-    → look_up (cond (extadd bank) far_codes [] ++ (codes ++ cond t large_codes [])) c ≡ Known k → sets_bank (columns k).effect ≡ true → is_large n ≡ true
+    → look_up (cond (extadd bank) far_codes [] ++ (codes ++ cond t large_codes [])) c ≡ Some k → sets_bank (columns k).effect ≡ true → is_large n ≡ true
 bank_large_as n bank c k true l e h = l
 bank_large_as n bank c k false l e h =
     absurd (false≢true (sym (ap not h) ∙ found spares_bank (cond (extadd bank) far_codes [] ++ (codes ++ [])) c k (spares_all (extadd bank)) e))
 
-pub bank_large : (n bank c : ℕ) (k : Command) → decoded n bank c ≡ Known k → sets_bank (columns k).effect ≡ true → is_large n ≡ true
+pub bank_large : (n bank c : ℕ) (k : Command) → decoded n bank c ≡ Some k → sets_bank (columns k).effect ≡ true → is_large n ≡ true
 unfolding decoded
 bank_large n bank c k e h = bank_large_as n bank c k (is_large n) refl e h
 
@@ -243,7 +242,7 @@ look_or_wake Q l w SetsBank h = absurd (false≢true h)
 look_or_wake Q l w (SetsFar far) h = absurd (false≢true h)
 
 -- what holds of both, holds of what every read does
-pub of_reads : (Q : Effect → Type 0) → Q Looks → Q Wakes → (n bank c : ℕ) (k : Command) → decoded n bank c ≡ Known k → is_read (columns k) ≡ true → Q (columns k).effect
+pub of_reads : (Q : Effect → Type 0) → Q Looks → Q Wakes → (n bank c : ℕ) (k : Command) → decoded n bank c ≡ Some k → is_read (columns k) ≡ true → Q (columns k).effect
 unfolding ◌and◌ ◌or◌
 of_reads Q l w n bank c k e h =
     look_or_wake Q l w (columns k).effect (rw h at (of_decoded read_looks refl refl refl n bank c k e))
@@ -264,7 +263,7 @@ any_state Running p f h = absurd (false≢true h)
 any_state Halted p f h = absurd (false≢true h)
 any_state Armed p f h = absurd (false≢true h)
 
-pub write_state : (n bank c : ℕ) (k : Command) (p : Part) (f : Phase) → decoded n bank c ≡ Known k → eqb (errors_of (columns k).effect) 0 ≡ false → state_ok (columns k).wanted p f ≡ true
+pub write_state : (n bank c : ℕ) (k : Command) (p : Part) (f : Phase) → decoded n bank c ≡ Some k → eqb (errors_of (columns k).effect) 0 ≡ false → state_ok (columns k).wanted p f ≡ true
 unfolding ◌and◌ ◌or◌
 write_state n bank c k p f e h =
     any_state (columns k).wanted p f (rw h at (of_decoded wants_nothing refl refl refl n bank c k e))
@@ -273,7 +272,7 @@ write_state n bank c k p f e h =
 abbrev needs_latch : Command → Bool
 needs_latch k = eqb (errors_of (columns k).effect) 0 or (columns k).wel
 
-pub write_latch : (n bank c : ℕ) (k : Command) → decoded n bank c ≡ Known k → eqb (errors_of (columns k).effect) 0 ≡ false → (columns k).wel ≡ true
+pub write_latch : (n bank c : ℕ) (k : Command) → decoded n bank c ≡ Some k → eqb (errors_of (columns k).effect) 0 ≡ false → (columns k).wel ≡ true
 unfolding ◌and◌ ◌or◌
 write_latch n bank c k e h = rw h at (of_decoded needs_latch refl refl refl n bank c k e)
 
@@ -281,7 +280,7 @@ write_latch n bank c k e h = rw h at (of_decoded needs_latch refl refl refl n ba
 abbrev waits_to_begin : Addressing → ℕ → List ℕ → Command → Bool
 waits_to_begin g n i k = not (work_is any_operation (begins (columns k).effect g n i)) or not (taken_busy (columns k).taken)
 
-pub begins_at_rest : (n bank c : ℕ) (k : Command) (g : Addressing) (i : List ℕ) → decoded n bank c ≡ Known k → work_is any_operation (begins (columns k).effect g n i) ≡ true → taken_busy (columns k).taken ≡ false
+pub begins_at_rest : (n bank c : ℕ) (k : Command) (g : Addressing) (i : List ℕ) → decoded n bank c ≡ Some k → work_is any_operation (begins (columns k).effect g n i) ≡ true → taken_busy (columns k).taken ≡ false
 unfolding ◌and◌ ◌or◌
 begins_at_rest n bank c k g i e h =
     not-true _ (rw h at (of_decoded (waits_to_begin g n i) refl refl refl n bank c k e))

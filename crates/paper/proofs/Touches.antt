@@ -1,4 +1,5 @@
 -- Touches, place by place: what a touch, the touches of so many ticks, and a tick call leave at each place of a memory is what the history says of its byte.
+use Rattle.std.specs.Prelude.{None, Option, Some}
 use Prim.Native.Nat.{ℕ, zero, suc, ◌+◌, ◌≤◌, ◌<◌}
 use mathlib.Core.Path.{◌≡◌, refl, sym, ap, ◌∙◌}
 use mathlib.Core.Bool.{Bool, true, false, cond}
@@ -12,8 +13,6 @@ use Rattle.types.specs.declared.Memory.{Memory}
 use Rattle.types.specs.declared.Memory.TheVariants.{Array, Rows}
 use Rattle.types.specs.declared.Operation.{Operation}
 use Rattle.types.specs.declared.Operation.TheVariants.{Program, Erase, Write}
-use Rattle.types.specs.declared.Work.{Work}
-use Rattle.types.specs.declared.Work.TheVariants.{NoWork, At}
 use Rattle.types.specs.declared.Stored.{Stored}
 use Rattle.types.specs.declared.Record.{Record}
 use Rattle.words.specs.Logic.{◌and◌}
@@ -87,9 +86,9 @@ next_fits (Erase u b d) g n s i =
 next_fits (Write r v) g n s i = omega arith
 
 module _ (p : Record) (s : sound p ≡ true) where
-  fits_at : (w : Work) → running p.phase ≡ w → Fits (touch_at w p.page) p.part.blocks
-  fits_at NoWork e = omega arith
-  fits_at (At o) e = next_fits o p.page p.part.blocks p.part.stored (running_in_order p o e s)
+  fits_at : (w : Option Operation) → running p.phase ≡ w → Fits (touch_at w p.page) p.part.blocks
+  fits_at None e = omega arith
+  fits_at (Some o) e = next_fits o p.page p.part.blocks p.part.stored (running_in_order p o e s)
 
   touch_fits : Fits (touch_of p) p.part.blocks
   touch_fits = fits_at (running p.phase) refl

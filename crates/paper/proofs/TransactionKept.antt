@@ -1,4 +1,5 @@
 -- What a transaction keeps: refused, ignored or executed, it keeps a record sound, and its size and identity.
+use Rattle.std.specs.Prelude.{None, Option, Some}
 use Prim.Native.Nat.{ℕ, ◌+◌, ◌≤◌}
 use mathlib.Core.Path.{◌≡◌, refl, sym, ap, ◌∙◌, subst}
 use mathlib.Core.Bool.{Bool, true, false, not, cond, false≢true}
@@ -18,12 +19,8 @@ use Rattle.types.specs.declared.Register.TheVariants.{Status, Function, Extended
 use Rattle.types.specs.declared.Operation.{Operation}
 use Rattle.types.specs.declared.Phase.{Phase}
 use Rattle.types.specs.declared.Phase.TheVariants.{Idle, Busy, Suspended, Nested}
-use Rattle.types.specs.declared.Work.{Work}
-use Rattle.types.specs.declared.Work.TheVariants.{NoWork, At}
 use Rattle.types.specs.declared.Command.{Command}
 use Rattle.types.specs.declared.Command.TheVariants.{Read, FastRead, ReadStatus, ReadFunction, ReadIdentity, ReadMakerDevice, Wake, ReadRow, WriteEnable, WriteDisable, WriteStatus, WriteFunction, PageProgram, SectorErase, BlockErase32, BlockErase64, ChipErase, Suspend, Resume, Sleep, ArmReset, Reset, RowErase, RowProgram, ReadExtended, SetStored, SetLive, ClearErrors, FarRead, FarFastRead, FarPageProgram, FarPageProgramAtRest, FarSectorErase, FarBlockErase32, FarBlockErase64, ReadBank, WriteBank, EnterFar, LeaveFar}
-use Rattle.types.specs.declared.Decoded.{Decoded}
-use Rattle.types.specs.declared.Decoded.TheVariants.{Known, Unknown}
 use Rattle.types.specs.declared.Length.{Length}
 use Rattle.types.specs.declared.Length.TheVariants.{Exactly, AtLeast}
 use Rattle.types.specs.declared.Taken.TheVariants.{Rest, Esus}
@@ -31,7 +28,7 @@ use Rattle.types.specs.declared.Named.{Named}
 use Rattle.types.specs.declared.Named.TheVariants.{Bare}
 use Rattle.types.specs.declared.Wanted.{Wanted}
 use Rattle.types.specs.declared.Wanted.TheVariants.{Any}
-use Rattle.types.specs.declared.Source.TheVariants.{None}
+use Rattle.types.specs.declared.Source.TheVariants.{Void}
 use Rattle.types.specs.declared.Effect.{Effect}
 use Rattle.types.specs.declared.Effect.TheVariants.{Looks, Enables, Disables, Programs, Erases, Writes, Suspends, Resumes, Sleeps, Wakes, Arms, Resets, SetsLive, ClearsErrors, SetsBank, SetsFar}
 use Rattle.types.specs.declared.Part.{Part}
@@ -68,16 +65,16 @@ use Rattle.paper.proofs.Kept.{fresh_sound, unbanked}
 
 -- what holds of each refusal, of each way to be ignored, and of a command that no number applies to, holds of a transaction's outcome
 module _ (Q : Outcome → Type 0) (p : Part) (f : Phase) (wp : Bool) (i : List ℕ)
-    (turned-away : (n : ℕ) → Q (refused n)) (passed_over : (d : Decoded) (n : ℕ) → Q (ignored d n p (length i)))
-    (did : (k : Command) → decoded p.blocks p.bank (get_or i 0 0) ≡ Known k → ignored_number (Known k) p f i wp ≡ 0 → Q (executed (columns k) p f i)) where
-  answered_to : (k : Command) → decoded p.blocks p.bank (get_or i 0 0) ≡ Known k → (t : Bool) → eqb (ignored_number (Known k) p f i wp) 0 ≡ t
-      → Q (cond t (executed (columns k) p f i) (ignored (Known k) (ignored_number (Known k) p f i wp) p (length i)))
+    (turned-away : (n : ℕ) → Q (refused n)) (passed_over : (d : Option Command) (n : ℕ) → Q (ignored d n p (length i)))
+    (did : (k : Command) → decoded p.blocks p.bank (get_or i 0 0) ≡ Some k → ignored_number (Some k) p f i wp ≡ 0 → Q (executed (columns k) p f i)) where
+  answered_to : (k : Command) → decoded p.blocks p.bank (get_or i 0 0) ≡ Some k → (t : Bool) → eqb (ignored_number (Some k) p f i wp) 0 ≡ t
+      → Q (cond t (executed (columns k) p f i) (ignored (Some k) (ignored_number (Some k) p f i wp) p (length i)))
   answered_to k c true e = did k c (eqb-true _ _ e)
-  answered_to k c false e = passed_over (Known k) (ignored_number (Known k) p f i wp)
+  answered_to k c false e = passed_over (Some k) (ignored_number (Some k) p f i wp)
 
-  outcome_to_lem : (d : Decoded) → decoded p.blocks p.bank (get_or i 0 0) ≡ d → Q (outcome_to d p f wp i)
-  outcome_to_lem (Known k) c = answered_to k c (eqb (ignored_number (Known k) p f i wp) 0) refl
-  outcome_to_lem Unknown c = passed_over Unknown 20
+  outcome_to_lem : (d : Option Command) → decoded p.blocks p.bank (get_or i 0 0) ≡ d → Q (outcome_to d p f wp i)
+  outcome_to_lem (Some k) c = answered_to k c (eqb (ignored_number (Some k) p f i wp) 0) refl
+  outcome_to_lem None c = passed_over None 20
 
   refused_or_not : (n : ℕ) (t : Bool) → Q (cond t (outcome_to (decoded p.blocks p.bank (get_or i 0 0)) p f wp i) (refused n))
   refused_or_not n true = outcome_to_lem (decoded p.blocks p.bank (get_or i 0 0)) refl
@@ -92,15 +89,15 @@ module _ (Q : Outcome → Type 0) (p : Part) (f : Phase) (wp : Bool) (i : List �
 -- what holds of the record before, of it unarmed, with any live byte too, and of one after a command that no number applies to, holds of the record after a transaction
 module _ (P : Record → Type 0) (p : Record) (wp : Bool) (i : List ℕ) (same : P p)
     (unmarked : P (changed (Marked false) i p)) (lived : (v : ℕ) → P (changed (Live v) i p))
-    (did : (k : Command) → decoded p.part.blocks p.part.bank (get_or i 0 0) ≡ Known k → ignored_number (Known k) p.part p.phase i wp ≡ 0 → P (changed (executed (columns k) p.part p.phase i).change i p)) where
+    (did : (k : Command) → decoded p.part.blocks p.part.bank (get_or i 0 0) ≡ Some k → ignored_number (Some k) p.part p.phase i wp ≡ 0 → P (changed (executed (columns k) p.part p.phase i).change i p)) where
   -- ignored with 28, or with another number
   barred_or_not : (e : Effect) (t : Bool) → P (changed (cond t (change_barred e p.part) (Marked false)) i p)
   barred_or_not e true = lived (live_failed (errors_of e) p.part.live)
   barred_or_not e false = unmarked
 
-  ignored_so : (d : Decoded) (n : ℕ) → P (changed (change_ignored d n p.part) i p)
-  ignored_so (Known k) n = barred_or_not (columns k).effect (eqb n 28)
-  ignored_so Unknown n = unmarked
+  ignored_so : (d : Option Command) (n : ℕ) → P (changed (change_ignored d n p.part) i p)
+  ignored_so (Some k) n = barred_or_not (columns k).effect (eqb n 28)
+  ignored_so None n = unmarked
 
   pub after_transaction : (a r o : ℕ) → P (transacted p a r wp i o).next
   unfolding transacted
@@ -111,11 +108,11 @@ abbrev SameSize : Part → Record → Type 0
 SameSize p q = q.part.blocks ≡ p.blocks
 
 module _ (p : Record) (i : List ℕ) where
-  starts_same : (w : Work) (d : Data) → SameSize p.part (changed (starts w p.part p.phase d) i p)
-  starts_same NoWork d = refl
-  starts_same (At o) d = refl
+  starts_same : (w : Option Operation) (d : Data) → SameSize p.part (changed (starts w p.part p.phase d) i p)
+  starts_same None d = refl
+  starts_same (Some o) d = refl
 
-  change_same : (e : Effect) (a : Addressing) (w : Work) → SameSize p.part (changed (change_by e a w p.part p.phase i) i p)
+  change_same : (e : Effect) (a : Addressing) (w : Option Operation) → SameSize p.part (changed (change_by e a w p.part p.phase i) i p)
   change_same Looks a w = refl
   change_same Enables a w = refl
   change_same Disables a w = refl
@@ -218,7 +215,7 @@ module _ (p : Record) (s : sound p ≡ true) where
     begins_program w i l (Nested o x) e b h g a = absurd (false≢true (sym b))
 
   module _ (i : List ℕ) (wp : Bool) where
-    module _ {l : Length} {v : Bool} {a : Named} {g : Wanted} {c : Effect} {w : Work} (t : CommandTaken (line l v Esus a g None 0 c) w p.part p.phase i wp) where
+    module _ {l : Length} {v : Bool} {a : Named} {g : Wanted} {c : Effect} {w : Option Operation} (t : CommandTaken (line l v Esus a g Void 0 c) w p.part p.phase i wp) where
       awake_then : p.part.asleep ≡ false
       unfolding ◌or◌
       awake_then = not-true p.part.asleep t.not_asleep
@@ -231,7 +228,7 @@ module _ (p : Record) (s : sound p ≡ true) where
       latched wel = latches awake_then wel p.phase refl not_busy_then t.not_suspended
 
     -- a command that is taken only by an awake and idle part
-    module _ {l : Length} {v : Bool} {a : Named} {g : Wanted} {c : Effect} {w : Work} (t : CommandTaken (line l v Rest a g None 0 c) w p.part p.phase i wp) where
+    module _ {l : Length} {v : Bool} {a : Named} {g : Wanted} {c : Effect} {w : Option Operation} (t : CommandTaken (line l v Rest a g Void 0 c) w p.part p.phase i wp) where
       awake : p.part.asleep ≡ false
       unfolding ◌or◌
       awake = not-true p.part.asleep t.not_asleep
@@ -254,19 +251,19 @@ module _ (p : Record) (s : sound p ≡ true) where
       sleeps = rests true (ap (λ (f : Phase). sleep_ok f true) idle)
 
     -- what begins is free
-    open_to : (o : Operation) → free_ok (At o) p.part p.phase wp ≡ true → target_free o p.part.blocks p.part.stored ≡ true
+    open_to : (o : Operation) → free_ok (Some o) p.part p.phase wp ≡ true → target_free o p.part.blocks p.part.stored ≡ true
     open_to o h = and_l _ _ h
 
     -- a program whose address is sent so, behind which a byte of data stands at least
     module _ {l : ℕ} {a : Named} (w : Addressing) (long : l ≡ 2 + address_count w) where
-      programs_page : CommandTaken (line (AtLeast l) WEL Esus a Any None 0 (Programs Array)) (At (program_of Array w p.part.blocks i)) p.part p.phase i wp
-          → sound (changed (starts (At (program_of Array w p.part.blocks i)) p.part p.phase (Sent w)) i p) ≡ true
+      programs_page : CommandTaken (line (AtLeast l) WEL Esus a Any Void 0 (Programs Array)) (Some (program_of Array w p.part.blocks i)) p.part p.phase i wp
+          → sound (changed (starts (Some (program_of Array w p.part.blocks i)) p.part p.phase (Sent w)) i p) ≡ true
       programs_page t =
           unarms _ _ _
           (begins_program (awake_then t) w i (subst (λ (n : ℕ). n ≤ length i) long (leb-true l (length i) t.length_ok_lem)) p.phase refl (not_busy_then t) t.not_suspended (and_l _ _ t.free_ok_lem) (and_l _ _ (and_r _ _ t.free_ok_lem)))
 
-      programs_at_rest : (m : Memory) → Valid m w i → CommandTaken (line (AtLeast l) WEL Rest a Any None 0 (Programs m)) (At (program_of m w p.part.blocks i)) p.part p.phase i wp
-          → sound (changed (starts (At (program_of m w p.part.blocks i)) p.part p.phase (Sent w)) i p) ≡ true
+      programs_at_rest : (m : Memory) → Valid m w i → CommandTaken (line (AtLeast l) WEL Rest a Any Void 0 (Programs m)) (Some (program_of m w p.part.blocks i)) p.part p.phase i wp
+          → sound (changed (starts (Some (program_of m w p.part.blocks i)) p.part p.phase (Sent w)) i p) ≡ true
       programs_at_rest m v t =
           let o = program_of m w p.part.blocks i in
           let q = sound_parts p s in
@@ -274,15 +271,15 @@ module _ (p : Record) (s : sound p ≡ true) where
           (starting t o (page_data (data_sent w i))
           (program_begun p.part q.size q.large (awake t) w i (subst (λ (n : ℕ). n ≤ length i) long (leb-true l (length i) t.length_ok_lem)) m v (open_to o t.free_ok_lem)))
 
-    erases : {l : Length} {a : Named} (u : EraseUnit) (w : Addressing) → Valid (memory_of u) w i → CommandTaken (line l WEL Rest a Any None 0 (Erases u)) (At (erase_of u w p.part.blocks i)) p.part p.phase i wp
-        → sound (changed (starts (At (erase_of u w p.part.blocks i)) p.part p.phase Kept) i p) ≡ true
+    erases : {l : Length} {a : Named} (u : EraseUnit) (w : Addressing) → Valid (memory_of u) w i → CommandTaken (line l WEL Rest a Any Void 0 (Erases u)) (Some (erase_of u w p.part.blocks i)) p.part p.phase i wp
+        → sound (changed (starts (Some (erase_of u w p.part.blocks i)) p.part p.phase Kept) i p) ≡ true
     erases u w v t =
         let o = erase_of u w p.part.blocks i in
         let q = sound_parts p s in
         unarms _ _ _ (starting t o p.page (erase_begun p.part q.size q.large (awake t) p.page (empty t) u w i v (open_to o t.free_ok_lem)))
 
-    writes : (r : Register) → CommandTaken (line (Exactly 2) WEL Rest Bare Any None 0 (Writes r)) (At (write_of r i)) p.part p.phase i wp
-        → sound (changed (starts (At (write_of r i)) p.part p.phase Kept) i p) ≡ true
+    writes : (r : Register) → CommandTaken (line (Exactly 2) WEL Rest Bare Any Void 0 (Writes r)) (Some (write_of r i)) p.part p.phase i wp
+        → sound (changed (starts (Some (write_of r i)) p.part p.phase Kept) i p) ≡ true
     writes r t =
         unarms _ _ _ (starting t (write_of r i) p.page (write_begun p.part (sound_parts p s).size (sound_parts p s).large (awake t) p.page (empty t) r i))
 
@@ -293,7 +290,7 @@ module _ (p : Record) (s : sound p ≡ true) where
         unarms _ _ _
         (sound_whole (with_bank p.part (bank_turned far b)) p.phase p.page (record { size = q.size; sleep = q.sleep; latch = q.latch; phase_ok_lem = q.phase_ok_lem; bits = q.bits; large = turned_large p.part.blocks p.part.stored.function far b e; page_ok_lem = q.page_ok_lem }))
 
-    executed_sound : (k : Command) → decoded p.part.blocks p.part.bank (get_or i 0 0) ≡ Known k → CommandTaken (columns k) (begun (columns k) p.part i) p.part p.phase i wp
+    executed_sound : (k : Command) → decoded p.part.blocks p.part.bank (get_or i 0 0) ≡ Some k → CommandTaken (columns k) (begun (columns k) p.part i) p.part p.phase i wp
         → sound (changed (executed (columns k) p.part p.phase i).change i p) ≡ true
     executed_sound Read c t = marks false
     executed_sound FastRead c t = marks false

@@ -1,4 +1,5 @@
 -- Wear: the tally of a call counts for each sector what its ticks count one by one, and a record goes with them up to the largest value of a count; so it is over calls, whatever memory holds.
+use Rattle.std.specs.Prelude.{None, Option, Some}
 use Prim.Native.Nat.{ℕ, zero, suc, ◌+◌, ◌-◌, ◌/◌, ◌%◌, ◌≤◌, ◌<◌, min}
 use mathlib.Core.Path.{◌≡◌, refl, sym, ap, ◌∙◌}
 use mathlib.Core.Bool.{Bool, true, false, cond}
@@ -15,8 +16,6 @@ use Rattle.types.specs.declared.EraseUnit.{EraseUnit}
 use Rattle.types.specs.declared.Register.{Register}
 use Rattle.types.specs.declared.Operation.{Operation}
 use Rattle.types.specs.declared.Operation.TheVariants.{Program, Erase, Write}
-use Rattle.types.specs.declared.Work.{Work}
-use Rattle.types.specs.declared.Work.TheVariants.{NoWork, At}
 use Rattle.types.specs.declared.Record.{Record}
 use Rattle.types.specs.declared.Ticked.{Ticked}
 use Rattle.types.specs.declared.Wear.{Wear}
@@ -83,13 +82,13 @@ none_erased : (t : Bool) (d : ℕ) → cond t ((d + 0) / sector_pages - d / sect
 none_erased true d = omega arith
 none_erased false d = refl
 
-pub none_tallied : (w : Work) → Empty (tally_of (record { work = w; count = 0 }))
+pub none_tallied : (w : Option Operation) → Empty (tally_of (record { work = w; count = 0 }))
 unfolding tally_of
-none_tallied NoWork = record { erases = refl; programs = refl }
-none_tallied (At (Program m s b k d)) =
+none_tallied None = record { erases = refl; programs = refl }
+none_tallied (Some (Program m s b k d)) =
     record { erases = refl; programs = ap (λ (t : Bool). same_memory Array m and t) (none_on (suc d) k) ∙ and_false (same_memory Array m) }
-none_tallied (At (Erase u b d)) = record { erases = none_erased (same_memory Array (memory_of u)) d; programs = refl }
-none_tallied (At (Write r v)) = record { erases = refl; programs = refl }
+none_tallied (Some (Erase u b d)) = record { erases = none_erased (same_memory Array (memory_of u)) d; programs = refl }
+none_tallied (Some (Write r v)) = record { erases = refl; programs = refl }
 
 -- so many ticks that count nothing, and one more
 none_more : (k : ℕ) → replicate k no_count ++ (no_count ∷ []) ≡ replicate (suc k) no_count
@@ -237,18 +236,18 @@ op_programs (Erase u b d) q k = erase_programs u b d q k
 op_programs (Write r v) q k = ap (programs_of q) (write_none r v k) ∙ none_programs q k
 
 -- the ticks of a part that works on an operation
-module _ (p : Record) (o : Operation) (e : running p.phase ≡ At o) where
+module _ (p : Record) (o : Operation) (e : running p.phase ≡ Some o) where
   run_counts : (k : ℕ) → ticks_done o + k ≤ ticks_in_all o p.part.blocks → tick_counts k p ≡ next_counts o k
   run_counts zero h = refl
   run_counts (suc k) h =
       ap (λ (cs : List Count). cs ++ (work_count (running (record_after k p).phase) ∷ [])) (run_counts k (omega arith))
-      ∙ ap (λ (w : Work). next_counts o k ++ (work_count w ∷ [])) (run_runs p o e k (omega arith))
+      ∙ ap (λ (w : Option Operation). next_counts o k ++ (work_count w ∷ [])) (run_runs p o e k (omega arith))
 
   past_counts : (k j : ℕ) → ticks_done o + suc k ≡ ticks_in_all o p.part.blocks → tick_counts (suc k + j) p ≡ next_counts o (suc k) ++ replicate j no_count
   past_counts k zero h = rw add-zero (run_counts (suc k) (omega arith)) ∙ sym (append-nil (next_counts o (suc k)))
   past_counts k (suc j) h =
       rw add-suc
-      (ap (λ (w : Work). tick_counts (suc k + j) p ++ (work_count w ∷ [])) (ap (λ (q : Record). running q.phase) (run_past p o e k j h) ∙ past_runs p o e)
+      (ap (λ (w : Option Operation). tick_counts (suc k + j) p ++ (work_count w ∷ [])) (ap (λ (q : Record). running q.phase) (run_past p o e k j h) ∙ past_runs p o e)
       ∙ ap (λ (cs : List Count). cs ++ (no_count ∷ [])) (past_counts k j h)
       ∙ append_assoc (next_counts o (suc k)) (replicate j no_count) (no_count ∷ [])
       ∙ ap (λ (cs : List Count). next_counts o (suc k) ++ cs) (none_more j))
@@ -278,28 +277,28 @@ module _ (p : Record) (o : Operation) (e : running p.phase ≡ At o) where
     working_counts n = counts_as n (working_ticks n p) (ltb n left) refl (working_is p o e s n)
 
 -- the ticks of a part on which nothing runs
-rest_counts : (p : Record) → running p.phase ≡ NoWork → (n : ℕ) → tick_counts n p ≡ replicate n no_count
+rest_counts : (p : Record) → running p.phase ≡ None → (n : ℕ) → tick_counts n p ≡ replicate n no_count
 rest_counts p e zero = refl
 rest_counts p e (suc n) =
     ap (λ (q : Record). tick_counts n p ++ (work_count (running q.phase) ∷ [])) (rest_record p e n)
-    ∙ ap (λ (w : Work). tick_counts n p ++ (work_count w ∷ [])) e
+    ∙ ap (λ (w : Option Operation). tick_counts n p ++ (work_count w ∷ [])) e
     ∙ ap (λ (cs : List Count). cs ++ (no_count ∷ [])) (rest_counts p e n)
     ∙ none_more n
 
 -- what n ticks of a sound part count: what the working ones do, and nothing after them
-abbrev pub work_counts : Work → ℕ → List Count
-work_counts NoWork k = []
-work_counts (At o) k = next_counts o k
+abbrev pub work_counts : Option Operation → ℕ → List Count
+work_counts None k = []
+work_counts (Some o) k = next_counts o k
 
 module _ (p : Record) (s : sound p ≡ true) (n : ℕ) where
-  pub counts_at : (w : Work) → running p.phase ≡ w → tick_counts n p ≡ work_counts w (working_ticks n p) ++ replicate (n - working_ticks n p) no_count
-  counts_at NoWork e =
+  pub counts_at : (w : Option Operation) → running p.phase ≡ w → tick_counts n p ≡ work_counts w (working_ticks n p) ++ replicate (n - working_ticks n p) no_count
+  counts_at None e =
       let z : n - working_ticks n p ≡ n = omega (arith, rest_works p e n) in
       rest_counts p e n ∙ ap (λ (j : ℕ). replicate j no_count) (sym z)
-  counts_at (At o) e = working_counts p o e s n
+  counts_at (Some o) e = working_counts p o e s n
 
   -- of each sector, as the tally says of the working ones
-  tick_erases : (q : ℕ) (w : Work) → running p.phase ≡ w → erases_of q (tick_counts n p) ≡ bit (from_on (tally_in w (working_ticks n p)).first (tally_in w (working_ticks n p)).erases q)
+  tick_erases : (q : ℕ) (w : Option Operation) → running p.phase ≡ w → erases_of q (tick_counts n p) ≡ bit (from_on (tally_in w (working_ticks n p)).first (tally_in w (working_ticks n p)).erases q)
   tick_erases q w e =
       ap (erases_of q) (counts_at w e)
       ∙ erases_append q (work_counts w (working_ticks n p)) (replicate (n - working_ticks n p) no_count)
@@ -307,11 +306,11 @@ module _ (p : Record) (s : sound p ≡ true) (n : ℕ) where
       ∙ add-zero (erases_of q (work_counts w (working_ticks n p)))
       ∙ by_work w
     where
-      by_work : (v : Work) → erases_of q (work_counts v (working_ticks n p)) ≡ bit (from_on (tally_in v (working_ticks n p)).first (tally_in v (working_ticks n p)).erases q)
-      by_work NoWork = sym (ap bit (none_on 0 q))
-      by_work (At o) = op_erases o q (working_ticks n p)
+      by_work : (v : Option Operation) → erases_of q (work_counts v (working_ticks n p)) ≡ bit (from_on (tally_in v (working_ticks n p)).first (tally_in v (working_ticks n p)).erases q)
+      by_work None = sym (ap bit (none_on 0 q))
+      by_work (Some o) = op_erases o q (working_ticks n p)
 
-  tick_programs : (q : ℕ) (w : Work) → running p.phase ≡ w → programs_of q (tick_counts n p) ≡ bit ((tally_in w (working_ticks n p)).programmed and eqb (tally_in w (working_ticks n p)).at q)
+  tick_programs : (q : ℕ) (w : Option Operation) → running p.phase ≡ w → programs_of q (tick_counts n p) ≡ bit ((tally_in w (working_ticks n p)).programmed and eqb (tally_in w (working_ticks n p)).at q)
   unfolding ◌and◌
   tick_programs q w e =
       ap (programs_of q) (counts_at w e)
@@ -320,9 +319,9 @@ module _ (p : Record) (s : sound p ≡ true) (n : ℕ) where
       ∙ add-zero (programs_of q (work_counts w (working_ticks n p)))
       ∙ by_work w
     where
-      by_work : (v : Work) → programs_of q (work_counts v (working_ticks n p)) ≡ bit ((tally_in v (working_ticks n p)).programmed and eqb (tally_in v (working_ticks n p)).at q)
-      by_work NoWork = refl
-      by_work (At o) = op_programs o q (working_ticks n p)
+      by_work : (v : Option Operation) → programs_of q (work_counts v (working_ticks n p)) ≡ bit ((tally_in v (working_ticks n p)).programmed and eqb (tally_in v (working_ticks n p)).at q)
+      by_work None = refl
+      by_work (Some o) = op_programs o q (working_ticks n p)
 
 -- Erases and programs alike: a count of a record, how many counts of a sector a list has, and the test whether a tally has one
 pub record Kind : Type 0 where
@@ -344,7 +343,7 @@ pub record Counts (k : Kind) : Type 0 where
   pub nothing_so : (p : Record) (q : ℕ) → k.test (tally_in (running p.phase) 0) q ≡ false
   pub worn_so : (t : Tally) (q : ℕ) (w : Wear) → k.field (worn_by t q w) ≡ cond (k.test t q) (one_more (k.field w)) (k.field w)
 
-none_erases_of : (w : Work) (q : ℕ) → from_on (tally_in w 0).first (tally_in w 0).erases q ≡ false
+none_erases_of : (w : Option Operation) (q : ℕ) → from_on (tally_in w 0).first (tally_in w 0).erases q ≡ false
 unfolding tally_of
 none_erases_of w q = ap (λ (n : ℕ). from_on (tally_in w 0).first n q) (none_tallied w).erases ∙ none_on (tally_in w 0).first q
 

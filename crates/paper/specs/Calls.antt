@@ -1,5 +1,6 @@
 -- What power-up, a transaction and a tick call answer, and what they leave in each lent byte, refusals too.
-use Rattle.std.specs.Prelude.{ℕ, List, Bool, length, get_or}
+use Rattle.types.specs.declared.Command.{Command}
+use Rattle.std.specs.Prelude.{ℕ, List, Bool, length, get_or, None, Option, Some}
 use Rattle.types.specs.declared.Memory.{Memory}
 use Rattle.types.specs.declared.Phase.{Phase}
 use Rattle.types.specs.declared.Identity.{Identity}
@@ -8,8 +9,6 @@ use Rattle.types.specs.declared.Part.{Part}
 use Rattle.types.specs.declared.Record.{Record}
 use Rattle.types.specs.declared.Change.TheVariants.{Same}
 use Rattle.types.specs.declared.Columns.{Columns}
-use Rattle.types.specs.declared.Decoded.{Decoded}
-use Rattle.types.specs.declared.Decoded.TheVariants.{Known, Unknown}
 use Rattle.types.specs.declared.PoweredUp.{PoweredUp}
 use Rattle.types.specs.declared.Outcome.{Outcome}
 use Rattle.types.specs.declared.Answer.{Answer}
@@ -46,7 +45,7 @@ abbrev pub refused : ℕ → Outcome
 refused number = record { change = Same; number = number; first = 0 }
 
 -- answers 20 to 28 are the part ignoring a transaction of n bytes; nothing is driven
-abbrev pub ignored : Decoded → ℕ → Part → ℕ → Outcome
+abbrev pub ignored : Option Command → ℕ → Part → ℕ → Outcome
 ignored d number p n = record { change = change_ignored d number p; number = number; first = n }
 
 -- 0: executed
@@ -55,12 +54,12 @@ executed k p f i =
     record { change = change_by k.effect (addressing_on k p) (begun k p i) p f i; number = 0; first = first_driven k (length i) }
 
 -- the outcome of a first byte that was decoded
-abbrev pub outcome_to : Decoded → Part → Phase → Bool → List ℕ → Outcome
-outcome_to (Known k) p f wp i =
-    when_zero (ignored_number (Known k) p f i wp)
+abbrev pub outcome_to : Option Command → Part → Phase → Bool → List ℕ → Outcome
+outcome_to (Some k) p f wp i =
+    when_zero (ignored_number (Some k) p f i wp)
     (executed (columns k) p f i)
-    (ignored (Known k) (ignored_number (Known k) p f i wp) p (length i))
-outcome_to Unknown p f wp i = ignored Unknown (ignored_number Unknown p f i wp) p (length i)
+    (ignored (Some k) (ignored_number (Some k) p f i wp) p (length i))
+outcome_to None p f wp i = ignored None (ignored_number None p f i wp) p (length i)
 
 -- the outcome of a transaction, for a record that is sound or is not, an array of a, rows of r and an output of o bytes. It does not depend on stored bytes
 unfoldable pub outcome_of : Part → Phase → Bool → ℕ → ℕ → Bool → List ℕ → ℕ → Outcome
@@ -77,10 +76,10 @@ unfoldable pub transacted : Record → ℕ → ℕ → Bool → List ℕ → ℕ
 transacted p a r wp i o = answered (outcome_of p.part p.phase (sound p) a r wp i o) i p
 
 -- the output bytes of a part that takes or ignores a command: ignored, all FFh
-abbrev pub output_to : Decoded → Identity → Part → Phase → List ℕ → List ℕ → Bool → List ℕ → List ℕ
-output_to (Known k) id p f xs rs wp i =
-    when_zero (ignored_number (Known k) p f i wp) (output_of (columns k) id p xs rs i) (undriven (length i))
-output_to Unknown id p f xs rs wp i = undriven (length i)
+abbrev pub output_to : Option Command → Identity → Part → Phase → List ℕ → List ℕ → Bool → List ℕ → List ℕ
+output_to (Some k) id p f xs rs wp i =
+    when_zero (ignored_number (Some k) p f i wp) (output_of (columns k) id p xs rs i) (undriven (length i))
+output_to None id p f xs rs wp i = undriven (length i)
 
 -- the output buffer after a transaction: refusals write nothing
 unfoldable pub output_after : Identity → Part → Phase → Bool → List ℕ → List ℕ → Bool → List ℕ → List ℕ → List ℕ

@@ -1,11 +1,9 @@
 -- What a transaction makes of the record.
-use Rattle.std.specs.Prelude.{ℕ, ◌+◌, List, true, false, cond, get_or, eqb}
+use Rattle.types.specs.declared.Command.{Command}
+use Rattle.types.specs.declared.Operation.{Operation}
+use Rattle.std.specs.Prelude.{ℕ, ◌+◌, List, true, false, cond, get_or, eqb, None, Option, Some}
 use Rattle.types.specs.declared.Phase.{Phase}
 use Rattle.types.specs.declared.Phase.TheVariants.{Idle}
-use Rattle.types.specs.declared.Work.{Work}
-use Rattle.types.specs.declared.Work.TheVariants.{NoWork, At}
-use Rattle.types.specs.declared.Decoded.{Decoded}
-use Rattle.types.specs.declared.Decoded.TheVariants.{Known, Unknown}
 use Rattle.types.specs.declared.Effect.{Effect}
 use Rattle.types.specs.declared.Effect.TheVariants.{Looks, Enables, Disables, Programs, Erases, Writes, Suspends, Resumes, Sleeps, Wakes, Arms, Resets, SetsLive, ClearsErrors, SetsBank, SetsFar}
 use Rattle.types.specs.declared.Part.{Part}
@@ -68,26 +66,26 @@ changed c i p =
     record { part = part_after c p.part; phase = phase_after c p.phase; identity = p.identity; page = page_after (data_after c) i p.page }
 
 -- what a command begins on a part of n blocks, with the input i, in which its address is sent as g says
-abbrev pub begins : Effect → Addressing → ℕ → List ℕ → Work
-begins Looks g n i = NoWork
-begins Enables g n i = NoWork
-begins Disables g n i = NoWork
-begins (Programs m) g n i = At (program_of m g n i)
-begins (Erases u) g n i = At (erase_of u g n i)
-begins (Writes r) g n i = At (write_of r i)
-begins Suspends g n i = NoWork
-begins Resumes g n i = NoWork
-begins Sleeps g n i = NoWork
-begins Wakes g n i = NoWork
-begins Arms g n i = NoWork
-begins Resets g n i = NoWork
-begins SetsLive g n i = NoWork
-begins ClearsErrors g n i = NoWork
-begins SetsBank g n i = NoWork
-begins (SetsFar far) g n i = NoWork
+abbrev pub begins : Effect → Addressing → ℕ → List ℕ → Option Operation
+begins Looks g n i = None
+begins Enables g n i = None
+begins Disables g n i = None
+begins (Programs m) g n i = Some (program_of m g n i)
+begins (Erases u) g n i = Some (erase_of u g n i)
+begins (Writes r) g n i = Some (write_of r i)
+begins Suspends g n i = None
+begins Resumes g n i = None
+begins Sleeps g n i = None
+begins Wakes g n i = None
+begins Arms g n i = None
+begins Resets g n i = None
+begins SetsLive g n i = None
+begins ClearsErrors g n i = None
+begins SetsBank g n i = None
+begins (SetsFar far) g n i = None
 
 -- so a command with these columns on a part
-abbrev pub begun : Columns → Part → List ℕ → Work
+abbrev pub begun : Columns → Part → List ℕ → Option Operation
 begun k p i = begins k.effect (addressing_on k p) p.blocks i
 
 -- every transaction but an executed 66h leaves the part unarmed
@@ -95,12 +93,12 @@ abbrev pub unarmed : Part → Part
 unarmed p = marked p false
 
 -- the part busy with the operation that a command begins, which has no tick done; WEL stays 1
-abbrev pub starts : Work → Part → Phase → Data → Change
-starts NoWork p f d = Marked false
-starts (At o) p f d = Runs (unarmed (settled p (working_on f o) true)) d (At o)
+abbrev pub starts : Option Operation → Part → Phase → Data → Change
+starts None p f d = Marked false
+starts (Some o) p f d = Runs (unarmed (settled p (working_on f o) true)) d (Some o)
 
 -- what an executed command changes, of a part in a phase, where it begins w, with the input i, in which its address is sent as g says
-abbrev pub change_by : Effect → Addressing → Work → Part → Phase → List ℕ → Change
+abbrev pub change_by : Effect → Addressing → Option Operation → Part → Phase → List ℕ → Change
 change_by Looks g w p f i = Marked false
 change_by Enables g w p f i = Anew (unarmed (settled p f true))
 change_by Disables g w p f i = Anew (unarmed (settled p f false))
@@ -147,6 +145,6 @@ abbrev pub change_barred : Effect → Part → Change
 change_barred e p = Live (live_failed (errors_of e) p.live)
 
 -- what a transaction changes that the part ignored: with 28 as said of the command, with any other number the armed mark alone, which is cleared
-abbrev pub change_ignored : Decoded → ℕ → Part → Change
-change_ignored (Known k) number p = cond (eqb number 28) (change_barred (columns k).effect p) (Marked false)
-change_ignored Unknown number p = Marked false
+abbrev pub change_ignored : Option Command → ℕ → Part → Change
+change_ignored (Some k) number p = cond (eqb number 28) (change_barred (columns k).effect p) (Marked false)
+change_ignored None number p = Marked false

@@ -1,10 +1,9 @@
 -- A suspended operation: which calls let it go, and which pages an erase has done.
-use Rattle.std.specs.Prelude.{ℕ, ◌*◌, Bool, true, false, get_or, eqb}
+use Rattle.types.specs.declared.Command.{Command}
+use Rattle.std.specs.Prelude.{ℕ, ◌*◌, Bool, true, false, get_or, eqb, None, Option, Some}
 use Rattle.types.specs.declared.Memory.{Memory}
 use Rattle.types.specs.declared.Operation.{Operation}
 use Rattle.types.specs.declared.Operation.TheVariants.{Program, Erase, Write}
-use Rattle.types.specs.declared.Decoded.{Decoded}
-use Rattle.types.specs.declared.Decoded.TheVariants.{Known, Unknown}
 use Rattle.types.specs.declared.Effect.{Effect}
 use Rattle.types.specs.declared.Effect.TheVariants.{Looks, Enables, Disables, Programs, Erases, Writes, Suspends, Resumes, Sleeps, Wakes, Arms, Resets, SetsLive, ClearsErrors, SetsBank, SetsFar}
 use Rattle.types.specs.declared.Record.{Record}
@@ -35,9 +34,9 @@ lets_go SetsBank = false
 lets_go (SetsFar far) = false
 
 -- so the command that a first byte is
-abbrev pub lets_go_by : Decoded → Bool
-lets_go_by (Known k) = lets_go (columns k).effect
-lets_go_by Unknown = false
+abbrev pub lets_go_by : Option Command → Bool
+lets_go_by (Some k) = lets_go (columns k).effect
+lets_go_by None = false
 
 -- a call lets the suspended operation go: it is a resume or a reset that is executed
 abbrev pub releases : Call → Record → Bool

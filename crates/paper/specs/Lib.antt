@@ -4,6 +4,7 @@ pub mod Records
 pub mod Soundness
 pub mod Calls
 pub mod Numbers
+pub mod Refusals
 pub mod Table
 pub mod Address
 pub mod Reads

@@ -1,15 +1,15 @@
 -- A map of blank pages: one bit per page of the array, low bit first, set exactly when the page is all FFh.
-use Rattle.std.specs.Prelude.{ℕ, zero, suc, ◌+◌, ◌*◌, ◌<◌, ◌≡◌, List, [], ◌∷◌, Bool, cond, length, get_or, eqb, ltb, leb}
+use Rattle.std.specs.Prelude.{ℕ, zero, suc, ◌+◌, ◌*◌, ◌<◌, ◌≡◌, List, [], ◌∷◌, Bool, cond, length, get_or, eqb, ltb, leb, Option, Some, None, Result, Ok, Err}
 use Rattle.types.specs.declared.Record.{Record}
 use Rattle.types.specs.declared.Reached.{Reached}
-use Rattle.types.specs.declared.Blank.{Blank}
-use Rattle.types.specs.declared.Blank.TheVariants.{Page, NoPage, Refused}
+use Rattle.types.specs.declared.Refusal.{Refusal}
 use Rattle.words.specs.Logic.{◌and◌, when_zero}
 use Rattle.words.specs.Lists.{up_to, first_of, all_below, AreBytes}
 use Rattle.words.specs.Bits.{bit_in, byte_of, put_bits}
 use Rattle.paper.specs.Sizes.{page_bytes, array_pages, map_bytes}
 use Rattle.paper.specs.Erase.{erased_byte}
 use Rattle.paper.specs.Soundness.{sound}
+use Rattle.paper.specs.Refusals.{number}
 use Rattle.paper.specs.Numbers.{map_number, rebuild_number, query_number, map_tick_number, map_script_refusal}
 use Rattle.paper.specs.Reached.{reached, work_first, work_pages}
 use Rattle.paper.specs.History.{Call, transaction, ticks}
@@ -37,6 +37,18 @@ rebuilt n xs m = when_zero (rebuild_number n (length xs) (length m)) (map_of n x
 -- the first page at or after page q that a map has as blank; the number of pages where none is
 abbrev pub next_blank : ℕ → List ℕ → ℕ → ℕ
 next_blank n m q = first_of (array_pages n) (λ i. leb q i and bit_in m i)
+
+-- what a query of a map says: a page, the first that is blank; that none is; or the number that refuses it
+pub data Blank : Type 0 where
+  Page : ℕ → Blank
+  NoPage : Blank
+  Refused : ℕ → Blank
+
+-- and how code says it
+abbrev pub blank_of : Result (Option ℕ) Refusal → Blank
+blank_of (Ok (Some q)) = Page q
+blank_of (Ok None) = NoPage
+blank_of (Err r) = Refused (number r)
 
 -- what a query answers
 unfoldable pub queried : ℕ → List ℕ → ℕ → Blank

@@ -1,16 +1,13 @@
 -- Calls and their numbers: each number's test, and their order. The lowest number that applies is the answer.
-use Rattle.std.specs.Prelude.{ℕ, List, Bool, true, not, length, eqb, ltb, leb}
+use Rattle.types.specs.declared.Command.{Command}
+use Rattle.std.specs.Prelude.{ℕ, List, Bool, true, not, length, eqb, ltb, leb, None, Option, Some}
 use Rattle.types.specs.declared.Register.{Register}
 use Rattle.types.specs.declared.Register.TheVariants.{Status, Function, Extended}
 use Rattle.types.specs.declared.Operation.{Operation}
 use Rattle.types.specs.declared.Operation.TheVariants.{Program, Erase, Write}
 use Rattle.types.specs.declared.Phase.{Phase}
-use Rattle.types.specs.declared.Work.{Work}
-use Rattle.types.specs.declared.Work.TheVariants.{NoWork, At}
 use Rattle.types.specs.declared.Stored.{Stored}
 use Rattle.types.specs.declared.Part.{Part}
-use Rattle.types.specs.declared.Decoded.{Decoded}
-use Rattle.types.specs.declared.Decoded.TheVariants.{Known, Unknown}
 use Rattle.types.specs.declared.Named.{Named}
 use Rattle.types.specs.declared.Named.TheVariants.{Bare, Place, Far, InRow}
 use Rattle.types.specs.declared.Addressing.{Addressing}
@@ -179,15 +176,15 @@ write_ok (Erase u b d) s wp = true
 write_ok (Write r v) s wp = pin_ok r s wp
 
 -- 28: protected, locked, a program into the suspended unit, or status write barred by the pin, of what a command begins
-abbrev pub free_ok : Work → Part → Phase → Bool → Bool
-free_ok NoWork p f wp = true
-free_ok (At o) p f wp =
+abbrev pub free_ok : Option Operation → Part → Phase → Bool → Bool
+free_ok None p f wp = true
+free_ok (Some o) p f wp =
     target_free o p.blocks p.stored
     and outside_of (halted f) p.blocks o
     and write_ok o p.stored wp
 
 -- 21 to 28, of a command with these columns, whose address is sent as g says and that begins w, on a part in a phase, with the input i, and with WP# high where wp is true: 0 where it is executed
-unfoldable pub command_number : Columns → Addressing → Work → Part → Phase → List ℕ → Bool → ℕ
+unfoldable pub command_number : Columns → Addressing → Option Operation → Part → Phase → List ℕ → Bool → ℕ
 command_number k g w p f i wp =
     unless (taken_asleep k.taken or not p.asleep) 21
     or_else unless (taken_busy k.taken or not (is_busy f)) 22
@@ -199,7 +196,7 @@ command_number k g w p f i wp =
     or_else unless (free_ok w p f wp) 28
 
 -- 20 to 28: 20 where the first byte is in no row of the command table, even asleep or busy
-abbrev pub ignored_number : Decoded → Part → Phase → List ℕ → Bool → ℕ
-ignored_number (Known k) p f i wp =
+abbrev pub ignored_number : Option Command → Part → Phase → List ℕ → Bool → ℕ
+ignored_number (Some k) p f i wp =
     command_number (columns k) (addressing_on (columns k) p) (begun (columns k) p i) p f i wp
-ignored_number Unknown p f i wp = 20
+ignored_number None p f i wp = 20

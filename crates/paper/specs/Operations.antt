@@ -1,5 +1,5 @@
 -- An operation: its target, its ticks, and what its next tick reaches. Soundness, commands, ticks and history cite these.
-use Rattle.std.specs.Prelude.{ℕ, ◌+◌, ◌-◌, ◌*◌, ◌/◌, List, Bool, true, false, not, cond, get_or, eqb, leb}
+use Rattle.std.specs.Prelude.{ℕ, ◌+◌, ◌-◌, ◌*◌, ◌/◌, List, Bool, true, false, not, cond, get_or, eqb, leb, None, Option, Some}
 use Rattle.types.specs.declared.Memory.{Memory}
 use Rattle.types.specs.declared.Memory.TheVariants.{Array, Rows}
 use Rattle.types.specs.declared.EraseUnit.{EraseUnit}
@@ -7,8 +7,6 @@ use Rattle.types.specs.declared.EraseUnit.TheVariants.{Sector, Block32, Block64,
 use Rattle.types.specs.declared.Stored.{Stored}
 use Rattle.types.specs.declared.Operation.{Operation}
 use Rattle.types.specs.declared.Operation.TheVariants.{Program, Erase, Write}
-use Rattle.types.specs.declared.Work.{Work}
-use Rattle.types.specs.declared.Work.TheVariants.{NoWork, At}
 use Rattle.words.specs.Logic.{◌and◌}
 use Rattle.paper.specs.Sizes.{memory_bytes, same_memory, from_on, page_bytes}
 use Rattle.paper.specs.Protection.{code_of, whole_code, protected_at, locked}
@@ -100,9 +98,9 @@ outside e n (Erase u b d) = true
 outside e n (Write r v) = true
 
 -- and outside the suspended unit, where one is suspended
-abbrev pub outside_of : Work → ℕ → Operation → Bool
-outside_of NoWork n o = true
-outside_of (At e) n o = outside e n o
+abbrev pub outside_of : Option Operation → ℕ → Operation → Bool
+outside_of None n o = true
+outside_of (Some e) n o = outside e n o
 
 -- how many bytes of page data it keeps
 abbrev pub kept_by : Operation → ℕ

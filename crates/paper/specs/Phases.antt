@@ -1,30 +1,28 @@
 -- What a part does: it is idle, busy with one operation, suspended from one, or busy with a program within a suspended erase. What runs, what is suspended, and the phases that follow. In the paper soundness goes by the cases of the phase too, and nothing else does.
-use Rattle.std.specs.Prelude.{Bool, true, false}
+use Rattle.std.specs.Prelude.{Bool, true, false, None, Option, Some}
 use Rattle.types.specs.declared.Operation.{Operation}
 use Rattle.types.specs.declared.Operation.TheVariants.{Program, Erase, Write}
 use Rattle.types.specs.declared.Phase.{Phase}
 use Rattle.types.specs.declared.Phase.TheVariants.{Idle, Busy, Suspended, Nested}
-use Rattle.types.specs.declared.Work.{Work}
-use Rattle.types.specs.declared.Work.TheVariants.{NoWork, At}
 
 -- what runs: the operation that ticks go on with
-abbrev pub running : Phase → Work
-running Idle = NoWork
-running (Busy o) = At o
-running (Suspended o) = NoWork
-running (Nested o e) = At o
+abbrev pub running : Phase → Option Operation
+running Idle = None
+running (Busy o) = Some o
+running (Suspended o) = None
+running (Nested o e) = Some o
 
 -- what is suspended, also while a program runs within it
-abbrev pub halted : Phase → Work
-halted Idle = NoWork
-halted (Busy o) = NoWork
-halted (Suspended o) = At o
-halted (Nested o e) = At e
+abbrev pub halted : Phase → Option Operation
+halted Idle = None
+halted (Busy o) = None
+halted (Suspended o) = Some o
+halted (Nested o e) = Some e
 
 -- there is an operation, and it passes a test
-abbrev pub work_is : (Operation → Bool) → Work → Bool
-work_is test NoWork = false
-work_is test (At o) = test o
+abbrev pub work_is : (Operation → Bool) → Option Operation → Bool
+work_is test None = false
+work_is test (Some o) = test o
 
 abbrev pub any_operation : Operation → Bool
 any_operation o = true
@@ -62,27 +60,27 @@ is_idle (Suspended o) = false
 is_idle (Nested o e) = false
 
 -- the phase of a part where one thing runs, or nothing, and another is suspended, or nothing
-abbrev pub phase_of : Work → Work → Phase
-phase_of NoWork NoWork = Idle
-phase_of (At o) NoWork = Busy o
-phase_of NoWork (At e) = Suspended e
-phase_of (At o) (At e) = Nested o e
+abbrev pub phase_of : Option Operation → Option Operation → Phase
+phase_of None None = Idle
+phase_of (Some o) None = Busy o
+phase_of None (Some e) = Suspended e
+phase_of (Some o) (Some e) = Nested o e
 
 -- the phase with other work running, or none: what is suspended stays so, and the work runs within
-abbrev pub running_in : Phase → Work → Phase
+abbrev pub running_in : Phase → Option Operation → Phase
 running_in f w = phase_of w (halted f)
 
 -- the phase of a part that begins an operation, or is at another point of it
 abbrev pub working_on : Phase → Operation → Phase
-working_on f o = running_in f (At o)
+working_on f o = running_in f (Some o)
 
 -- the phase when what runs has ended: within a suspended erase, the part is suspended from it again
 abbrev pub rest_of : Phase → Phase
-rest_of f = running_in f NoWork
+rest_of f = running_in f None
 
 -- the phase when what runs is suspended, and when what is suspended goes on. What stood there before is gone: 25 lets a suspend through only where nothing is suspended, and a resume only where nothing runs
 abbrev pub suspended_in : Phase → Phase
-suspended_in f = phase_of NoWork (running f)
+suspended_in f = phase_of None (running f)
 
 abbrev pub resumed_in : Phase → Phase
-resumed_in f = phase_of (halted f) NoWork
+resumed_in f = phase_of (halted f) None

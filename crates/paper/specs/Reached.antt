@@ -1,10 +1,8 @@
 -- What a tick call reached: what ran before it, if anything did, and how many ticks of that did work. Which touches these are, and which pages of the array they lie in.
-use Rattle.std.specs.Prelude.{ℕ, zero, suc, ◌+◌, ◌/◌, min, List, [], ◌∷◌, ◌++◌, Bool, false, cond, eqb}
+use Rattle.std.specs.Prelude.{ℕ, zero, suc, ◌+◌, ◌/◌, min, List, [], ◌∷◌, ◌++◌, Bool, false, cond, eqb, None, Option, Some}
 use Rattle.types.specs.declared.Memory.TheVariants.{Array}
 use Rattle.types.specs.declared.Operation.{Operation}
 use Rattle.types.specs.declared.Operation.TheVariants.{Program, Erase, Write}
-use Rattle.types.specs.declared.Work.{Work}
-use Rattle.types.specs.declared.Work.TheVariants.{NoWork, At}
 use Rattle.types.specs.declared.Record.{Record}
 use Rattle.types.specs.declared.Reached.{Reached}
 use Rattle.types.specs.declared.Ticked.{Ticked}
@@ -15,7 +13,7 @@ use Rattle.paper.specs.Phases.{running}
 use Rattle.paper.specs.Operations.{advanced_by, Touch, none, blank, narrow, next_touch}
 
 abbrev pub nothing : Reached
-nothing = record { work = NoWork; count = 0 }
+nothing = record { work = None; count = 0 }
 
 -- what a tick call of a record reached that answers t: refused, no tick of what runs
 abbrev pub reached : Record → Ticked → Reached
@@ -26,9 +24,9 @@ abbrev pub next_touches : Operation → ℕ → List ℕ → List Touch
 next_touches o zero g = []
 next_touches o (suc k) g = next_touches o k g ++ (next_touch (advanced_by k o) g ∷ [])
 
-abbrev pub work_touches : Work → ℕ → List ℕ → List Touch
-work_touches NoWork k g = []
-work_touches (At o) k g = next_touches o k g
+abbrev pub work_touches : Option Operation → ℕ → List ℕ → List Touch
+work_touches None k g = []
+work_touches (Some o) k g = next_touches o k g
 
 -- the touches of what was reached
 abbrev pub touches_of : Reached → List ℕ → List Touch
@@ -56,13 +54,13 @@ pages_by (Program w s b c d) k = cond (same_memory Array w) (min k 1) 0
 pages_by (Erase u b d) k = cond (same_memory Array (memory_of u)) k 0
 pages_by (Write r v) k = 0
 
-abbrev pub work_first : Work → ℕ
-work_first NoWork = 0
-work_first (At o) = first_page o
+abbrev pub work_first : Option Operation → ℕ
+work_first None = 0
+work_first (Some o) = first_page o
 
-abbrev pub work_pages : Work → ℕ → ℕ
-work_pages NoWork k = 0
-work_pages (At o) k = pages_by o k
+abbrev pub work_pages : Option Operation → ℕ → ℕ
+work_pages None k = 0
+work_pages (Some o) k = pages_by o k
 
 -- page q is one of those reached
 abbrev pub reaches_page : Reached → ℕ → Bool

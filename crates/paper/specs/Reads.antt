@@ -1,7 +1,7 @@
 -- Reads: what a command drives at each place of the output.
 use Rattle.std.specs.Prelude.{ℕ, ◌-◌, ◌%◌, min, cond, List, [], ◌∷◌, length, take, drop, replicate, leb}
 use Rattle.types.specs.declared.Source.{Source}
-use Rattle.types.specs.declared.Source.TheVariants.{None, ArrayBytes, RowBytes, StatusByte, FunctionByte, IdentityBytes, MakerPair, DeviceByte, ExtendedByte, BankByte}
+use Rattle.types.specs.declared.Source.TheVariants.{Void, ArrayBytes, RowBytes, StatusByte, FunctionByte, IdentityBytes, MakerPair, DeviceByte, ExtendedByte, BankByte}
 use Rattle.types.specs.declared.Columns.{Columns}
 use Rattle.types.specs.declared.Identity.{Identity}
 use Rattle.types.specs.declared.Part.{Part}
@@ -24,7 +24,7 @@ undriven n = replicate n undriven_byte
 -- the bytes that a command drives, round and round: array reads run on past the end to address 0, row reads wrap inside the row,
 -- status, function, the extended read register and the bank register repeat, 9Fh repeats M, T, C, 90h alternates M and D, ABh repeats D of the identity id
 abbrev pub source_bytes : Source → Addressing → Identity → Part → List ℕ → List ℕ → List ℕ → List ℕ
-source_bytes None g id p xs rs i = []
+source_bytes Void g id p xs rs i = []
 source_bytes ArrayBytes g id p xs rs i = xs
 source_bytes RowBytes g id p xs rs i = take page_bytes (drop (row_base g i) rs)
 source_bytes StatusByte g id p xs rs i = p.stored.status ∷ []
@@ -37,7 +37,7 @@ source_bytes BankByte g id p xs rs i = p.bank ∷ []
 
 -- at which of them it begins: at A, at the row's byte address; 90h with bit 0 of the third address byte clear: M first, set: D first
 abbrev pub source_start : Source → Addressing → ℕ → List ℕ → ℕ
-source_start None g n i = 0
+source_start Void g n i = 0
 source_start ArrayBytes g n i = address_in g n i
 source_start RowBytes g n i = row_byte g i
 source_start StatusByte g n i = 0

@@ -1,16 +1,14 @@
 -- The command table.
-use Rattle.std.specs.Prelude.{ℕ, List, [], ◌∷◌, ◌++◌, Bool, true, false, cond, eqb, leb}
+use Rattle.std.specs.Prelude.{ℕ, List, [], ◌∷◌, ◌++◌, Bool, true, false, cond, eqb, leb, None, Option, Some}
 use Rattle.types.specs.declared.Memory.TheVariants.{Array, Rows}
 use Rattle.types.specs.declared.EraseUnit.TheVariants.{Sector, Block32, Block64, Chip, Row}
 use Rattle.types.specs.declared.Register.TheVariants.{Status, Function, Extended}
 use Rattle.types.specs.declared.Command.{Command}
 use Rattle.types.specs.declared.Command.TheVariants.{Read, FastRead, ReadStatus, ReadFunction, ReadIdentity, ReadMakerDevice, Wake, ReadRow, WriteEnable, WriteDisable, WriteStatus, WriteFunction, PageProgram, SectorErase, BlockErase32, BlockErase64, ChipErase, Suspend, Resume, Sleep, ArmReset, Reset, RowErase, RowProgram, ReadExtended, SetStored, SetLive, ClearErrors, FarRead, FarFastRead, FarPageProgram, FarPageProgramAtRest, FarSectorErase, FarBlockErase32, FarBlockErase64, ReadBank, WriteBank, EnterFar, LeaveFar}
-use Rattle.types.specs.declared.Decoded.{Decoded}
-use Rattle.types.specs.declared.Decoded.TheVariants.{Known, Unknown}
 use Rattle.types.specs.declared.Length.{Length}
 use Rattle.types.specs.declared.Length.TheVariants.{Exactly, AtLeast}
 use Rattle.types.specs.declared.Source.{Source}
-use Rattle.types.specs.declared.Source.TheVariants.{None, ArrayBytes, RowBytes, StatusByte, FunctionByte, IdentityBytes, MakerPair, DeviceByte, ExtendedByte, BankByte}
+use Rattle.types.specs.declared.Source.TheVariants.{Void, ArrayBytes, RowBytes, StatusByte, FunctionByte, IdentityBytes, MakerPair, DeviceByte, ExtendedByte, BankByte}
 use Rattle.types.specs.declared.Effect.{Effect}
 use Rattle.types.specs.declared.Effect.TheVariants.{Looks, Enables, Disables, Programs, Erases, Writes, Suspends, Resumes, Sleeps, Wakes, Arms, Resets, SetsLive, ClearsErrors, SetsBank, SetsFar}
 use Rattle.types.specs.declared.Taken.{Taken}
@@ -65,12 +63,12 @@ abbrev pub codes_on : ℕ → ℕ → List Entry
 codes_on n bank = cond (extadd bank) far_codes [] ++ (codes ++ cond (is_large n) large_codes [])
 
 -- the command of the first entry that has the code
-abbrev pub look_up : List Entry → ℕ → Decoded
-look_up [] n = Unknown
-look_up (e ∷ es) n = cond (eqb n e.code) (Known e.command) (look_up es n)
+abbrev pub look_up : List Entry → ℕ → Option Command
+look_up [] n = None
+look_up (e ∷ es) n = cond (eqb n e.code) (Some e.command) (look_up es n)
 
 -- the command that a first byte c is there, or that it is in no row of the table
-unfoldable pub decoded : ℕ → ℕ → ℕ → Decoded
+unfoldable pub decoded : ℕ → ℕ → ℕ → Option Command
 decoded n bank c = look_up (codes_on n bank) c
 
 -- a line of the table
@@ -97,37 +95,37 @@ columns ReadIdentity = line (AtLeast 1) no OrHalted Bare Any IdentityBytes 1 Loo
 columns ReadMakerDevice = line (AtLeast 4) no OrHalted Bare Any MakerPair 4 Looks
 columns Wake = line (AtLeast 1) no OrAsleep Bare Any DeviceByte 4 Wakes
 columns ReadRow = line (AtLeast 5) no OrHalted InRow Any RowBytes 5 Looks
-columns WriteEnable = line (Exactly 1) no Esus Bare Any None 0 Enables
-columns WriteDisable = line (Exactly 1) no Esus Bare Any None 0 Disables
-columns WriteStatus = line (Exactly 2) WEL Rest Bare Any None 0 (Writes Status)
-columns WriteFunction = line (Exactly 2) WEL Rest Bare Any None 0 (Writes Function)
-columns PageProgram = line (AtLeast 5) WEL Esus Place Any None 0 (Programs Array)
-columns SectorErase = line (Exactly 4) WEL Rest Place Any None 0 (Erases Sector)
-columns BlockErase32 = line (Exactly 4) WEL Rest Place Any None 0 (Erases Block32)
-columns BlockErase64 = line (Exactly 4) WEL Rest Place Any None 0 (Erases Block64)
-columns ChipErase = line (Exactly 1) WEL Rest Bare Any None 0 (Erases Chip)
-columns Suspend = line (Exactly 1) no OrBusy Bare Running None 0 Suspends
-columns Resume = line (Exactly 1) no OrHalted Bare Halted None 0 Resumes
-columns Sleep = line (Exactly 1) no Rest Bare Any None 0 Sleeps
-columns ArmReset = line (Exactly 1) no Awake Bare Any None 0 Arms
-columns Reset = line (Exactly 1) no Awake Bare Armed None 0 Resets
-columns RowErase = line (Exactly 4) WEL Rest InRow Any None 0 (Erases Row)
-columns RowProgram = line (AtLeast 5) WEL Rest InRow Any None 0 (Programs Rows)
+columns WriteEnable = line (Exactly 1) no Esus Bare Any Void 0 Enables
+columns WriteDisable = line (Exactly 1) no Esus Bare Any Void 0 Disables
+columns WriteStatus = line (Exactly 2) WEL Rest Bare Any Void 0 (Writes Status)
+columns WriteFunction = line (Exactly 2) WEL Rest Bare Any Void 0 (Writes Function)
+columns PageProgram = line (AtLeast 5) WEL Esus Place Any Void 0 (Programs Array)
+columns SectorErase = line (Exactly 4) WEL Rest Place Any Void 0 (Erases Sector)
+columns BlockErase32 = line (Exactly 4) WEL Rest Place Any Void 0 (Erases Block32)
+columns BlockErase64 = line (Exactly 4) WEL Rest Place Any Void 0 (Erases Block64)
+columns ChipErase = line (Exactly 1) WEL Rest Bare Any Void 0 (Erases Chip)
+columns Suspend = line (Exactly 1) no OrBusy Bare Running Void 0 Suspends
+columns Resume = line (Exactly 1) no OrHalted Bare Halted Void 0 Resumes
+columns Sleep = line (Exactly 1) no Rest Bare Any Void 0 Sleeps
+columns ArmReset = line (Exactly 1) no Awake Bare Any Void 0 Arms
+columns Reset = line (Exactly 1) no Awake Bare Armed Void 0 Resets
+columns RowErase = line (Exactly 4) WEL Rest InRow Any Void 0 (Erases Row)
+columns RowProgram = line (AtLeast 5) WEL Rest InRow Any Void 0 (Programs Rows)
 columns ReadExtended = line (AtLeast 1) no Awake Bare Any ExtendedByte 1 Looks
-columns SetStored = line (Exactly 2) WEL Rest Bare Any None 0 (Writes Extended)
-columns SetLive = line (Exactly 2) no Rest Bare Any None 0 SetsLive
-columns ClearErrors = line (Exactly 1) no Rest Bare Any None 0 ClearsErrors
+columns SetStored = line (Exactly 2) WEL Rest Bare Any Void 0 (Writes Extended)
+columns SetLive = line (Exactly 2) no Rest Bare Any Void 0 SetsLive
+columns ClearErrors = line (Exactly 1) no Rest Bare Any Void 0 ClearsErrors
 columns FarRead = line (AtLeast 5) no OrHalted Far Any ArrayBytes 5 Looks
 columns FarFastRead = line (AtLeast 6) no OrHalted Far Any ArrayBytes 6 Looks
-columns FarPageProgram = line (AtLeast 6) WEL Esus Far Any None 0 (Programs Array)
-columns FarPageProgramAtRest = line (AtLeast 6) WEL Rest Far Any None 0 (Programs Array)
-columns FarSectorErase = line (Exactly 5) WEL Rest Far Any None 0 (Erases Sector)
-columns FarBlockErase32 = line (Exactly 5) WEL Rest Far Any None 0 (Erases Block32)
-columns FarBlockErase64 = line (Exactly 5) WEL Rest Far Any None 0 (Erases Block64)
+columns FarPageProgram = line (AtLeast 6) WEL Esus Far Any Void 0 (Programs Array)
+columns FarPageProgramAtRest = line (AtLeast 6) WEL Rest Far Any Void 0 (Programs Array)
+columns FarSectorErase = line (Exactly 5) WEL Rest Far Any Void 0 (Erases Sector)
+columns FarBlockErase32 = line (Exactly 5) WEL Rest Far Any Void 0 (Erases Block32)
+columns FarBlockErase64 = line (Exactly 5) WEL Rest Far Any Void 0 (Erases Block64)
 columns ReadBank = line (AtLeast 1) no OrHalted Bare Any BankByte 1 Looks
-columns WriteBank = line (Exactly 2) no Rest Bare Any None 0 SetsBank
-columns EnterFar = line (Exactly 1) no Rest Bare Any None 0 (SetsFar true)
-columns LeaveFar = line (Exactly 1) no Rest Bare Any None 0 (SetsFar false)
+columns WriteBank = line (Exactly 2) no Rest Bare Any Void 0 SetsBank
+columns EnterFar = line (Exactly 1) no Rest Bare Any Void 0 (SetsFar true)
+columns LeaveFar = line (Exactly 1) no Rest Bare Any Void 0 (SetsFar false)
 
 -- how the address of a command is sent under a bank register: a place of the array that has three bytes is in the bank of the bank bit, and nothing else is
 abbrev pub addressing : Named → ℕ → Addressing
@@ -172,7 +170,7 @@ length_ok (AtLeast l) n = leb l n
 
 -- a command that drives something
 abbrev pub drives : Source → Bool
-drives None = false
+drives Void = false
 drives ArrayBytes = true
 drives RowBytes = true
 drives StatusByte = true

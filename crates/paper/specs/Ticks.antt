@@ -1,10 +1,8 @@
 -- Ticks: what one tick does to the record and to each memory, and which ticks do work. The record after a tick does not depend on stored bytes.
-use Rattle.std.specs.Prelude.{ℕ, zero, suc, ◌+◌, List, false, cond, ltb}
+use Rattle.std.specs.Prelude.{ℕ, zero, suc, ◌+◌, List, false, cond, ltb, None, Option, Some}
 use Rattle.types.specs.declared.Memory.{Memory}
 use Rattle.types.specs.declared.Operation.{Operation}
 use Rattle.types.specs.declared.Phase.{Phase}
-use Rattle.types.specs.declared.Work.{Work}
-use Rattle.types.specs.declared.Work.TheVariants.{NoWork, At}
 use Rattle.types.specs.declared.Part.{Part}
 use Rattle.types.specs.declared.Record.{Record}
 use Rattle.words.specs.Logic.{bit}
@@ -34,17 +32,17 @@ worked p o =
     (finished p o)
 
 -- the record after a tick. Ticks on an idle, sleeping or suspended part change nothing
-abbrev pub ticked_at : Record → Work → Record
-ticked_at p NoWork = p
-ticked_at p (At o) = worked p o
+abbrev pub ticked_at : Record → Option Operation → Record
+ticked_at p None = p
+ticked_at p (Some o) = worked p o
 
 abbrev pub tick_once : Record → Record
 tick_once p = ticked_at p (running p.phase)
 
 -- what a tick reaches, with the page data g
-abbrev pub touch_at : Work → List ℕ → Touch
-touch_at NoWork g = none
-touch_at (At o) g = next_touch o g
+abbrev pub touch_at : Option Operation → List ℕ → Touch
+touch_at None g = none
+touch_at (Some o) g = next_touch o g
 
 -- what a part's next tick reaches
 abbrev pub touch_of : Record → Touch

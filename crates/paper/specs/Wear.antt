@@ -1,10 +1,8 @@
 -- Wear: one record per sector of 4 Kbyte, each with its erases and its programs.
-use Rattle.std.specs.Prelude.{ℕ, zero, suc, ◌+◌, ◌-◌, ◌/◌, ◌%◌, List, [], ◌∷◌, ◌++◌, Bool, false, cond, length, eqb, ltb}
+use Rattle.std.specs.Prelude.{ℕ, zero, suc, ◌+◌, ◌-◌, ◌/◌, ◌%◌, List, [], ◌∷◌, ◌++◌, Bool, false, cond, length, eqb, ltb, None, Option, Some}
 use Rattle.types.specs.declared.Memory.TheVariants.{Array}
 use Rattle.types.specs.declared.Operation.{Operation}
 use Rattle.types.specs.declared.Operation.TheVariants.{Program, Erase, Write}
-use Rattle.types.specs.declared.Work.{Work}
-use Rattle.types.specs.declared.Work.TheVariants.{NoWork, At}
 use Rattle.types.specs.declared.Record.{Record}
 use Rattle.types.specs.declared.Reached.{Reached}
 use Rattle.types.specs.declared.Wear.{Wear}
@@ -48,9 +46,9 @@ next_count (Erase u b d) =
     cond (same_memory Array (memory_of u) and eqb (suc d % sector_pages) 0) (erase (b / sector_bytes + d / sector_pages)) no_count
 next_count (Write r v) = no_count
 
-abbrev pub work_count : Work → Count
-work_count NoWork = no_count
-work_count (At o) = next_count o
+abbrev pub work_count : Option Operation → Count
+work_count None = no_count
+work_count (Some o) = next_count o
 
 -- what n ticks count, in order
 abbrev pub tick_counts : ℕ → Record → List Count
@@ -110,9 +108,9 @@ tally_by (Write r v) t = record { first = 0; erases = 0; programmed = false; at 
 abbrev pub no_tally : Tally
 no_tally = record { first = 0; erases = 0; programmed = false; at = 0 }
 
-abbrev pub tally_in : Work → ℕ → Tally
-tally_in NoWork t = no_tally
-tally_in (At o) t = tally_by o t
+abbrev pub tally_in : Option Operation → ℕ → Tally
+tally_in None t = no_tally
+tally_in (Some o) t = tally_by o t
 
 unfoldable pub tally_of : Reached → Tally
 tally_of r = tally_in r.work r.count

@@ -9,6 +9,9 @@ use lib.Dec.{leb}
 use lib.ListN.{length, set, take, drop, get_or, length-append}
 use lib.Seq.{sets, sets-eq, set_out, take_at, length-sets}
 use borrow.Author.Tests.{leb-true, leb-false}
+use Rattle.std.proofs.Common.{◌⊎◌, inl, inr}
+use Rattle.std.proofs.lemmas.Bool.Decides.{nat_tests}
+use Rattle.words.specs.Logic.{◌or◌}
 use Rattle.words.proofs.Lists.{sets_out}
 use Rattle.words.proofs.Allowed.{agree}
 use Rattle.paper.specs.Bench.{hex_digit, hex_pairs}
@@ -65,6 +68,14 @@ prints_join {t} u v p q = rw (append_assoc t u v) (prints_then p q)
 -- four texts, of which the middle two are one word, and so are the last two
 pub word_joins : (x t u v : List ℕ) → x ++ t ++ (u ++ v) ≡ x ++ (t ++ u) ++ v
 word_joins x t u v = append_assoc x t (u ++ v) ∙ ap (λ (y : List ℕ). x ++ y) (sym (append_assoc t u v)) ∙ sym (append_assoc x (t ++ u) v)
+
+-- one of two tests, with what the first tells, for `grind`
+pub or_tells : (a b : Bool) → ((a ≡ true) × ((a or b) ≡ true)) ⊎ ((a ≡ false) × ((a or b) ≡ b))
+unfolding ◌or◌
+or_tells true b = inl (refl, refl)
+or_tells false b = inr (refl, refl)
+
+pub ruleset tests = (nat_tests, or_tells)
 
 -- one byte more, as a pair
 pub pair_more : (xs : List ℕ) (i : ℕ) → i < length xs → hex_pairs (take i xs) ++ (hex_digit (get_or xs i 0 / 16) ∷ hex_digit (get_or xs i 0 % 16) ∷ []) ≡ hex_pairs (take (suc i) xs)

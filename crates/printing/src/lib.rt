@@ -6,22 +6,24 @@ ghost use Rattle.paper.specs.Bench.{space, digit, hex_digit, leading, decimal, h
 ghost use Rattle.paper.specs.WearText.{five_digits, wide_decimal, counts_text, is_full, wear_line, sums_text};
 ghost use Rattle.printing.specs.Printed.{Prints};
 
-// The largest value of a count.
-const FULL: u32 = 4294967295;
+// The output and the place in it are two arguments: a struct that held both would need a clause on each function, that it
+// still holds the same output. The text is put together here, since a clause knows what write! prints only for a String, which
+// is on the heap.
 
 // One character at a place of the output. It answers the place after it. What does not fit is left out.
+#[tactic(auto, using(crate::proofs::Text::prints_one, crate::proofs::Text::prints_past))]
 fn put(output: &mut [u8], at: usize, character: u8) -> usize
     ensures { Prints output.old at (character ∷ []) output.new result }
 {
-    let end = output.len();
-    if at < end {
+    if at < output.len() {
         output[at] = character;
         return at + 1;
     }
-    end
+    output.len()
 }
 
 // The digit of a number that counts d's, where the number reaches d.
+#[tactic(auto, using(std::proofs::lemmas::Bool::Decides::nat_tests, crate::proofs::Text::prints_none), unfolding(paper::specs::Bench::leading))]
 fn put_leading(output: &mut [u8], at: usize, d: usize, n: usize) -> usize
     requires { 0 < d }
     ensures { Prints output.old at (leading d n) output.new result }
@@ -29,7 +31,7 @@ fn put_leading(output: &mut [u8], at: usize, d: usize, n: usize) -> usize
     if d <= n {
         return put(output, at, digit(n / d));
     }
-    words::lesser(output.len(), at)
+    at.min(output.len())
 }
 
 // Two characters.
@@ -44,10 +46,11 @@ fn put_two(output: &mut [u8], at: usize, first: u8, second: u8) -> usize
 fn digit(v: usize) -> u8
     ensures { result ≡ digit v }
 {
-    48 + (v % 10) as u8
+    b'0' + (v % 10) as u8
 }
 
-// A number in decimal.
+// A number in decimal. Of a number with more than five digits these are the last five, so this is no case of
+// put_wide_digits.
 fn put_digits(output: &mut [u8], at: usize, n: usize) -> usize
     ensures { Prints output.old at (decimal n) output.new result }
 {
@@ -58,7 +61,7 @@ fn put_digits(output: &mut [u8], at: usize, n: usize) -> usize
     put(output, d, digit(n))
 }
 
-// A number in decimal, and a character after it.
+// A number in decimal, and a character after it. (put_two and put_wide end as this does, but print something else before.)
 fn put_decimal(output: &mut [u8], at: usize, n: usize, then: u8) -> usize
     ensures { Prints output.old at (decimal n ++ (then ∷ [])) output.new result }
 {
@@ -66,29 +69,31 @@ fn put_decimal(output: &mut [u8], at: usize, n: usize, then: u8) -> usize
     put(output, a, then)
 }
 
+// The character of a hex digit, which is of two ranges, unlike in digit.
+#[tactic(auto, using(std::proofs::lemmas::Bool::Decides::nat_tests), unfolding(paper::specs::Bench::hex_digit))]
 fn hex_digit(value: u8) -> u8
     requires { value < 16 }
     ensures { result ≡ hex_digit value }
 {
-    if value < 10 { 48 + value } else { 55 + value }
+    match value {
+        0..=9 => b'0' + value,
+        _ => b'A' + (value - 10),
+    }
 }
 
-// Bytes as hex pairs.
+// Bytes as hex pairs. (put_text is the same loop with one character.)
 fn put_pairs(output: &mut [u8], at: usize, bytes: &[u8]) -> usize
     ensures { Prints output.old at (hex_pairs bytes.now) output.new result }
 {
-    let mut place = words::lesser(output.len(), at);
-    let mut i = 0;
-    while i < bytes.len() {
-        let high = hex_digit(bytes[i] / 16);
-        let low = hex_digit(bytes[i] % 16);
-        place = put_two(output, place, high, low);
-        i += 1;
+    let mut place = at.min(output.len());
+    for byte in bytes {
+        place = put_two(output, place, hex_digit(byte / 16), hex_digit(byte % 16));
     }
     place
 }
 
-// The first driven place of an output of n bytes, or a dash, and a space after it.
+// The first driven place of an output of n bytes, or a dash where it is n, as place_text has it; and a space after it.
+#[tactic(auto, using(std::proofs::lemmas::Bool::Decides::nat_tests), unfolding(paper::specs::Bench::place_text))]
 fn put_place(output: &mut [u8], at: usize, first: usize, n: usize) -> usize
     ensures { Prints output.old at (place_text first n ++ (space ∷ [])) output.new result }
 {
@@ -98,7 +103,7 @@ fn put_place(output: &mut [u8], at: usize, first: usize, n: usize) -> usize
     put_decimal(output, at, first, b' ')
 }
 
-// What is printed for a transaction.
+// What is printed for a transaction, of which the number is that of its answer, 0 for none, as in answer_text.
 pub fn put_answer(output: &mut [u8], at: usize, number: u8, first: usize, bytes: &[u8]) -> usize
     ensures { Prints output.old at (answer_text number first bytes.now) output.new result }
 {
@@ -108,7 +113,8 @@ pub fn put_answer(output: &mut [u8], at: usize, number: u8, first: usize, bytes:
     put(output, c, b'\n')
 }
 
-// What is printed for ticks.
+// What is printed for ticks, of which the number is that of their answer, likewise. Both numbers are decimal, and those of
+// put_counts wide_decimal.
 pub fn put_ticks(output: &mut [u8], at: usize, number: u8, done: usize) -> usize
     ensures { Prints output.old at (ticks_text number done) output.new result }
 {
@@ -160,11 +166,9 @@ fn put_wide(output: &mut [u8], at: usize, n: usize, then: u8) -> usize
 fn put_text(output: &mut [u8], at: usize, text: &[u8]) -> usize
     ensures { Prints output.old at text.now output.new result }
 {
-    let mut place = words::lesser(output.len(), at);
-    let mut i = 0;
-    while i < text.len() {
-        place = put(output, place, text[i]);
-        i += 1;
+    let mut place = at.min(output.len());
+    for character in text {
+        place = put(output, place, *character);
     }
     place
 }
@@ -178,10 +182,11 @@ fn put_counts(output: &mut [u8], at: usize, erases: usize, programs: usize, then
 }
 
 // Whether either count is at its largest value.
+#[tactic(auto, using(crate::proofs::Text::tests))]
 fn is_full(erases: u32, programs: u32) -> bool
     ensures { result ≡ is_full (record { erases = erases; programs = programs }) }
 {
-    words::either(erases == FULL, programs == FULL)
+    erases == u32::MAX || programs == u32::MAX
 }
 
 // The line of a sector: its number, its erases, its programs, and ` full` where one of them is at its largest value.

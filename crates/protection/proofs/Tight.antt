@@ -1,13 +1,14 @@
 -- Two results that a contract of this crate allows are equal.
 use Rattle.words.proofs.Allowed.{OneResult, agree}
-use Rattle.protection.proofs.question_number.Reads as question-number
+use Rattle.paper.proofs.Refusals.{same_refusal}
+use Rattle.protection.proofs.check_question.Reads as check-question
 use Rattle.protection.proofs.protected_blocks.Reads as protected-blocks
 use Rattle.protection.proofs.is_among.Reads as is_among
 use Rattle.protection.proofs.is_locked.Reads as is-locked
 use Rattle.protection.proofs.is_barred.Reads as is-barred
 
-pub question_number_one : OneResult question-number.Learnt
-question_number_one κ a x y s t p q = agree p q
+pub check_question_one : OneResult check-question.Learnt
+check_question_one κ a x y s t p q = same_refusal p q
 
 pub protected_blocks_one : OneResult protected-blocks.Learnt
 protected_blocks_one κ a x y s t p q = agree p q

@@ -3,9 +3,11 @@
 
 ghost use Rattle.std.specs.Prelude.{◌≡◌, ◌%◌, leb};
 ghost use Rattle.paper.specs.BlockTable.{block_row, large_row, cell_of, large_cell_of};
+ghost use Rattle.paper.specs.Refusals.{number_of};
 ghost use Rattle.paper.specs.Protection.{blocks_of, code_most, question, among, locked, barred};
 
-use types::{BlockRow, Blocks, Cell, LargeRow};
+use refusals::ensure;
+use types::{BlockRow, Blocks, Cell, LargeRow, Refusal};
 
 // The highest code, and that of the large part.
 const CODE_MOST: u64 = 15;
@@ -42,7 +44,8 @@ fn block_row(code: u8) -> BlockRow
     }
 }
 
-// The cell of a row in the column of a size; a number of blocks that is no size has none.
+// The cell of a row in the column of a size, which the definition takes as its number of blocks. A number of blocks that is no
+// size has none.
 fn cell_of(blocks: u64, row: BlockRow) -> Cell
     ensures { result ≡ cell_of blocks row }
 {
@@ -56,7 +59,8 @@ fn cell_of(blocks: u64, row: BlockRow) -> Cell
 }
 
 // The sixteen rows of the block table of the large part, that of source document 004, with a column for each value of the top
-// or bottom bit. Rows that are printed as one (101x, 11xx) are two and four here.
+// or bottom bit. Rows that are printed as one (101x, 11xx) are two and four here. It is a table of its own, since its columns are
+// chosen by a bit of the code and not by the size.
 fn large_row(code: u8) -> LargeRow
     ensures { result ≡ large_row code }
 {
@@ -90,6 +94,7 @@ fn large_cell(code: u8) -> Cell
     if 16 <= code { row.1 } else { row.0 }
 }
 
+// A cell as the answer has it: the fields have names there, and in the table a cell is as short as it is printed.
 fn blocks_of(cell: Cell) -> Blocks
     ensures { result ≡ blocks_of cell }
 {
@@ -110,18 +115,18 @@ fn code_most(blocks: u64) -> u64
     }
 }
 
-// The protection question's number, of a code and a size: 0; 1 for a bad size; 5 for a number that is no code; the lower
-// first.
-pub fn question_number(code: u64, blocks: u64) -> u8
-    ensures { result ≡ (question code blocks).number }
+// Whether the protection question is answered, of a code and a size: 1 for a bad size; 5 for a number that is no code; the
+// lower first.
+pub fn check_question(code: u64, blocks: u64) -> Result<(), Refusal>
+    ensures { number_of result ≡ (question code blocks).number }
 {
-    let size = sizes::size_ok(blocks);
     let known = code <= code_most(blocks);
-    words::number_or(size, 1, words::number_or(known, 5, 0))
+    ensure(sizes::size_ok(blocks), Refusal::Size)?;
+    ensure(known, Refusal::Record)
 }
 
 // Its answer, which everything that asks reads: the first protected block and the count of protected blocks from it, all of
-// them blocks of the part; 0 and 0 for none, and where the number is not 0.
+// them blocks of the part; 0 and 0, the definition's `no_blocks`, for none, and where the number is not 0.
 pub fn protected_blocks(code: u64, blocks: u64) -> Blocks
     ensures { result ≡ (question code blocks).blocks }
 {
@@ -138,12 +143,13 @@ pub fn protected_blocks(code: u64, blocks: u64) -> Blocks
 }
 
 // Whether a block is one of these blocks.
+#[tactic(auto, unfolding(paper::specs::Protection::among))]
 pub fn is_among(blocks: Blocks, block: usize) -> bool
     ensures { result ≡ among blocks block }
 {
-    let first = blocks.first as usize;
+    let first = usize::from(blocks.first);
     let from = first <= block;
-    let before = block < first + (blocks.count as usize);
+    let before = block < first + usize::from(blocks.count);
     words::both(from, before)
 }
 

@@ -7,10 +7,12 @@ ghost use Rattle.paper.specs.Program.{no_data};
 ghost use Rattle.paper.specs.Phases.{is_erase, is_program};
 ghost use Rattle.paper.specs.Records.{status_low, function_low, registers_in, made, settled, fresh_part, fresh};
 ghost use Rattle.paper.specs.Soundness.{bits_ok, large_ok};
+ghost use Rattle.paper.specs.Refusals.{number_of};
 ghost use Rattle.paper.specs.Numbers.{power_up_number};
 ghost use Rattle.paper.specs.Calls.{no_stored, zero_record, powered_up};
 
-use types::{Identity, Operation, Part, Phase, PoweredUp, Record, Register, Stored, Work};
+use refusals::ensure;
+use types::{Identity, Operation, Part, Phase, PoweredUp, Record, Refusal, Register, Stored};
 
 // Page data of no program: all zero.
 pub fn no_data() -> [u8; 256]
@@ -40,14 +42,11 @@ fn suspended_bits(op: Operation) -> u8
 fn function_low(phase: Phase) -> u8
     ensures { result ≡ function_low phase }
 {
-    let halted = phases::halted(phase);
-    match halted {
-        Work::NoWork => 0,
-        Work::At(op) => suspended_bits(op),
-    }
+    phases::halted(phase).map_or(0, suspended_bits)
 }
 
-// The registers with their stored bits. The bits that phase and latch define go by these.
+// The registers with their stored bits. The bits that phase and latch define go by these, which `made` and `bits_ok` take
+// apart too.
 fn registers_in(phase: Phase, wel: bool, stored: Stored) -> Stored
     ensures { result ≡ registers_in phase wel stored }
 {
@@ -56,11 +55,11 @@ fn registers_in(phase: Phase, wel: bool, stored: Stored) -> Stored
     let function = operations::held_byte(Register::Function, stored.function);
     let low_function = function_low(phase);
     let extended = operations::held_byte(Register::Extended, stored.extended);
-    let mut next = stored;
-    next.status = status + low_status;
-    next.function = function + 2 * (stored.function / 2 % 2) + low_function;
-    next.extended = extended;
-    next
+    Stored {
+        status: status + low_status,
+        function: function + 2 * (stored.function / 2 % 2) + low_function,
+        extended: extended,
+    }
 }
 
 // A part in a phase, with the stored bits of some registers and with a latch. Size, marks, live byte and bank register
@@ -68,19 +67,18 @@ fn registers_in(phase: Phase, wel: bool, stored: Stored) -> Stored
 pub fn make(part: Part, stored: Stored, phase: Phase, wel: bool) -> Part
     ensures { result ≡ made part stored phase wel }
 {
-    let mut next = part;
-    let registers = registers_in(phase, wel, stored);
-    next.stored = registers;
-    next.wel = wel;
-    next
+    Part {
+        stored: registers_in(phase, wel, stored),
+        wel: wel,
+        ..part
+    }
 }
 
 // A part in a phase with a latch.
 pub fn settle(part: Part, phase: Phase, wel: bool) -> Part
     ensures { result ≡ settled part phase wel }
 {
-    let stored = part.stored;
-    make(part, stored, phase, wel)
+    make(part, part.stored, phase, wel)
 }
 
 // An awake, unarmed part with WEL 0, the live byte loaded and the bank register 00h, for an idle phase.
@@ -89,7 +87,7 @@ pub fn fresh_part(blocks: u16, stored: Stored) -> Part
 {
     let registers = registers_in(Phase::Idle, false, stored);
     Part {
-        blocks: blocks,
+        blocks,
         stored: registers,
         wel: false,
         armed: false,
@@ -102,13 +100,11 @@ pub fn fresh_part(blocks: u16, stored: Stored) -> Part
 fn make_fresh(blocks: u16, identity: Identity, stored: Stored) -> Record
     ensures { result ≡ fresh blocks identity stored }
 {
-    let part = fresh_part(blocks, stored);
-    let page = no_data();
     Record {
-        part: part,
+        part: fresh_part(blocks, stored),
         phase: Phase::Idle,
-        identity: identity,
-        page: page,
+        identity,
+        page: no_data(),
     }
 }
 
@@ -116,25 +112,14 @@ fn make_fresh(blocks: u16, identity: Identity, stored: Stored) -> Record
 pub fn no_stored() -> Stored
     ensures { result ≡ no_stored }
 {
-    Stored {
-        status: 0,
-        function: 0,
-        extended: 0,
-    }
+    Stored::default()
 }
 
 // The record of a refused power-up: an idle 1-block record, all else zero.
 pub fn zero_record() -> Record
     ensures { result ≡ zero_record }
 {
-    let identity = Identity {
-        maker: 0,
-        kind: 0,
-        capacity: 0,
-        device: 0,
-    };
-    let stored = no_stored();
-    make_fresh(1, identity, stored)
+    make_fresh(1, Identity::default(), no_stored())
 }
 
 // Whether what the large part alone has can stand in a part of so many blocks: bits 6..1 of its bank register are zero;
@@ -142,7 +127,7 @@ pub fn zero_record() -> Record
 pub fn large_ok(blocks: u16, function: u8, bank: u8) -> bool
     ensures { result ≡ large_ok blocks function bank }
 {
-    if sizes::is_large(blocks as u64) {
+    if sizes::is_large(u64::from(blocks)) {
         return bank / 2 % 64 == 0;
     }
     let top = function / 2 % 2 == 0;
@@ -162,13 +147,15 @@ pub fn bits_ok(phase: Phase, wel: bool, stored: Stored) -> bool
     words::both(latches, words::both(marks, extended))
 }
 
-fn power_up_number(blocks: u16, stored: Stored) -> u8
-    ensures { result ≡ power_up_number blocks stored }
+// Whether a part of so many blocks can be powered up with these registers: 1 or 5 where it cannot.
+fn check_given(blocks: u16, stored: Stored) -> Result<(), Refusal>
+    ensures { number_of result ≡ power_up_number blocks stored }
 {
-    let size = sizes::size_ok(blocks as u64);
+    let size = sizes::size_ok(u64::from(blocks));
     let bits = bits_ok(Phase::Idle, false, stored);
     let registers = words::both(bits, large_ok(blocks, stored.function, 0));
-    words::number_or(size, 1, words::number_or(registers, 5, 0))
+    ensure(size, Refusal::Size)?;
+    ensure(registers, Refusal::Record)
 }
 
 // Power-up: an idle, awake, unarmed record with WEL 0 and page data zero; refused, with 1 or 5, an idle
@@ -176,17 +163,14 @@ fn power_up_number(blocks: u16, stored: Stored) -> u8
 pub fn power_up(blocks: u16, identity: Identity, stored: Stored) -> PoweredUp
     ensures { result ≡ powered_up blocks identity stored }
 {
-    let number = power_up_number(blocks, stored);
-    if number != 0 {
-        let none = zero_record();
+    if let Err(refusal) = check_given(blocks, stored) {
         return PoweredUp {
-            next: none,
-            number: number,
+            next: zero_record(),
+            number: refusals::number(refusal),
         };
     }
-    let next = make_fresh(blocks, identity, stored);
     PoweredUp {
-        next: next,
+        next: make_fresh(blocks, identity, stored),
         number: 0,
     }
 }

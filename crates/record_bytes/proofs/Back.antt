@@ -12,20 +12,18 @@ use Rattle.types.specs.declared.Stored.{Stored}
 use Rattle.types.specs.declared.Part.{Part}
 use Rattle.types.specs.declared.Phase.{Phase}
 use Rattle.types.specs.declared.Record.{Record}
-use Rattle.words.specs.Logic.{◌and◌, bit}
+use Rattle.words.specs.Logic.{bit}
 use Rattle.words.proofs.Tests.{and_l, and_r, and_in}
 use Rattle.words.proofs.Allowed.{agree}
 use Rattle.paper.specs.Sizes.{page_bytes}
 use Rattle.paper.specs.Phases.{running, halted}
 use Rattle.paper.proofs.Phases.{phase_works}
-use Rattle.paper.specs.Soundness.{sound}
 use Rattle.address.proofs.Bytes.{number_back}
 use Rattle.cells.specs.declared.Cells.{Cells}
 use Rattle.cells.specs.Operations.{work_cells, work_of}
 use Rattle.cells.proofs.Back.{work_back, same_cells_lem}
-use Rattle.record_bytes.specs.declared.Found.{Found}
 use Rattle.record_bytes.specs.Layout.{running_at, halted_at, header_length, record_length, part_bytes, operation_bytes, works_bytes, header, record_bytes, written}
-use Rattle.record_bytes.specs.Read.{cells_in, work_at, part_in, phase_in, identity_in, fields_in, same_bytes, holds, Held, nothing, held, record_in, found, on_held, Fitting, Fits}
+use Rattle.record_bytes.specs.Read.{cells_in, work_at, part_in, phase_in, identity_in, fields_in, same_bytes, holds, Held, nothing, held, record_in, on_held, Fitting, Fits}
 use Rattle.record_bytes.proofs.Laid.{header_length_lem}
 use Rattle.record_bytes.proofs.Same.{same_bytes_lem, one_list}
 
@@ -160,11 +158,6 @@ module _ (bs : List ℕ) (h : (record_in bs).ok ≡ true) where
   pub held_identity : identity_in bs ≡ (record_in bs).state.identity
   unfolding fields_in
   held_identity = rw (taken bs holding)
-
-  -- what is found of it says whether it is sound
-  pub found_sound : (x : Found) → x ≡ found (record_in bs) → x.sound ≡ sound (record_in bs).state
-  unfolding ◌and◌
-  found_sound x e = ap (λ (y : Found). y.sound) e ∙ rw h
 
 -- what a call makes of bytes that hold none, and of bytes that hold a record
 pub on_none : {A : Type 0} (h : Held) (call : Record → A) (none : A) → h.ok ≡ false → on_held h call none ≡ none

@@ -1,11 +1,11 @@
 -- The bytes of a record after a change are those of the changed record.
+use Rattle.std.specs.Prelude.{None}
 use Prim.Native.Nat.{ℕ}
 use mathlib.Core.Path.{◌≡◌, refl, sym, ap, ◌∙◌}
 use mathlib.Core.Bool.{Bool, true}
 use mathlib.Core.List.{List}
 use lib.ListN.{length, set}
 use borrow.Author.Tests.{eq-eqb}
-use Rattle.types.specs.declared.Work.TheVariants.{NoWork}
 use Rattle.types.specs.declared.Record.{Record}
 use Rattle.types.specs.declared.Change.{Change}
 use Rattle.types.specs.declared.Change.TheVariants.{Same, Marked, Live, Anew, Runs, Halts, GoesOn, Clears}
@@ -35,8 +35,8 @@ bytes_changed_lem (Marked armed) i p = mark_set p armed
 bytes_changed_lem (Live v) i p = refl
 bytes_changed_lem (Anew q) i p = refl
 bytes_changed_lem (Runs q d w) i p = rw (phase_runs w (halted p.phase), phase_halts w (halted p.phase))
-bytes_changed_lem (Halts q) i p = rw (phase_runs NoWork (running p.phase), phase_halts NoWork (running p.phase))
-bytes_changed_lem (GoesOn q) i p = rw (phase_runs (halted p.phase) NoWork, phase_halts (halted p.phase) NoWork)
+bytes_changed_lem (Halts q) i p = rw (phase_runs None (running p.phase), phase_halts None (running p.phase))
+bytes_changed_lem (GoesOn q) i p = rw (phase_runs (halted p.phase) None, phase_halts (halted p.phase) None)
 bytes_changed_lem (Clears q) i p = refl
 
 -- a change of the record that bytes hold

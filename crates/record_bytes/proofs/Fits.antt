@@ -1,4 +1,5 @@
 -- A sound record whose page data is a page fits its bytes, so that it is read back from them; and so is a sound record after a change.
+use Rattle.std.specs.Prelude.{None, Option, Some}
 use Prim.Native.Nat.{ℕ, ◌+◌, ◌^◌, ◌≤◌}
 use mathlib.Core.Path.{◌≡◌, refl, sym, ap, ◌∙◌}
 use mathlib.Core.Bool.{true}
@@ -10,8 +11,6 @@ use Rattle.types.specs.declared.Memory.{Memory}
 use Rattle.types.specs.declared.Memory.TheVariants.{Array, Rows}
 use Rattle.types.specs.declared.Operation.{Operation}
 use Rattle.types.specs.declared.Operation.TheVariants.{Program, Erase, Write}
-use Rattle.types.specs.declared.Work.{Work}
-use Rattle.types.specs.declared.Work.TheVariants.{NoWork, At}
 use Rattle.types.specs.declared.Stored.{Stored}
 use Rattle.types.specs.declared.Change.{Change}
 use Rattle.types.specs.declared.Record.{Record}
@@ -47,9 +46,9 @@ operation_fits n g (Erase u b d) few i =
 operation_fits n g (Write r v) few i = record { base = omega arith; count = omega arith; done = omega arith }
 
 -- what runs or is suspended, where it is in order if it is an operation
-work_fits : (n : ℕ) (g : Stored) (w : Work) → n ≤ 512 → ((o : Operation) → w ≡ At o → InOrder o n g) → Fitting (work_cells w)
-work_fits n g NoWork few h = record { base = omega arith; count = omega arith; done = omega arith }
-work_fits n g (At o) few h = operation_fits n g o few (h o refl)
+work_fits : (n : ℕ) (g : Stored) (w : Option Operation) → n ≤ 512 → ((o : Operation) → w ≡ Some o → InOrder o n g) → Fitting (work_cells w)
+work_fits n g None few h = record { base = omega arith; count = omega arith; done = omega arith }
+work_fits n g (Some o) few h = operation_fits n g o few (h o refl)
 
 pub sound_fits : (p : Record) → sound p ≡ true → length p.page ≡ page_bytes → Fits p
 sound_fits p s h =

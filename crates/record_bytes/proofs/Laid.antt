@@ -1,14 +1,14 @@
 -- Bytes that are laid at their places in a record, and read from there.
+use Rattle.types.specs.declared.Operation.{Operation}
+use Rattle.std.specs.Prelude.{None, Option}
 use Prim.Native.Nat.{ℕ, suc, ◌+◌, ◌*◌, ◌/◌, ◌%◌, ◌<◌, ◌≤◌}
 use mathlib.Core.Path.{◌≡◌, refl, sym, ap, ◌∙◌}
 use mathlib.Core.List.{List, [], ◌∷◌, ◌++◌, append-nil, append_assoc}
 use native.Mathlib.Omega.{arith}
 use lib.ListN.{length, take, drop, get_or, replicate, set, length-set, length-append, length-take, length-drop, drop_of_length-le, take-append-drop}
-use lib.Seq.{take_all, take-length, take_at, drop_at, drop-drop, drop-set-add}
+use lib.Seq.{take_all, take_at, drop_at, drop-drop, drop-set-add}
 use Rattle.types.specs.declared.Phase.{Phase}
 use Rattle.types.specs.declared.Phase.TheVariants.{Idle}
-use Rattle.types.specs.declared.Work.{Work}
-use Rattle.types.specs.declared.Work.TheVariants.{NoWork}
 use Rattle.types.specs.declared.Identity.{Identity}
 use Rattle.types.specs.declared.Part.{Part}
 use Rattle.words.specs.Logic.{bit}
@@ -27,17 +27,13 @@ two_bytes bs h = omega (arith, high_first_more bs 1 (omega arith), high_first_mo
 
 -- and the one that eight are
 pub eight_bytes : (bs : List ℕ) → length bs ≡ 8
-    → get_or bs 7 0 + get_or bs 6 0 * 256 + get_or bs 5 0 * 65536 + get_or bs 4 0 * 16777216 + get_or bs 3 0 * 4294967296 + get_or bs 2 0 * 1099511627776 + get_or bs 1 0 * 281474976710656 + get_or bs 0 0 * 72057594037927936
+    → get_or bs 0 0 * 72057594037927936 + get_or bs 1 0 * 281474976710656 + get_or bs 2 0 * 1099511627776 + get_or bs 3 0 * 4294967296 + get_or bs 4 0 * 16777216 + get_or bs 5 0 * 65536 + get_or bs 6 0 * 256 + get_or bs 7 0
     ≡ high_first bs
 eight_bytes bs h =
     let m : (i : ℕ) → i < length bs → high_first (take (suc i) bs) ≡ high_first (take i bs) * 256 + get_or bs i 0 = high_first_more bs in
-    let e : get_or bs 7 0 + get_or bs 6 0 * 256 + get_or bs 5 0 * 65536 + get_or bs 4 0 * 16777216 + get_or bs 3 0 * 4294967296 + get_or bs 2 0 * 1099511627776 + get_or bs 1 0 * 281474976710656 + get_or bs 0 0 * 72057594037927936 ≡ high_first (take 8 bs) =
+    let e : get_or bs 0 0 * 72057594037927936 + get_or bs 1 0 * 281474976710656 + get_or bs 2 0 * 1099511627776 + get_or bs 3 0 * 4294967296 + get_or bs 4 0 * 16777216 + get_or bs 5 0 * 65536 + get_or bs 6 0 * 256 + get_or bs 7 0 ≡ high_first (take 8 bs) =
     omega (arith, high_first_none bs, m 0 (omega arith), m 1 (omega arith), m 2 (omega arith), m 3 (omega arith), m 4 (omega arith), m 5 (omega arith), m 6 (omega arith), m 7 (omega arith)) in
     e ∙ ap high_first (take_all 8 bs (omega arith))
-
--- bytes that were copied over the first n of others
-pub copied_over : (bs s : List ℕ) (n : ℕ) → length s ≡ n → take (length s) s ++ drop (length s) bs ≡ s ++ drop n bs
-copied_over bs s n l = rw (take-length, l)
 
 -- x is bs with a written over its first n bytes
 module _ (bs a : List ℕ) (n m : ℕ) (x : List ℕ) (la : length a ≡ n) (e : x ≡ a ++ drop n bs) (l : n + m ≤ length bs) where
@@ -101,9 +97,6 @@ module _ (bs : List ℕ) (l : length bs ≡ record_length) where
       ∙ rw (header_front p Idle) (simp (length-take, length-drop) (omega arith))
 
   -- the same of what runs alone, where what is suspended stays
-  pub running_room : length (take operation_length (drop part_length bs)) ≡ operation_length
-  running_room = simp (length-take, length-drop) (omega arith)
-
   abbrev kept : List ℕ
   kept = take (operation_length + identity_length) (drop halted_at bs)
 
@@ -116,7 +109,7 @@ module _ (bs : List ℕ) (l : length bs ≡ record_length) where
   pub kept_length : length kept ≡ operation_length + identity_length
   kept_length = simp (length-take, length-drop) (omega arith)
 
-  module _ (w : Work) (y : List ℕ) (e : y ≡ operation_bytes (work_cells w)) where
+  module _ (w : Option Operation) (y : List ℕ) (e : y ≡ operation_bytes (work_cells w)) where
     abbrev going : List ℕ
     going = take part_length bs ++ (y ++ drop operation_length (drop part_length bs))
 
@@ -128,7 +121,7 @@ module _ (bs : List ℕ) (l : length bs ≡ record_length) where
         (drop_at (take part_length bs) (y ++ drop operation_length (drop part_length bs)) part_length t ∙ rw (e, running_rest) (sym (append_assoc b kept (drop header_length bs))))
         ∙ sym (append_assoc (part_bytes p) (b ++ kept) (drop header_length bs))
 
-  pub running_header_length : (p : Part) (w : Work) → length (header_running p w bs) ≡ header_length
+  pub running_header_length : (p : Part) (w : Option Operation) → length (header_running p w bs) ≡ header_length
   running_header_length p w =
       length-append (part_bytes p) (operation_bytes (work_cells w) ++ kept)
       ∙ simp length-append (omega (arith, part_length_lem p, operation_length_lem (work_cells w), kept_length))
@@ -151,7 +144,7 @@ module _ (bs h x : List ℕ) (lh : length h ≡ header_length) (l : length bs �
       laid bs h header_length page_bytes x lh e (omega arith) y z q ∙ ap (λ (t : List ℕ). (h ++ z) ++ t) n ∙ append-nil (h ++ z)
 
 -- the bytes of no operation
-pub none_bytes : replicate operation_length 0 ≡ operation_bytes (work_cells NoWork)
+pub none_bytes : replicate operation_length 0 ≡ operation_bytes (work_cells None)
 unfolding operation_bytes
 none_bytes = refl
 
@@ -180,9 +173,6 @@ module _ (bs : List ℕ) (l : length bs ≡ record_length) (a y : List ℕ) (la 
 
   front_length : length (take part_length bs ++ a) ≡ halted_at
   front_length = length-append (take part_length bs) a ∙ rw (part_there, la) refl
-
-  pub put_room : length (take operation_length (drop halted_at put)) ≡ operation_length
-  put_room = room bs (take part_length bs ++ a) halted_at operation_length put front_length put_as (omega arith)
 
   pub works_put : (b z : List ℕ) → z ≡ b → (q : Part) → part_bytes q ++ drop part_length (more halted_at operation_length put z) ≡ works_laid q a b bs
   works_put b z ez q =
@@ -239,17 +229,8 @@ module _ (s : Cells) (z : List ℕ) (ez : z ≡ replicate operation_length 0) wh
   abbrev first : List ℕ
   first = set one 1 s.value
 
-  pub first_length : length first ≡ operation_length
-  first_length = rw ez
-
   module _ (b : List ℕ) (eb : b ≡ high_first_bytes 8 s.base) where
-    pub base_length : length (more base_at 8 first b) ≡ operation_length
-    base_length = rw (ez, eb)
-
     module _ (k : List ℕ) (ek : k ≡ high_first_bytes 8 s.count) where
-      pub count_length : length (more count_at 8 (more base_at 8 first b) k) ≡ operation_length
-      count_length = rw (ez, eb, ek)
-
       pub cells_laid : (d : List ℕ) → d ≡ high_first_bytes 8 s.done → more done_at 8 (more count_at 8 (more base_at 8 first b) k) d ≡ operation_bytes s
       unfolding operation_bytes
       cells_laid d ed = rw (ez, eb, ek, ed)

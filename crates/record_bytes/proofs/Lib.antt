@@ -2,6 +2,7 @@ pub mod Laid
 pub mod Same
 pub mod Back
 pub mod Parts
+pub mod Told
 pub mod Changed
 pub mod Fits
 pub mod Again

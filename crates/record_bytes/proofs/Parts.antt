@@ -4,6 +4,7 @@ use mathlib.Core.Path.{◌≡◌, refl, sym, ap, ◌∙◌}
 use mathlib.Core.Bool.{Bool, true, false, not, cond}
 use mathlib.Core.List.{List, [], ◌∷◌, ◌++◌}
 use native.Mathlib.Omega.{arith}
+use Rattle.std.specs.Prelude.{Option, Some, None}
 use lib.Dec.{eqb, leb}
 use lib.ListN.{length, take, drop, get_or, length-take, length-drop}
 use lib.Seq.{take_all, take-add, drop-drop, get_or-take, get_or-drop}
@@ -17,8 +18,6 @@ use Rattle.types.specs.declared.Register.TheVariants.{Status, Function, Extended
 use Rattle.types.specs.declared.Operation.{Operation}
 use Rattle.types.specs.declared.Phase.{Phase}
 use Rattle.types.specs.declared.Phase.TheVariants.{Idle}
-use Rattle.types.specs.declared.Work.{Work}
-use Rattle.types.specs.declared.Work.TheVariants.{NoWork, At}
 use Rattle.types.specs.declared.Part.{Part}
 use Rattle.words.specs.Logic.{◌and◌, bit}
 use Rattle.words.specs.Lists.{up_to, all_zero}
@@ -135,7 +134,7 @@ module _ (c : Cells) (h : Fitting c) where
       (either_fits (eqb k 7) _ _ (erase_fits Row)
       (either_fits (eqb k 8) _ _ (write_fits Status) (either_fits (eqb k 9) _ _ (write_fits Function) (write_fits Extended)))))))))
 
-  or_none_fits : (b : Bool) → Fitting (work_cells (cond b NoWork (At (operation_in c))))
+  or_none_fits : (b : Bool) → Fitting (work_cells (cond b None (Some (operation_in c))))
   or_none_fits true = record { base = omega arith; count = omega arith; done = omega arith }
   or_none_fits false = operation_fits
 
@@ -143,10 +142,10 @@ module _ (c : Cells) (h : Fitting c) where
   work_fits = or_none_fits (eqb c.kind 0)
 
 -- what cells are read as: none where the kind is 0, else an operation
-pub no_work : (c : Cells) → c.kind ≡ 0 → NoWork ≡ work_of c
+pub no_work : (c : Cells) → c.kind ≡ 0 → None ≡ work_of c
 no_work c e = rw (eq-eqb c.kind 0 e)
 
-pub some_work : (c : Cells) (o : Operation) → (c.kind ≡ 0 → ⊥) → o ≡ operation_in c → At o ≡ work_of c
+pub some_work : (c : Cells) (o : Operation) → (c.kind ≡ 0 → ⊥) → o ≡ operation_in c → Some o ≡ work_of c
 some_work c o n e = rw (ne_eqb c.kind 0 n, e)
 
 -- bytes that are taken from others are bytes
@@ -254,7 +253,7 @@ module _ (bs : List ℕ) (l : length bs ≡ record_length) (low : (j : ℕ) → 
   unfolding cells_in
   kind_at at = get_or-take operation_length (drop at bs) 0 0 (omega arith) ∙ get_or-drop at bs 0 0 ∙ let q : at + 0 ≡ at = omega arith in ap byte q
 
-  none_at : (at : ℕ) → byte at ≡ 0 → NoWork ≡ work_at bs at
+  none_at : (at : ℕ) → byte at ≡ 0 → None ≡ work_at bs at
   none_at at e = no_work (cells_in (operation_at bs at)) (kind_at at ∙ e)
 
   pub idle_phase : byte running_at ≡ 0 → byte halted_at ≡ 0 → Idle ≡ phase_in bs
@@ -273,17 +272,17 @@ module _ (bs : List ℕ) (l : length bs ≡ record_length) (low : (j : ℕ) → 
 
     -- of an idle part: that the cells are those of no operation
     module _ (r : byte running_at ≡ 0) (h : byte halted_at ≡ 0) where
-      own_none : (at : ℕ) → byte at ≡ 0 → (c : Cells) → c ≡ cells_in (operation_at bs at) → (t : Bool) → t ≡ same_cells (work_cells NoWork) c → own_cells bs at ≡ t
+      own_none : (at : ℕ) → byte at ≡ 0 → (c : Cells) → c ≡ cells_in (operation_at bs at) → (t : Bool) → t ≡ same_cells (work_cells None) c → own_cells bs at ≡ t
       unfolding own_cells
       own_none at e c ec t et = rw (← none_at at e, ← ec, et)
 
-      pub idle_held : (c d : Cells) → c ≡ cells_in ran → d ≡ cells_in stood → (t u : Bool) → t ≡ same_cells (work_cells NoWork) c → u ≡ same_cells (work_cells NoWork) d → holds bs ≡ (t and u)
+      pub idle_held : (c d : Cells) → c ≡ cells_in ran → d ≡ cells_in stood → (t u : Bool) → t ≡ same_cells (work_cells None) c → u ≡ same_cells (work_cells None) d → holds bs ≡ (t and u)
       unfolding ◌and◌
       idle_held c d ec ed t u et eu = holds_own ∙ rw (m, own_none running_at r c ec t et, own_none halted_at h d ed u eu)
 
   -- what the bytes say that a part does, by the cells of what runs and of what is suspended
   module _ (c d : Cells) (ec : c ≡ cells_in ran) (ed : d ≡ cells_in stood) where
-    pub doing_told : (w h : Work) (f : Phase) (t u k : Bool) → w ≡ work_of c → h ≡ work_of d → f ≡ phase_of w h → t ≡ same_cells (work_cells w) c → u ≡ same_cells (work_cells h) d → k ≡ (t and u)
+    pub doing_told : (w h : Option Operation) (f : Phase) (t u k : Bool) → w ≡ work_of c → h ≡ work_of d → f ≡ phase_of w h → t ≡ same_cells (work_cells w) c → u ≡ same_cells (work_cells h) d → k ≡ (t and u)
         → ◌≡◌ {A = Doing} record { ok = k; phase = f } (doing_in bs)
     unfolding doing_in own_cells
     doing_told w h f t u k ew eh ef et eu ek = rw (ek, et, eu, ef, ew, eh, ec, ed)
@@ -314,14 +313,14 @@ idle_judged p g g' e s eg ee es = es ∙ rw (ee, eg)
 
 -- what was found: part and phase of the fields, and whether they are sound
 pub found_some : (bs : List ℕ) (p : Part) (f : Phase) (s : Bool) → holds bs ≡ true → p ≡ part_in bs → f ≡ phase_in bs → s ≡ sound_of p f (drop header_length bs)
-    → ◌≡◌ {A = Found} record { ok = true; sound = s; part = p; phase = f } (found (record_in bs))
-unfolding fields_in ◌and◌
+    → ◌≡◌ {A = Option Found} (Some record { sound = s; part = p; phase = f }) (found (record_in bs))
+unfolding fields_in
 found_some bs p f s e ep ef es = rw (es, ep, ef, taken bs e)
 
 -- or none
-pub found_none : (bs : List ℕ) (n : Found) → holds bs ≡ false → n ≡ found nothing → n ≡ found (record_in bs)
-unfolding record_in
-found_none bs n e q = q ∙ rw e
+pub found_none : (bs : List ℕ) → holds bs ≡ false → ◌≡◌ {A = Option Found} None (found (record_in bs))
+unfolding record_in nothing
+found_none bs e = rw e
 
 pub holds_not : (bs : List ℕ) → (length bs ≡ record_length → ⊥) → holds bs ≡ false
 unfolding holds ◌and◌

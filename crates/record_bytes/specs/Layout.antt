@@ -1,10 +1,10 @@
 -- A record in bytes: a header with every field at its place, and the 256 bytes of page data.
-use Rattle.std.specs.Prelude.{ℕ, ◌+◌, cond, List, [], ◌∷◌, ◌++◌, eqb, length, take, drop, replicate, set}
+use Rattle.types.specs.declared.Operation.{Operation}
+use Rattle.std.specs.Prelude.{ℕ, ◌+◌, cond, List, [], ◌∷◌, ◌++◌, eqb, length, take, drop, replicate, set, Option}
 use Rattle.types.specs.declared.Identity.{Identity}
 use Rattle.types.specs.declared.Stored.{Stored}
 use Rattle.types.specs.declared.Phase.{Phase}
 use Rattle.types.specs.declared.Phase.TheVariants.{Idle}
-use Rattle.types.specs.declared.Work.{Work}
 use Rattle.types.specs.declared.Part.{Part}
 use Rattle.types.specs.declared.Record.{Record}
 use Rattle.types.specs.declared.Change.{Change}
@@ -105,7 +105,7 @@ operation_bytes s =
     ++ high_first_bytes 8 s.done
 
 -- what runs and what is suspended
-unfoldable pub works_bytes : Work → Work → List ℕ
+unfoldable pub works_bytes : Option Operation → Option Operation → List ℕ
 works_bytes w h = operation_bytes (work_cells w) ++ operation_bytes (work_cells h)
 
 -- what it does: what runs and what is suspended; of none of them zeros
@@ -129,7 +129,7 @@ unfoldable pub written : Record → List ℕ → List ℕ
 written p bs = cond (eqb (length bs) record_length) (record_bytes p) bs
 
 -- the header of a record's bytes with other work running: the part and what runs are written, what is suspended and the identity stay
-abbrev pub header_running : Part → Work → List ℕ → List ℕ
+abbrev pub header_running : Part → Option Operation → List ℕ → List ℕ
 header_running q w bs = part_bytes q ++ (operation_bytes (work_cells w) ++ take (operation_length + identity_length) (drop halted_at bs))
 
 -- the bytes of an operation from a place on

@@ -1,8 +1,8 @@
 -- The record that bytes hold.
-use Rattle.std.specs.Prelude.{ℕ, ◌+◌, ◌^◌, ◌<◌, ◌≡◌, Bool, true, false, cond, List, [], ◌∷◌, eqb, leb, length, get_or, take, drop}
+use Rattle.types.specs.declared.Operation.{Operation}
+use Rattle.std.specs.Prelude.{ℕ, ◌+◌, ◌^◌, ◌<◌, ◌≡◌, Bool, true, false, cond, List, [], ◌∷◌, eqb, leb, length, get_or, take, drop, Option, Some, None}
 use Rattle.types.specs.declared.Phase.{Phase}
 use Rattle.types.specs.declared.Phase.TheVariants.{Idle}
-use Rattle.types.specs.declared.Work.{Work}
 use Rattle.types.specs.declared.Identity.{Identity}
 use Rattle.types.specs.declared.Stored.{Stored}
 use Rattle.types.specs.declared.Part.{Part}
@@ -28,7 +28,7 @@ unfoldable pub cells_in : List ℕ → Cells
 cells_in bs = cells (get_or bs 0 0) (get_or bs 1 0) (number_at bs base_at 8) (number_at bs count_at 8) (number_at bs done_at 8)
 
 -- the operation in the bytes from a place on, or none
-abbrev pub work_at : List ℕ → ℕ → Work
+abbrev pub work_at : List ℕ → ℕ → Option Operation
 work_at bs at = work_of (cells_in (operation_at bs at))
 
 -- the registers that stand in the bytes f 0, f 1, ..
@@ -107,10 +107,13 @@ phase_again bs = cond (eqb (length bs) record_length) (phase_in bs) Idle
 unfoldable pub on_held : {A : Type 0} → Held → (Record → A) → A → A
 on_held h call none = cond h.ok (call h.state) none
 
--- what is held, but for identity and page data, and that it is sound
-abbrev pub found : Held → Found
-found h =
-    record { ok = h.ok; sound = h.ok and sound h.state; part = h.state.part; phase = h.state.phase }
+-- what is found of a record: all but identity and page data, and whether it is sound
+abbrev pub found_of : Record → Found
+found_of p = record { sound = sound p; part = p.part; phase = p.phase }
+
+-- and of what is held; or none
+abbrev pub found : Held → Option Found
+found h = cond h.ok (Some (found_of h.state)) None
 
 -- the numbers of an operation, and those of a record, fit their fields, as they do in code
 pub record Fitting (s : Cells) : Type 0 where

@@ -11,19 +11,20 @@ ghost use Rattle.cells.specs.Operations.{cells_of, work_cells};
 ghost use Rattle.record_bytes.specs.Layout.{part_length, operation_length, header_length, record_length, part_bytes, operation_bytes, header_running, written, works_laid, bytes_halted, bytes_resumed, bytes_cleared, change_written};
 
 use crate::places;
-use types::{Change, Data, Identity, Operation, Part, Work};
+use types::{Change, Data, Identity, Operation, Part};
 
 // What a part is, in bytes.
 fn part_bytes(part: Part) -> [u8; places::RUNNING]
     ensures { result ≡ part_bytes part }
 {
+    let [high, low] = part.blocks.to_be_bytes();
     let stored = part.stored;
     let wel = words::bit_of(part.wel);
     let armed = words::bit_of(part.armed);
     let asleep = words::bit_of(part.asleep);
     [
-        (part.blocks / 256 % 256) as u8,
-        (part.blocks % 256) as u8,
+        high,
+        low,
         stored.status,
         stored.function,
         stored.extended,
@@ -36,69 +37,43 @@ fn part_bytes(part: Part) -> [u8; places::RUNNING]
 }
 
 // What a part is, written over the first of a record's bytes.
-fn write_part(part: Part, bytes: &mut [u8])
-    requires { length bytes.old ≡ record_length }
+fn write_part(part: Part, bytes: &mut [u8; places::END])
     ensures { bytes.new ≡ part_bytes part ++ drop part_length bytes.old }
 {
     let front = part_bytes(part);
     bytes[..places::RUNNING].copy_from_slice(&front);
 }
 
-// A number written over eight bytes.
-fn write_number(number: usize, bytes: &mut [u8])
-    requires { length bytes.old ≡ 8 }
-    ensures { bytes.new ≡ high_first_bytes 8 number }
-{
-    let eight = address::high_first_bytes(number);
-    bytes.copy_from_slice(&eight);
-}
-
-// The cells of an operation, written over its bytes.
-fn write_operation(op: Operation, bytes: &mut [u8])
-    requires { length bytes.old ≡ operation_length }
-    ensures { bytes.new ≡ operation_bytes (cells_of op) }
+// The bytes of an operation's cells.
+fn operation_bytes(op: Operation) -> [u8; places::OPERATION_BYTES]
+    ensures { result ≡ operation_bytes (cells_of op) }
 {
     let cells = cells::cells_of(op);
-    // The proof begins with these zeros. Each byte is written after them, and the compiler leaves them out.
-    runs::fill(bytes, 0);
+    let mut bytes = [0; places::OPERATION_BYTES];
     bytes[places::OPERATION] = cells.kind;
     bytes[places::VALUE] = cells.value;
-    write_number(cells.base, &mut bytes[places::BASE..places::COUNT]);
-    write_number(cells.count, &mut bytes[places::COUNT..places::DONE]);
-    write_number(
-        cells.done,
-        &mut bytes[places::DONE..places::OPERATION_BYTES],
-    );
+    bytes[places::BASE..places::COUNT].copy_from_slice(&address::high_first_bytes(cells.base));
+    bytes[places::COUNT..places::DONE].copy_from_slice(&address::high_first_bytes(cells.count));
+    bytes[places::DONE..].copy_from_slice(&address::high_first_bytes(cells.done));
+    bytes
 }
 
-// What runs or is suspended, written over its bytes: zeros where that is nothing.
-fn write_work(work: Work, bytes: &mut [u8])
-    requires { length bytes.old ≡ operation_length }
-    ensures { bytes.new ≡ operation_bytes (work_cells work) }
+// Those of what runs or is suspended: zeros where that is nothing.
+fn work_bytes(work: Option<Operation>) -> [u8; places::OPERATION_BYTES]
+    ensures { result ≡ operation_bytes (work_cells work) }
 {
     match work {
-        Work::NoWork => runs::fill(bytes, 0),
-        Work::At(op) => write_operation(op, bytes),
+        None => [0; places::OPERATION_BYTES],
+        Some(op) => operation_bytes(op),
     }
 }
 
 // The header of a part with other work running: what is suspended stays.
-fn write_running(part: Part, work: Work, bytes: &mut [u8])
-    requires { length bytes.old ≡ record_length }
+fn write_running(part: Part, work: Option<Operation>, bytes: &mut [u8; places::END])
     ensures { bytes.new ≡ header_running part work bytes.old ++ drop header_length bytes.old }
 {
-    write_work(work, &mut bytes[places::RUNNING..places::HALTED]);
+    bytes[places::RUNNING..places::HALTED].copy_from_slice(&work_bytes(work));
     write_part(part, bytes);
-}
-
-// An operation's bytes, copied out.
-fn operation_at(bytes: &[u8]) -> [u8; places::OPERATION_BYTES]
-    requires { length bytes.now ≡ operation_length }
-    ensures { result ≡ bytes.now }
-{
-    let mut copied = [0u8; places::OPERATION_BYTES];
-    copied.copy_from_slice(bytes);
-    copied
 }
 
 // A part written over a record's first bytes, with the bytes of what runs and of what is suspended.
@@ -106,9 +81,8 @@ fn write_works(
     part: Part,
     running: [u8; places::OPERATION_BYTES],
     halted: [u8; places::OPERATION_BYTES],
-    bytes: &mut [u8],
+    bytes: &mut [u8; places::END],
 )
-    requires { length bytes.old ≡ record_length }
     ensures { bytes.new ≡ works_laid part running halted bytes.old }
 {
     bytes[places::RUNNING..places::HALTED].copy_from_slice(&running);
@@ -117,28 +91,25 @@ fn write_works(
 }
 
 // A part whose running operation is suspended: its bytes are moved.
-fn write_halted(part: Part, bytes: &mut [u8])
-    requires { length bytes.old ≡ record_length }
+fn write_halted(part: Part, bytes: &mut [u8; places::END])
     ensures { bytes.new ≡ bytes_halted part bytes.old }
 {
-    let ran = operation_at(&bytes[places::RUNNING..places::HALTED]);
+    let ran = *bytes[places::RUNNING..places::HALTED].as_array().unwrap();
     let none = [0u8; places::OPERATION_BYTES];
     write_works(part, none, ran, bytes);
 }
 
 // A part whose suspended operation goes on: its bytes are moved back.
-fn write_resumed(part: Part, bytes: &mut [u8])
-    requires { length bytes.old ≡ record_length }
+fn write_resumed(part: Part, bytes: &mut [u8; places::END])
     ensures { bytes.new ≡ bytes_resumed part bytes.old }
 {
-    let stood = operation_at(&bytes[places::HALTED..places::MAKER]);
+    let stood = *bytes[places::HALTED..places::MAKER].as_array().unwrap();
     let none = [0u8; places::OPERATION_BYTES];
     write_works(part, stood, none, bytes);
 }
 
 // A part that does nothing and has no page data. The identity stays.
-fn write_cleared(part: Part, bytes: &mut [u8])
-    requires { length bytes.old ≡ record_length }
+fn write_cleared(part: Part, bytes: &mut [u8; places::END])
     ensures { bytes.new ≡ bytes_cleared part bytes.old }
 {
     runs::fill(&mut bytes[places::RUNNING..places::MAKER], 0);
@@ -151,9 +122,9 @@ fn write_cleared(part: Part, bytes: &mut [u8])
 pub fn write_idle(part: Part, identity: Identity, bytes: &mut [u8])
     ensures { bytes.new ≡ written (record_of identity part Idle no_data) bytes.old }
 {
-    if bytes.len() != places::END {
+    let Some(bytes) = bytes.as_mut_array() else {
         return;
-    }
+    };
     bytes[places::MAKER] = identity.maker;
     bytes[places::KIND] = identity.kind;
     bytes[places::CAPACITY] = identity.capacity;
@@ -161,7 +132,8 @@ pub fn write_idle(part: Part, identity: Identity, bytes: &mut [u8])
     write_cleared(part, bytes);
 }
 
-// Page data after a call with an input, where it stands.
+// Page data after a call with an input, where it stands. A slice: what is written through `as_mut_array` and `unwrap` is not known
+// of the bytes that it is a part of.
 fn write_page(becomes: Data, input: &[u8], page: &mut [u8])
     requires { length page.old ≡ page_bytes }
     ensures { page.new ≡ page_after becomes input.now page.old }
@@ -177,23 +149,30 @@ fn write_page(becomes: Data, input: &[u8], page: &mut [u8])
 
 // A part with other work running, and page data after a call with an input, written over a record's bytes. What is suspended
 // stays. A buffer of another length is left as it is.
-pub fn write_runs(part: Part, becomes: Data, work: Work, input: &[u8], bytes: &mut [u8])
+pub fn write_runs(
+    part: Part,
+    becomes: Data,
+    work: Option<Operation>,
+    input: &[u8],
+    bytes: &mut [u8],
+)
     ensures { bytes.new ≡ change_written (Runs part becomes work) input.now bytes.old }
 {
-    if bytes.len() != places::END {
+    let Some(bytes) = bytes.as_mut_array() else {
         return;
-    }
+    };
     write_running(part, work, bytes);
     write_page(becomes, input, &mut bytes[places::PAGE..places::END]);
 }
 
-// What a call with an input makes of a record, written over the record's bytes. A buffer of another length is left as it is.
+// What a call with an input makes of a record, written over the record's bytes. A buffer of another length is left as it is. Each
+// change is written at places of its own.
 pub fn write_change(change: Change, input: &[u8], bytes: &mut [u8])
     ensures { bytes.new ≡ change_written change input.now bytes.old }
 {
-    if bytes.len() != places::END {
+    let Some(bytes) = bytes.as_mut_array() else {
         return;
-    }
+    };
     match change {
         Change::Same => {}
         Change::Marked(armed) => {

@@ -1,22 +1,35 @@
 -- Two results that a contract of this crate allows are equal.
 use Rattle.words.proofs.Allowed.{OneResult, agree}
-use Rattle.refusals.proofs.size_number_or.Reads as size-number-or
-use Rattle.refusals.proofs.rows_number_or.Reads as rows-number-or
-use Rattle.refusals.proofs.later_refusal.Reads as later-refusal
-use Rattle.refusals.proofs.transaction_refusal.Reads as transaction-refusal
-use Rattle.refusals.proofs.tick_number.Reads as tick-number
+use Rattle.paper.proofs.Refusals.{same_refusal}
+use Rattle.refusals.proofs.number.Reads as number
+use Rattle.refusals.proofs.number_of.Reads as number-of
+use Rattle.refusals.proofs.ensure.Reads as ensure
+use Rattle.refusals.proofs.check_size.Reads as check-size
+use Rattle.refusals.proofs.check_rows.Reads as check-rows
+use Rattle.refusals.proofs.check_later.Reads as check-later
+use Rattle.refusals.proofs.check_transaction.Reads as check-transaction
+use Rattle.refusals.proofs.check_ticks.Reads as check-ticks
 
-pub size_number_or_one : OneResult size-number-or.Learnt
-size_number_or_one κ a x y s t p q = agree p q
+pub number_one : OneResult number.Learnt
+number_one κ a x y s t p q = agree p q
 
-pub rows_number_or_one : OneResult rows-number-or.Learnt
-rows_number_or_one κ a x y s t p q = agree p q
+pub number_of_one : OneResult number-of.Learnt
+number_of_one κ a x y s t p q = agree p q
 
-pub later_refusal_one : OneResult later-refusal.Learnt
-later_refusal_one κ a x y s t p q = agree p q
+pub ensure_one : OneResult ensure.Learnt
+ensure_one κ a x y s t p q = same_refusal p q
 
-pub transaction_refusal_one : OneResult transaction-refusal.Learnt
-transaction_refusal_one κ a x y s t p q = agree p q
+pub check_size_one : OneResult check-size.Learnt
+check_size_one κ a x y s t p q = same_refusal p q
 
-pub tick_number_one : OneResult tick-number.Learnt
-tick_number_one κ a x y s t p q = agree p q
+pub check_rows_one : OneResult check-rows.Learnt
+check_rows_one κ a x y s t p q = same_refusal p q
+
+pub check_later_one : OneResult check-later.Learnt
+check_later_one κ a x y s t p q = same_refusal p q
+
+pub check_transaction_one : OneResult check-transaction.Learnt
+check_transaction_one κ a x y s t p q = same_refusal p q
+
+pub check_ticks_one : OneResult check-ticks.Learnt
+check_ticks_one κ a x y s t p q = same_refusal p q

@@ -1,4 +1,5 @@
 -- What a list of calls keeps beside soundness and size: the identity, and where each call is ticks or a refused transaction both marks.
+use Rattle.std.specs.Prelude.{None, Option, Some}
 use Prim.Native.Nat.{ℕ, zero, suc, ◌+◌}
 use mathlib.Core.Path.{◌≡◌, refl, subst⁻¹, ◌∙◌}
 use mathlib.Core.Bool.{Bool, true, false, cond}
@@ -7,8 +8,6 @@ use lib.ListN.{length}
 use lib.Dec.{eqb, ltb}
 use borrow.Author.Tests.{not-true}
 use Rattle.types.specs.declared.Operation.{Operation}
-use Rattle.types.specs.declared.Work.{Work}
-use Rattle.types.specs.declared.Work.TheVariants.{NoWork, At}
 use Rattle.types.specs.declared.Record.{Record}
 use Rattle.words.proofs.Tests.{and_l, and_r}
 use Rattle.paper.specs.Sizes.{array_bytes, rows_bytes}
@@ -42,10 +41,10 @@ module _ (p : Record) where
   worked_alike o true = record { identity = refl; armed = refl; asleep = refl }
   worked_alike o false = record { identity = refl; armed = refl; asleep = refl }
 
-  ticked_alike : (w : Work) → Alike p (ticked_at p w)
+  ticked_alike : (w : Option Operation) → Alike p (ticked_at p w)
   unfolding worked
-  ticked_alike NoWork = alike p
-  ticked_alike (At o) = worked_alike o (ltb (ticks_done o + 1) (ticks_in_all o p.part.blocks))
+  ticked_alike None = alike p
+  ticked_alike (Some o) = worked_alike o (ltb (ticks_done o + 1) (ticks_in_all o p.part.blocks))
 
 run_alike : (n : ℕ) (p : Record) → Alike p (record_after n p)
 run_alike zero p = alike p

@@ -1,4 +1,5 @@
 -- What ABh, 66h and 99h each make of a sound record, and what a power-up with a record's stored register bits gives.
+use Rattle.std.specs.Prelude.{None}
 use Prim.Native.Nat.{ℕ, ◌+◌, ◌*◌, ◌%◌}
 use mathlib.Core.Path.{◌≡◌, refl, ap, ◌∙◌}
 use mathlib.Core.Bool.{Bool, true, false, not}
@@ -8,7 +9,6 @@ use lib.Dec.{eqb}
 use borrow.Author.Tests.{not-true, eq-eqb}
 use Rattle.types.specs.declared.Phase.{Phase}
 use Rattle.types.specs.declared.Phase.TheVariants.{Idle}
-use Rattle.types.specs.declared.Work.TheVariants.{NoWork}
 use Rattle.types.specs.declared.Register.TheVariants.{Status, Function, Extended}
 use Rattle.types.specs.declared.Command.TheVariants.{Wake, ArmReset, Reset}
 use Rattle.types.specs.declared.Identity.{Identity}
@@ -35,7 +35,7 @@ use Rattle.paper.proofs.Answers.{executes, ignores, arm_number, reset_number}
 use Rattle.reset.specs.Closing.{wake, answer_to_reset}
 
 -- ABh is executed, but on a busy part ignored with 22
-wake_number : (p : Part) (f : Phase) (wp busy : Bool) → is_busy f ≡ busy → command_number (columns Wake) (addressing_on (columns Wake) p) NoWork p f (0xAB ∷ []) wp ≡ unless (not busy) 22
+wake_number : (p : Part) (f : Phase) (wp busy : Bool) → is_busy f ≡ busy → command_number (columns Wake) (addressing_on (columns Wake) p) None p f (0xAB ∷ []) wp ≡ unless (not busy) 22
 unfolding command_number ◌or◌ unless ◌or_else◌
 wake_number p f wp true e = rw e
 wake_number p f wp false e = rw e

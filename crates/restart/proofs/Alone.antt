@@ -1,4 +1,5 @@
 -- Where nothing runs but the erase of a unit and register writes, nothing else is written: each tick sets a page of the unit to FFh, or reaches nothing.
+use Rattle.std.specs.Prelude.{None, Option, Some}
 use Prim.Native.Nat.{ℕ, zero, suc, ◌+◌, ◌-◌, ◌*◌, ◌≤◌, ◌<◌}
 use mathlib.Core.Path.{◌≡◌, refl, sym, ap, ◌∙◌, subst, subst⁻¹}
 use mathlib.Core.Bool.{Bool, true, false}
@@ -9,8 +10,6 @@ use borrow.Author.Tests.{ltb-true, ltb-false}
 use Rattle.types.specs.declared.EraseUnit.{EraseUnit}
 use Rattle.types.specs.declared.Operation.{Operation}
 use Rattle.types.specs.declared.Operation.TheVariants.{Program, Erase, Write}
-use Rattle.types.specs.declared.Work.{Work}
-use Rattle.types.specs.declared.Work.TheVariants.{NoWork, At}
 use Rattle.types.specs.declared.Record.{Record}
 use Rattle.words.proofs.Tests.{and_l, and_r, and_in}
 use Rattle.words.proofs.Lists.{every_both}
@@ -62,24 +61,24 @@ module _ (u : EraseUnit) (a : ℕ) (p : Record) (s : sound p ≡ true) where
   base = unit_base u n a
 
   -- the tick of an operation after k
-  next_alone : (o : Operation) → NoOther u base (At o) → (k : ℕ) (g : List ℕ) → ticks_done o + k < ticks_in_all o n → nothing_else u n a (next_touch (advanced_by k o) g ∷ []) ≡ true
+  next_alone : (o : Operation) → NoOther u base (Some o) → (k : ℕ) (g : List ℕ) → ticks_done o + k < ticks_in_all o n → nothing_else u n a (next_touch (advanced_by k o) g ∷ []) ≡ true
   next_alone (Program m c b j d) h k g l = absurd h
   next_alone (Erase v c d) h k g l =
       ap (λ (o : Operation). nothing_else u n a (next_touch (advanced_by k o) g ∷ [])) h
       ∙ page_alone u n a (d + k) (subst (λ (o : Operation). d + k < ticks_in_all o n) h l)
   next_alone (Write r v) h k g l = none_alone u n a none refl
 
-  ran_alone : (o : Operation) → running p.phase ≡ At o → NoOther u base (At o) → (k : ℕ) (t : Bool) → ltb (ticks_done o + k) (ticks_in_all o n) ≡ t → nothing_else u n a (touch_of (record_after k p) ∷ []) ≡ true
+  ran_alone : (o : Operation) → running p.phase ≡ Some o → NoOther u base (Some o) → (k : ℕ) (t : Bool) → ltb (ticks_done o + k) (ticks_in_all o n) ≡ t → nothing_else u n a (touch_of (record_after k p) ∷ []) ≡ true
   ran_alone o e h k true f =
       ap (λ (t : Touch). nothing_else u n a (t ∷ [])) (run_touch p o e k (ltb-true _ _ f)) ∙ next_alone o h k p.page (ltb-true _ _ f)
   ran_alone o e h k false f =
       let l : ticks_in_all o n ≤ ticks_done o + k = ltb-false _ _ f in
       none_alone u n a (touch_of (record_after k p)) (ap touch_of (run_ends p o e s k (omega (arith, l))) ∙ past_touch p o e)
 
-  touch_alone : (w : Work) → running p.phase ≡ w → NoOther u base w → (k : ℕ) → nothing_else u n a (touch_of (record_after k p) ∷ []) ≡ true
-  touch_alone NoWork e h k =
-      none_alone u n a (touch_of (record_after k p)) (ap touch_of (rest_record p e k) ∙ ap (λ (w : Work). touch_at w p.page) e)
-  touch_alone (At o) e h k = ran_alone o e h k (ltb (ticks_done o + k) (ticks_in_all o n)) refl
+  touch_alone : (w : Option Operation) → running p.phase ≡ w → NoOther u base w → (k : ℕ) → nothing_else u n a (touch_of (record_after k p) ∷ []) ≡ true
+  touch_alone None e h k =
+      none_alone u n a (touch_of (record_after k p)) (ap touch_of (rest_record p e k) ∙ ap (λ (w : Option Operation). touch_at w p.page) e)
+  touch_alone (Some o) e h k = ran_alone o e h k (ltb (ticks_done o + k) (ticks_in_all o n)) refl
 
   ticks_alone : NoOther u base (running p.phase) → (k : ℕ) → nothing_else u n a (tick_touches k p) ≡ true
   ticks_alone h zero = alone_none u n a

@@ -1,13 +1,12 @@
 -- An erase that is cut and begun again, request 14: what happens to a part over several power-ups, what a cut is, and that nothing else is written.
-use Rattle.std.specs.Prelude.{ℕ, ◌+◌, ◌-◌, ◌≡◌, Bool, true, false, List, [], ◌∷◌, ◌++◌}
+use Rattle.types.specs.declared.Operation.{Operation}
+use Rattle.std.specs.Prelude.{ℕ, ◌+◌, ◌-◌, ◌≡◌, Bool, true, false, List, [], ◌∷◌, ◌++◌, None, Option, Some}
 use Rattle.types.specs.declared.Memory.{Memory}
 use Rattle.types.specs.declared.EraseUnit.{EraseUnit}
 use Rattle.types.specs.declared.Operation.TheVariants as o
 use Rattle.types.specs.declared.Operation.TheVariants.{Program, Erase}
 use Rattle.types.specs.declared.Stored.{Stored}
 use Rattle.types.specs.declared.PoweredUp.{PoweredUp}
-use Rattle.types.specs.declared.Work.{Work}
-use Rattle.types.specs.declared.Work.TheVariants.{NoWork, At}
 use Rattle.types.specs.declared.Record.{Record}
 use Rattle.words.specs.Logic.{◌and◌}
 use Rattle.words.specs.Lists.{every}
@@ -93,11 +92,11 @@ abbrev pub alone : Record → EraseUnit → ℕ → List Call → Bool
 alone p u a cs = nothing_else u p.part.blocks a (history cs p)
 
 -- what runs, if anything does, is the erase of the unit u that begins at b, or a register write
-abbrev pub NoOther : EraseUnit → ℕ → Work → Type 0
-NoOther u b NoWork = Unit {0}
-NoOther u b (At (Program m s c k d)) = ⊥
-NoOther u b (At (Erase v c d)) = Erase v c d ≡ Erase u b d
-NoOther u b (At (o.Write r v)) = Unit {0}
+abbrev pub NoOther : EraseUnit → ℕ → Option Operation → Type 0
+NoOther u b None = Unit {0}
+NoOther u b (Some (Program m s c k d)) = ⊥
+NoOther u b (Some (Erase v c d)) = Erase v c d ≡ Erase u b d
+NoOther u b (Some (o.Write r v)) = Unit {0}
 
 -- so before each of the calls; and over events
 abbrev pub RunsAlone : EraseUnit → ℕ → List Call → Record → Type 0

@@ -1,46 +1,14 @@
--- Where two runs of bytes differ: what an OR over them says, and a chunk after the other.
-use Prim.Native.Nat.{ℕ, suc, ◌+◌, ◌-◌, ◌*◌, ◌<◌, ◌≤◌}
-use mathlib.Core.Path.{◌≡◌, refl, sym, ◌∙◌}
-use mathlib.Core.Bool.{Bool, true, false, not}
-use mathlib.Core.List.{List}
-use native.Mathlib.Omega.{arith}
-use borrow.Author.Tests.{eqb-true, eq-eqb, ltb-true, ltb-false, lt-ltb, le-ltb, leb-true, leb-false}
-use lib.Bits.{bit_or, bit_xor, bit_and, xor_self, xor_add_and, and_le_l, and_le_r}
-use lib.Dec.{eqb, ltb, leb}
-use lib.ListN.{length, take, drop, get_or, length-take, length-drop}
-use lib.Seq.{get_or-take, get_or-drop}
-use Rattle.words.specs.Logic.{◌and◌, ◌or◌}
+-- Where two runs of bytes differ, a chunk after the other.
+use Rattle.std.proofs.Common.{◌≡◌, ◌≢◌, ℕ, suc, ◌+◌, ◌-◌, ◌<◌, ◌≤◌, Bool, true, false, not, List, ◌++◌, length, take, drop, get_or, refl, sym, ap, ◌∙◌, arith, min, length-append, length-take, length-drop, eqb-true, eq-eqb, leb-true, leb-false}
+use Rattle.std.proofs.Math.Seq.{get_or-take, get_or-drop, drop-append_seam, drop-drop}
+use Rattle.std.proofs.Math.ListN.{get_or-append}
+use Rattle.std.proofs.lemmas.List.{ext_get_or}
+use borrow.Author.Tests.{not-false}
+use lib.Dec.{leb}
 use Rattle.words.specs.Lists.{first_of, differ_at}
-use Rattle.words.proofs.Tests.{same_tests}
-use Rattle.words.proofs.Zeros.{or_zero}
-use Rattle.words.proofs.Search.{first_found, first_new, first_le, first_none, first_at, first_before, first_passes, first_same}
-
--- an XOR is zero where both are the same
-xor_zero : (a b : ℕ) → eqb (bit_xor a b) 0 ≡ eqb a b
-xor_zero a b =
-    let s : bit_xor a b + bit_and a b * 2 ≡ a + b = xor_add_and a b in
-    let l : bit_and a b ≤ a = and_le_l a b in
-    let r : bit_and a b ≤ b = and_le_r a b in
-    same_tests _ _ (λ e. let z : bit_xor a b ≡ 0 = eqb-true _ _ e in eq-eqb a b (omega arith)) (λ e. rw (eqb-true a b e, xor_self) refl)
-
-not_both : (a b : Bool) → not (a and b) ≡ (not a or not b)
-unfolding ◌and◌ ◌or◌
-not_both true b = refl
-not_both false b = refl
+use Rattle.words.proofs.Search.{first_none, first_at, first_before, first_passes, first_same}
 
 module _ (test : ℕ → Bool) where
-  -- one of a number more passes
-  some_next_as : (n : ℕ) (t u : Bool) → ltb (first_of n test) n ≡ t → test n ≡ u → ltb (first_of (suc n) test) (suc n) ≡ (t or u)
-  unfolding ◌or◌
-  some_next_as n true u e f =
-      let l : first_of n test < n = ltb-true _ _ e in
-      rw (first_found test n l) (lt-ltb (first_of n test) (suc n) (omega arith))
-  some_next_as n false true e f = rw (first_new test n (ltb-false _ _ e), f) (lt-ltb n (suc n) (omega arith))
-  some_next_as n false false e f = rw (first_new test n (ltb-false _ _ e), f) (le-ltb (suc n) (suc n) (omega arith))
-
-  some_next : (n : ℕ) → ltb (first_of (suc n) test) (suc n) ≡ (ltb (first_of n test) n or test n)
-  some_next n = some_next_as n (ltb (first_of n test) n) (test n) refl refl
-
   -- none of the first i passes
   module _ (i : ℕ) (none : first_of i test ≡ i) where
     none_before_as : (m j : ℕ) (t : Bool) → leb (suc j) i ≡ t → ((k : ℕ) → k < m → test (i + k) ≡ false) → j < i + m → test j ≡ false
@@ -62,43 +30,79 @@ module _ (test : ℕ → Bool) where
     found_after n k l h =
         first_at test n (i + first_of k (λ (j : ℕ). test (i + j))) (omega arith) (first_passes (λ (j : ℕ). test (i + j)) k l) (none_before _ (first_before _ k))
 
--- one pair of bytes more is looked at
-pub differ_more : (xs ys : List ℕ) (any i : ℕ) → not (eqb any 0) ≡ ltb (first_of i (differ_at xs ys)) i → not (eqb (bit_or any (bit_xor (get_or xs i 0) (get_or ys i 0))) 0) ≡ ltb (first_of (suc i) (differ_at xs ys)) (suc i)
-differ_more xs ys any i e =
-    rw (or_zero, xor_zero, some_next (differ_at xs ys) i, ← e) (not_both _ _)
+-- a chunk x of a run, cut off the front of what is left of its first n bytes behind the place at
+module _ (a : List ℕ) (n at : ℕ) (x u : List ℕ) (fits : n ≤ length a) (inside : at ≤ n) (cut : drop at (take n a) ≡ x ++ u) where
+  left_length : length (drop at (take n a)) ≡ n - at
+  left_length = simp (length-drop, length-take) (omega arith)
 
-chunk_length : (xs : List ℕ) (i k m : ℕ) → m ≡ k → i + k ≤ length xs → length (take m (drop i xs)) ≡ k
-chunk_length xs i k m e fits = rw e (simp (length-take, length-drop) (omega arith))
+  chunk_room : at + length x ≤ n
+  chunk_room =
+      let l : length x + length u ≡ n - at = sym (length-append x u) ∙ sym (ap length cut) ∙ left_length in
+      omega (arith, l)
 
--- chunks of two runs are as long as each other
-pub same_chunks : (xs ys : List ℕ) (i k m : ℕ) → m ≡ k → i + k ≤ length xs → i + k ≤ length ys → length (take m (drop i ys)) ≡ length (take m (drop i xs))
-same_chunks xs ys i k m e f g = chunk_length ys i k m e g ∙ sym (chunk_length xs i k m e f)
+  chunk_left : u ≡ drop (at + length x) (take n a)
+  chunk_left = sym (drop-append_seam x u) ∙ ap (drop (length x)) (sym cut) ∙ rw drop-drop
 
--- a chunk of two runs, where nothing differs before it
-module _ (xs ys : List ℕ) (i k m : ℕ) (e : m ≡ k) (fits : i + k ≤ length xs) (none : first_of i (differ_at xs ys) ≡ i) where
-  -- the first place in it
-  abbrev within : ℕ
-  within = first_of (length (take m (drop i xs))) (differ_at (take m (drop i xs)) (take m (drop i ys)))
+  chunk_item : (j : ℕ) → j < length x → get_or x j 0 ≡ get_or a (at + j) 0
+  chunk_item j l =
+      sym (get_or-append x u 0 j l) ∙ ap (λ (r : List ℕ). get_or r j 0) (sym cut) ∙ get_or-drop at (take n a) j 0 ∙ get_or-take n a (at + j) 0 (omega (arith, chunk_room))
 
-  so_long : length (take m (drop i xs)) ≡ k
-  so_long = chunk_length xs i k m e fits
+-- chunks x and y of two runs a and b, cut so at the same place; u and v are left behind them
+pub record Chunks (a b : List ℕ) (n at : ℕ) (x y u v : List ℕ) : Type 0 where
+  pub same : length y ≡ length x
+  pub room : at + length x ≤ n
+  pub left_a : u ≡ drop (at + length x) (take n a)
+  pub left_b : v ≡ drop (at + length x) (take n b)
+  -- where they are equal, nothing differs in them either
+  pub equal : x ≡ y → first_of (at + length x) (differ_at a b) ≡ at + length x
+  -- where they are not, the first place in them is the first of all
+  pub unequal : x ≢ y → at + first_of (length x) (differ_at x y) ≡ first_of n (differ_at a b)
 
-  within_is : within ≡ first_of k (λ (j : ℕ). differ_at xs ys (i + j))
-  within_is =
-      rw (so_long, e) (first_same _ _ k (λ j l. rw (get_or-take k (drop i xs) j 0 l, get_or-take k (drop i ys) j 0 l, get_or-drop i xs j 0, get_or-drop i ys j 0) refl))
+module _ (a b x y : List ℕ) (at : ℕ) (item_a : (j : ℕ) → j < length x → get_or x j 0 ≡ get_or a (at + j) 0) (item_b : (j : ℕ) → j < length y → get_or y j 0 ≡ get_or b (at + j) 0)
+    (same : length y ≡ length x) (none : first_of at (differ_at a b) ≡ at) where
+  within_is : first_of (length x) (differ_at x y) ≡ first_of (length x) (λ (j : ℕ). differ_at a b (at + j))
+  within_is = first_same _ _ (length x) (λ j l. rw (item_a j l, item_b j (omega arith)))
 
-  pub within_le : within ≤ k
-  within_le = rw within_is (first_le _ k)
+  chunk_equal : x ≡ y → first_of (at + length x) (differ_at a b) ≡ at + length x
+  chunk_equal e =
+      none_more (differ_at a b) at none (length x) (sym within_is ∙ first_none (differ_at x y) (length x) (λ j l. ap not (eq-eqb _ _ (ap (λ (r : List ℕ). get_or r j 0) e))))
 
-  -- it is the first place of both
-  pub chunk_differs : (n : ℕ) → i + k ≤ n → ltb within (length (take m (drop i xs))) ≡ true → i + within ≡ first_of n (differ_at xs ys)
-  chunk_differs n h t =
-      let l : within < length (take m (drop i xs)) = ltb-true _ _ t in
-      rw within_is (sym (found_after (differ_at xs ys) i none n k (rw (← within_is, ← so_long) l) h))
+  some_place : (t : Bool) → leb (suc (first_of (length x) (differ_at x y))) (length x) ≡ t → x ≢ y → first_of (length x) (differ_at x y) < length x
+  some_place true e ne = leb-true _ _ e
+  some_place false e ne =
+      let g : length x < suc (first_of (length x) (differ_at x y)) = leb-false _ _ e in
+      absurd (ne (ext_get_or 0 x y (sym same) (λ j l. eqb-true _ _ (not-false _ (first_before (differ_at x y) (length x) j (omega (arith, g, l)))))))
 
-  -- or nothing differs in it either
-  pub chunk_same : ltb within (length (take m (drop i xs))) ≡ false → first_of (i + k) (differ_at xs ys) ≡ i + k
-  chunk_same t =
-      let g : length (take m (drop i xs)) ≤ within = ltb-false _ _ t in
-      let w : within ≡ k = omega (arith, so_long, within_le) in
-      none_more (differ_at xs ys) i none k (sym within_is ∙ w)
+  chunk_unequal : (n : ℕ) → at + length x ≤ n → x ≢ y → at + first_of (length x) (differ_at x y) ≡ first_of n (differ_at a b)
+  chunk_unequal n h ne =
+      rw within_is (sym (found_after (differ_at a b) at none n (length x) (rw (← within_is) (some_place _ refl ne)) h))
+
+-- what two iterators of chunks of k bytes have left, and what they give of it
+pub chunks : (a b : List ℕ) (n at k : ℕ) (p q x y u v : List ℕ) (s t : ℕ) → n ≡ min (length a) (length b) → at ≤ n → first_of at (differ_at a b) ≡ at
+    → p ≡ drop at (take n a) → q ≡ drop at (take n b) → s ≡ k → t ≡ k
+    → p ≡ x ++ u → q ≡ y ++ v → length x ≡ min s (length p) → length y ≡ min t (length q) → Chunks a b n at x y u v
+chunks a b n at k p q x y u v s t shorter inside none ep eq es et px qy lx ly =
+    let fa : n ≤ length a = omega arith in
+    let fb : n ≤ length b = omega (arith, shorter) in
+    let ca = sym ep ∙ px in
+    let cb = sym eq ∙ qy in
+    let lp : length p ≡ n - at = ap length ep ∙ left_length a n at x u fa inside ca in
+    let lq : length q ≡ n - at = ap length eq ∙ left_length b n at y v fb inside cb in
+    let same : length y ≡ length x = rw (lx, ly, lp, lq, es, et) in
+    let room = chunk_room a n at x u fa inside ca in
+    let ia = chunk_item a n at x u fa inside ca in
+    let ib = chunk_item b n at y v fb inside cb in
+    record {
+      same = same;
+      room = room;
+      left_a = chunk_left a n at x u fa inside ca;
+      left_b = rw (← same) (chunk_left b n at y v fb inside cb);
+      equal = chunk_equal a b x y at ia ib same none;
+      unequal = chunk_unequal a b x y at ia ib same none n room;
+    }
+
+-- where no chunk is left, all n are behind
+pub none_left : (a p : List ℕ) (n at : ℕ) → n ≤ length a → at ≤ n → p ≡ drop at (take n a) → length p ≡ 0 → at ≡ n
+none_left a p n at fits inside e z =
+    let l : length p ≡ n - at = ap length e ∙ simp (length-drop, length-take) (omega arith) in
+    omega (arith, l, z)

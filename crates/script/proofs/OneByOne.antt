@@ -1,4 +1,4 @@
--- Steps one after the other: where each lies in the buffers, what it makes of the script's values and of a map, and that a script which has stopped stays so.
+-- Steps one after the other: where each lies in the buffers, what it makes of the script's values, of a map and of wear records, and that a script which has stopped stays so.
 use Prim.Native.Nat.{ℕ, zero, suc, ◌+◌, ◌≤◌, ◌<◌}
 use mathlib.Core.Path.{◌≡◌, refl, sym, ap, ◌∙◌}
 use mathlib.Core.Bool.{Bool, true, false}
@@ -9,13 +9,15 @@ use borrow.Author.Tests.{eq-eqb, ne_eqb, leb-true, leb-false}
 use lib.Dec.{leb}
 use lib.ListN.{length, get_or, set}
 use Rattle.types.specs.declared.Identity.{Identity}
+use Rattle.types.specs.declared.Wear.{Wear}
 use Rattle.words.specs.Logic.{when_zero}
 use Rattle.words.specs.Lists.{sum_to, between, put_between}
 use Rattle.words.proofs.Sums.{sum_within}
 use Rattle.paper.specs.History.{Call}
 use Rattle.paper.specs.Board.{board_of}
 use Rattle.paper.specs.Script.{Script, Scripted, step_calls, Made, made, calls_at, stepped, after_steps}
-use Rattle.paper.specs.Map.{MapScripted, map_after_calls, map_steps}
+use Rattle.paper.specs.Map.{map_after_calls, map_steps}
+use Rattle.paper.specs.Wear.{wear_after_calls, wear_steps}
 use Rattle.record_bytes.specs.Read.{record_in}
 use Rattle.script.specs.declared.State.{State}
 use Rattle.script.specs.Steps.{world, turned, Ready, Fit}
@@ -49,18 +51,27 @@ module _ (s : Script) (k : ℕ) (w : Scripted) where
   pub calls_are : (at n : ℕ) → at ≡ sum_to s.lengths k → n ≡ get_or s.lengths k 0 → calls_from at n ≡ calls_at s k w
   calls_are at n ea en = ap (λ (b : ℕ). calls_from b n) ea ∙ ap (calls_from (sum_to s.lengths k)) en
 
-module _ (s : Script) (w₀ : MapScripted) where
+-- a script's values, with a map and wear records
+pub record Kept : Type 0 where
+  pub run : Scripted
+  pub map : List ℕ
+  pub wear : List Wear
+
+module _ (s : Script) (w₀ : Kept) where
   -- the first k steps, and one step more
-  abbrev after : ℕ → MapScripted
-  after k = record { run = after_steps s k w₀.run; map = map_steps s k w₀.run w₀.map }
+  abbrev after : ℕ → Kept
+  after k =
+      record { run = after_steps s k w₀.run; map = map_steps s k w₀.run w₀.map; wear = wear_steps s k w₀.run w₀.wear }
 
-  abbrev once : ℕ → MapScripted → MapScripted
-  once k v = record { run = turned s k v.run; map = map_after_calls (calls_at s k v.run) v.run.board v.map }
+  abbrev once : ℕ → Kept → Kept
+  once k v =
+      record { run = turned s k v.run; map = map_after_calls (calls_at s k v.run) v.run.board v.map; wear = wear_after_calls (calls_at s k v.run) v.run.board v.wear }
 
-  abbrev onward : ℕ → MapScripted → MapScripted
-  onward k v = record { run = when_zero v.run.number (once k v).run v.run; map = when_zero v.run.number (once k v).map v.map }
+  abbrev onward : ℕ → Kept → Kept
+  onward k v =
+      record { run = when_zero v.run.number (once k v).run v.run; map = when_zero v.run.number (once k v).map v.map; wear = when_zero v.run.number (once k v).wear v.wear }
 
-  pub step_on : (k : ℕ) (w v : MapScripted) → w ≡ after k → w.run.number ≡ 0 → v ≡ once k w → v ≡ after (k + 1)
+  pub step_on : (k : ℕ) (w v : Kept) → w ≡ after k → w.run.number ≡ 0 → v ≡ once k w → v ≡ after (k + 1)
   step_on k w v e go ev =
       let on : once k w ≡ onward k w = rw (eq-eqb w.run.number 0 go) refl in
       rw add-one (ev ∙ on ∙ ap (onward k) e)
@@ -80,8 +91,8 @@ module _ (s : Script) (w₀ : MapScripted) where
   stays k (suc n) h stop = stays_by k n h (λ (l : k ≤ n). stays k n l stop) stop (leb k n) refl
 
 -- what the loop carries after k steps
-pub record Along (id : Identity) (s : Script) (k : ℕ) (w₀ : MapScripted) (q : State) (bs xs rs o n d m : List ℕ) : Type 0 where
-  pub told : record { run = world q bs xs rs o n d; map = m } ≡ after s w₀ k
+pub record Along (id : Identity) (s : Script) (k : ℕ) (w₀ : Kept) (q : State) (bs xs rs o n d m : List ℕ) (ws : List Wear) : Type 0 where
+  pub told : record { run = world q bs xs rs o n d; map = m; wear = ws } ≡ after s w₀ k
   pub within : k ≤ length s.lengths
   pub going : q.number ≡ 0
   pub at : q.at ≡ sum_to s.lengths k
@@ -93,38 +104,23 @@ pub record Along (id : Identity) (s : Script) (k : ℕ) (w₀ : MapScripted) (q 
   pub answers : length n ≡ length w₀.run.answers
   pub done : length d ≡ length w₀.run.done
   pub map : length m ≡ length w₀.map
+  pub wear : length ws ≡ length w₀.wear
 
-module _ (id : Identity) (s : Script) (k : ℕ) (w₀ : MapScripted) (q : State) (bs xs rs o n d m : List ℕ) (l : Along id s k w₀ q bs xs rs o n d m) where
-  pub fit_along : Fit s (length w₀.run.output) (length w₀.run.answers) (length w₀.run.done) → Fit s (length o) (length n) (length d)
-  fit_along f =
-      record { ticks = f.ticks; answers = l.answers ∙ f.answers; done = l.done ∙ f.done; output = l.output ∙ f.output; sum = f.sum }
-
-  -- after the last step
-  pub all_made : length s.lengths ≤ k → record { run = world q bs xs rs o n d; map = m } ≡ after s w₀ (length s.lengths)
-  all_made h =
-      let e : k ≡ length s.lengths = omega (arith, l.within) in
-      l.told ∙ ap (after s w₀) e
-
+module _ {id : Identity} {s : Script} {k : ℕ} {w₀ : Kept} {q : State} {bs xs rs o n d m : List ℕ} {ws : List Wear} (l : Along id s k w₀ q bs xs rs o n d m ws) where
   -- after one more
-  module _ (h : k < length s.lengths) (q' : State) (bs' xs' rs' o' n' d' m' : List ℕ) (e : world q' bs' xs' rs' o' n' d' ≡ turned s k (world q bs xs rs o n d))
-      (em : m' ≡ map_after_calls (calls_at s k (world q bs xs rs o n d)) (board_of (record_in bs).state xs rs) m) where
-    abbrev next : MapScripted
-    next = record { run = world q' bs' xs' rs' o' n' d'; map = m' }
+  module _ (h : k < length s.lengths) (q' : State) (bs' xs' rs' o' n' d' m' : List ℕ) (ws' : List Wear) (e : world q' bs' xs' rs' o' n' d' ≡ turned s k (world q bs xs rs o n d))
+      (em : m' ≡ map_after_calls (calls_at s k (world q bs xs rs o n d)) (board_of (record_in bs).state xs rs) m)
+      (ew : ws' ≡ wear_after_calls (calls_at s k (world q bs xs rs o n d)) (board_of (record_in bs).state xs rs) ws) where
+    abbrev next : Kept
+    next = record { run = world q' bs' xs' rs' o' n' d'; map = m'; wear = ws' }
 
     told_on : next ≡ after s w₀ (k + 1)
     told_on =
-        let w : MapScripted = record { run = world q bs xs rs o n d; map = m } in
-        step_on s w₀ k w next l.told l.going (ap (λ (v : Scripted). record { run = v; map = m' }) e ∙ ap (λ (y : List ℕ). record { run = turned s k w.run; map = y }) em)
+        let w : Kept = record { run = world q bs xs rs o n d; map = m; wear = ws } in
+        step_on s w₀ k w next l.told l.going (ap (λ (v : Scripted). record { run = v; map = m'; wear = ws' }) e ∙ ap (λ (y : List ℕ). record { run = turned s k w.run; map = y; wear = ws' }) em ∙ ap (λ (y : List Wear). record { run = turned s k w.run; map = (once s w₀ k w).map; wear = y }) ew)
 
     -- which stops the script
     pub stopped_at : (q'.number ≡ 0 → ⊥) → next ≡ after s w₀ (length s.lengths)
     stopped_at stop =
-        let off : (after s w₀ (k + 1)).run.number ≡ 0 → ⊥ = λ z. stop (ap (λ (v : MapScripted). v.run.number) told_on ∙ z) in
+        let off : (after s w₀ (k + 1)).run.number ≡ 0 → ⊥ = λ z. stop (ap (λ (v : Kept). v.run.number) told_on ∙ z) in
         told_on ∙ sym (stays s w₀ (k + 1) (length s.lengths) (omega arith) off)
-
-    -- or does not
-    pub one_more : q'.number ≡ 0 → q'.at ≡ sum_to s.lengths (k + 1) → Ready bs' (length xs) (length rs) → id ≡ (record_in bs').state.identity
-        → length xs' ≡ length xs → length rs' ≡ length rs → length o' ≡ length o → length n' ≡ length n → length d' ≡ length d → length m' ≡ length m
-        → Along id s (k + 1) w₀ q' bs' xs' rs' o' n' d' m'
-    one_more go at ready same ex er eo en ed em' =
-        record { told = told_on; within = omega arith; going = go; at = at; ready = rw (ex, er) ready; identity = same; array = ex ∙ l.array; rows = er ∙ l.rows; output = eo ∙ l.output; answers = en ∙ l.answers; done = ed ∙ l.done; map = em' ∙ l.map }

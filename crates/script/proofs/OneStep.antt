@@ -1,4 +1,5 @@
 -- One step on a record in its bytes: what its transaction and its ticks write there is what the calls make of the record. They leave the bytes of a sound record, and its own memory.
+use Rattle.std.specs.Prelude.{None, Option, Some}
 use Prim.Native.Nat.{ℕ, zero, suc, ◌≤◌, min}
 use mathlib.Core.Path.{◌≡◌, refl, sym, ap, subst, ◌∙◌}
 use mathlib.Core.Bool.{Bool, true, false, cond}
@@ -13,8 +14,6 @@ use Rattle.types.specs.declared.Change.{Change}
 use Rattle.types.specs.declared.Change.TheVariants.{Same, Runs}
 use Rattle.types.specs.declared.Data.TheVariants.{Kept, Zero}
 use Rattle.types.specs.declared.Operation.{Operation}
-use Rattle.types.specs.declared.Work.{Work}
-use Rattle.types.specs.declared.Work.TheVariants.{NoWork, At}
 use Rattle.types.specs.declared.Identity.{Identity}
 use Rattle.types.specs.declared.Part.{Part}
 use Rattle.types.specs.declared.Phase.{Phase}
@@ -83,13 +82,13 @@ ticked_number_le p a r t = ticked_number_as p a r t (eqb (tick_number p.part.blo
 
 -- ticks change nothing, or what runs
 runs_as : (k : ℕ) (o : Operation) (p : Part) (f : Phase) (t : Bool)
-    → OnlyRuns (cond {A = Change} t (Runs (finished_part p f o) Zero NoWork) (Runs p Kept (At (advanced_by k o))))
+    → OnlyRuns (cond {A = Change} t (Runs (finished_part p f o) Zero None) (Runs p Kept (Some (advanced_by k o))))
 runs_as k o p f true = tt
 runs_as k o p f false = tt
 
-runs_in : (n : ℕ) (w : Work) (p : Part) (f : Phase) → OnlyRuns (tick_change n w p f)
-runs_in n NoWork p f = tt
-runs_in n (At o) p f =
+runs_in : (n : ℕ) (w : Option Operation) (p : Part) (f : Phase) → OnlyRuns (tick_change n w p f)
+runs_in n None p f = tt
+runs_in n (Some o) p f =
     let k = min n (ticks_left o p.blocks) in
     runs_as k o p f (eqb k (ticks_left o p.blocks))
 
@@ -147,9 +146,9 @@ module _ (bs xs rs : List ℕ) (h : Ready bs (length xs) (length rs)) where
             ∙ ap (λ (s : Bool). waited_of before.part before.phase s (length xs) (length rs) t) (sym h.is_sound))
             ∙ ticked_told before (length xs) (length rs) t
 
-        pub waits_told : (w : Work) → w ≡ running f → ◌≡◌ {A = Worked} record { number = u.number; reached = record { work = w; count = u.done } } (worked_of before (length xs) (length rs) t)
+        pub waits_told : (w : Option Operation) → w ≡ running f → ◌≡◌ {A = Worked} record { number = u.number; reached = record { work = w; count = u.done } } (worked_of before (length xs) (length rs) t)
         waits_told w ew =
-            ap (λ (v : Work). record { number = u.number; reached = record { work = v; count = u.done } }) (ew ∙ ap running phase_is)
+            ap (λ (v : Option Operation). record { number = u.number; reached = record { work = v; count = u.done } }) (ew ∙ ap running phase_is)
             ∙ ap (λ (x : Ticked). record { number = x.number; reached = reached before x }) waited_is
 
         pub waits_held : (bs' : List ℕ) → bs' ≡ change_written u.change [] bs → record_in bs' ≡ held waits.next
@@ -237,7 +236,7 @@ module _ (bs xs rs : List ℕ) (h : Ready bs (length xs) (length rs)) where
           pub stopped_wears : (k : ℕ) → k ≡ stopping u.number → (k ≡ 0 → ⊥) → Wears nothing (step_calls wp i board (length o) t) board
           stopped_wears k ek stop ws =
               let off : stopping sent.number ≡ 0 → ⊥ = λ z. stop (ek ∙ ap stopping number_is ∙ z) in
-              rw (ne_eqb _ _ off) (empty_worn (tally_of nothing) (none_tallied NoWork) ws)
+              rw (ne_eqb _ _ off) (empty_worn (tally_of nothing) (none_tallied None) ws)
 
           -- it does not: then what its ticks give is the step's
           module _ (go : stopping u.number ≡ 0) (w : Worked) (bs'' xs' rs' : List ℕ) (ew : w ≡ worked_of (record_in bs').state (length xs) (length rs) t) (eh : record_in bs'' ≡ held (ticked (record_in bs').state (length xs) (length rs) t).next)

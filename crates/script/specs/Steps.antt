@@ -1,14 +1,11 @@
 -- The steps of a script in code: the record stays in its bytes. What steps must find, and what they carry and are lent, as the script's own values.
-use Rattle.std.specs.Prelude.{ℕ, ◌≡◌, true, List, length}
+use Rattle.std.specs.Prelude.{ℕ, ◌≡◌, true, List, eqb, length}
 use Rattle.types.specs.declared.Change.{Change}
 use Rattle.types.specs.declared.Change.TheVariants.{Same, Marked, Live, Anew, Runs, Halts, GoesOn, Clears}
 use Rattle.types.specs.declared.Record.{Record}
 use Rattle.types.specs.declared.Reached.{Reached}
 use Rattle.types.specs.declared.Worked.{Worked}
 use Rattle.types.specs.declared.Wear.{Wear}
-use Rattle.types.specs.declared.Tally.{Tally}
-use Rattle.types.specs.declared.Identity.{Identity}
-use Rattle.words.specs.Logic.{when_zero}
 use Rattle.words.specs.Lists.{sum_to}
 use Rattle.paper.specs.Sizes.{array_bytes, rows_bytes}
 use Rattle.paper.specs.Soundness.{sound}
@@ -16,15 +13,14 @@ use Rattle.paper.specs.Reached.{reached}
 use Rattle.paper.specs.Calls.{ticked}
 use Rattle.paper.specs.History.{Call}
 use Rattle.paper.specs.Board.{Board, board_of}
-use Rattle.paper.specs.Script.{Script, Scripted, Made, made_at, calls_at, stepped}
+use Rattle.paper.specs.Script.{Script, Scripted, Made, made_at, stepped}
 use Rattle.paper.specs.Map.{map_after_calls}
-use Rattle.paper.specs.Wear.{no_tally, tally_of, worn, wear_after_calls}
+use Rattle.paper.specs.Wear.{tally_of, worn, wear_after_calls}
 use Rattle.blank_map.specs.Marked.{marked}
-use Rattle.record_bytes.specs.Layout.{record_bytes}
 use Rattle.record_bytes.specs.Read.{record_in}
 use Rattle.script.specs.declared.Stepped.{Stepped}
 use Rattle.script.specs.declared.State.{State}
-use Rattle.script.specs.declared.Counting.{Counting}
+use Rattle.script.specs.declared.Script.{Script as Lent}
 
 -- bytes that hold a sound record, with an array of a and rows of r bytes, which are its own
 pub record Ready (bs : List ℕ) (a r : ℕ) : Type 0 where
@@ -61,6 +57,10 @@ Marks r xs cs b = (m : List ℕ) → marked r xs m ≡ map_after_calls cs b m
 abbrev pub Wears : Reached → List Call → Board → Type 0
 Wears r cs b = (ws : List Wear) → worn (tally_of r) ws ≡ wear_after_calls cs b ws
 
+-- a script as it is lent
+abbrev pub script_in : Lent → Script
+script_in s = record { wp = eqb s.wp 1; input = s.input.now; lengths = s.lengths.now; ticks = s.ticks.now }
+
 -- where a script is, with these, the output and the two lists
 abbrev pub world : State → List ℕ → List ℕ → List ℕ → List ℕ → List ℕ → List ℕ → Scripted
 world q bs xs rs o n d =
@@ -77,36 +77,3 @@ pub record Fit (s : Script) (o n d : ℕ) : Type 0 where
   pub done : d ≡ length s.lengths
   pub output : o ≡ length s.input
   pub sum : sum_to s.lengths (length s.lengths) ≡ length s.input
-
--- Steps that count wear: where a script is, with what they carry
-abbrev pub counted : Counting → List ℕ → List ℕ → List ℕ → List ℕ → List ℕ → List ℕ → Scripted
-counted q bs xs rs o n d = world (record { number = q.number; step = q.step; at = q.at }) bs xs rs o n d
-
--- what they carry, with nothing counted
-abbrev pub uncounted : ℕ → ℕ → ℕ → Counting
-uncounted number step at = record { number = number; step = step; at = at; tally = no_tally }
-
--- where a script is after turn k: after the stop, where it was
-abbrev pub turned_on : Script → ℕ → Scripted → Scripted
-turned_on s k w = when_zero w.number (turned s k w) w
-
--- what turn k counts: wear records that are worn by it are as after the step's calls; after the stop, as they were
-abbrev pub Counts : Tally → Script → ℕ → Scripted → Type 0
-Counts t s k w =
-    (ws : List Wear) → worn t ws ≡ when_zero w.number (wear_after_calls (calls_at s k w) w.board ws) ws
-
--- what turn k finds: where its step begins, unless the script has stopped, and a sound record of this identity in its bytes, with its own memory
-pub record Going (id : Identity) (s : Script) (k : ℕ) (q : Counting) (bs : List ℕ) (a r : ℕ) : Type 0 where
-  pub at : q.number ≡ 0 → q.at ≡ sum_to s.lengths k
-  pub ready : Ready bs a r
-  pub identity : id ≡ (record_in bs).state.identity
-
--- what so many turns find, of a script with an output and two lists of o, n and d bytes or entries
-pub record Begins (id : Identity) (s : Script) (count : ℕ) (q : Counting) (bs : List ℕ) (a r o n d : ℕ) : Type 0 where
-  pub fit : Fit s o n d
-  pub steps : count ≡ length s.lengths
-  pub going : Going id s 0 q bs a r
-
--- the record's bytes after k turns that came to w: before the first, as they were
-abbrev pub bytes_after : ℕ → List ℕ → Scripted → List ℕ
-bytes_after k bs w = when_zero k bs (record_bytes w.board.state)

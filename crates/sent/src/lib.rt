@@ -9,13 +9,13 @@ ghost use Rattle.paper.specs.Erase.{erase_of};
 ghost use Rattle.paper.specs.Registers.{write_of};
 ghost use Rattle.paper.specs.Commands.{begins};
 
-use types::{Addressing, Effect, EraseUnit, Memory, Operation, Register, Work};
+use types::{Addressing, Effect, EraseUnit, Memory, Operation, Register};
 
-// The byte at a place of the input, 0 where none was sent.
+// The byte at a place of the input, 0 where none was sent, as the definitions read it.
 pub fn byte_at(input: &[u8], place: usize) -> u8
     ensures { result ≡ get_or input.now place 0 }
 {
-    if place < input.len() { input[place] } else { 0 }
+    input.get(place).copied().unwrap_or(0)
 }
 
 // The address as it was sent.
@@ -24,23 +24,22 @@ fn address_as_sent(form: Addressing, input: &[u8]) -> usize
 {
     match form {
         Addressing::Three(upper) => {
-            let bank = (words::bit_of(upper) as usize) * types::BANK_BYTES;
+            let bank = usize::from(upper) * types::BANK_BYTES;
             bank + address::address_sent(input, 3)
         }
         Addressing::Four => address::address_sent(input, 4),
     }
 }
 
-// A: the address taken modulo the array size. (A part of no blocks does not exist; there it is the address as sent.)
+// A: the address taken modulo the array size. (A part of no blocks does not exist; there it is the address as sent.) Form,
+// size and input are apart here and below, as the definitions take them.
+#[tactic(auto, unfolding(paper::specs::Address::address_in))]
 pub fn address_in(form: Addressing, blocks: u16, input: &[u8]) -> usize
     ensures { result ≡ address_in form blocks input.now }
 {
     let a = address_as_sent(form, input);
-    let size = (blocks as usize) * types::BLOCK_BYTES;
-    if size == 0 {
-        return a;
-    }
-    a % size
+    let size = usize::from(blocks) * types::BLOCK_BYTES;
+    if size == 0 { a } else { a % size }
 }
 
 // The place of a row address: behind the code, or behind a fourth byte.
@@ -67,11 +66,7 @@ fn fourth_ok(form: Addressing, input: &[u8]) -> bool
 fn names_row(byte: u8) -> bool
     ensures { result ≡ names_row byte }
 {
-    let row_0 = byte == 0x00;
-    let row_1 = byte == 0x10;
-    let row_2 = byte == 0x20;
-    let row_3 = byte == 0x30;
-    words::either(row_0, words::either(row_1, words::either(row_2, row_3)))
+    matches!(byte, 0x00 | 0x10 | 0x20 | 0x30)
 }
 
 // Whether the address that was sent is a row address.
@@ -79,10 +74,8 @@ pub fn row_ok(form: Addressing, input: &[u8]) -> bool
     ensures { result ≡ row_ok form input.now }
 {
     let at = row_at(form);
-    let fourth = fourth_ok(form, input);
     let first = byte_at(input, at) == 0x00;
-    let row = names_row(byte_at(input, at + 1));
-    words::both(fourth, words::both(first, row))
+    fourth_ok(form, input) && first && names_row(byte_at(input, at + 1))
 }
 
 // Where the row that was named begins.
@@ -90,17 +83,18 @@ pub fn row_base(form: Addressing, input: &[u8]) -> usize
     ensures { result ≡ row_base form input.now }
 {
     let named = byte_at(input, row_at(form) + 1);
-    (named as usize) / 16 * types::PAGE_BYTES
+    usize::from(named) / 16 * types::PAGE_BYTES
 }
 
 // The byte address in the row that was named.
 pub fn row_byte(form: Addressing, input: &[u8]) -> usize
     ensures { result ≡ row_byte form input.now }
 {
-    byte_at(input, row_at(form) + 2) as usize
+    usize::from(byte_at(input, row_at(form) + 2))
 }
 
 // The place in a memory that a transaction names.
+#[tactic(auto, unfolding(paper::specs::Address::row_place))]
 fn place_in(memory: Memory, form: Addressing, blocks: u16, input: &[u8]) -> usize
     ensures { result ≡ place_in memory form blocks input.now }
 {
@@ -124,24 +118,17 @@ fn data_place(form: Addressing) -> usize
 fn kept_count(form: Addressing, input: &[u8]) -> usize
     ensures { result ≡ kept_count (data_sent form input.now) }
 {
-    let n = input.len();
-    let first = data_place(form);
-    if n < first {
-        return 0;
-    }
-    words::lesser(n - first, types::PAGE_BYTES)
+    input
+        .len()
+        .saturating_sub(data_place(form))
+        .min(types::PAGE_BYTES)
 }
 
 // How many came before those that are kept.
 fn passed_count(form: Addressing, input: &[u8]) -> usize
     ensures { result ≡ passed_count (data_sent form input.now) }
 {
-    let n = input.len();
-    let first = data_place(form);
-    if n < first {
-        return 0;
-    }
-    n - first - kept_count(form, input)
+    input.len().saturating_sub(data_place(form)) - kept_count(form, input)
 }
 
 // The page data of a program, written over a page: the kept bytes in order of arrival, zeros after them. Bytes of another
@@ -152,83 +139,79 @@ pub fn write_page_data(form: Addressing, input: &[u8], page: &mut [u8])
     if page.len() != types::PAGE_BYTES {
         return;
     }
-    runs::fill(page, 0);
-    let first = words::lesser(data_place(form), input.len());
-    let passed = passed_count(form, input);
-    let from = first + passed;
+    page.fill(0);
     let kept = kept_count(form, input);
-    page[..kept].copy_from_slice(&input[from..from + kept]);
+    page[..kept].copy_from_slice(&input[input.len() - kept..]);
 }
 
 // The same, as a page of its own.
 pub fn page_data(form: Addressing, input: &[u8]) -> [u8; 256]
     ensures { result ≡ page_data (data_sent form input.now) }
 {
-    let mut page = [0u8; 256];
+    let mut page = [0; 256];
     write_page_data(form, input, &mut page);
     page
 }
 
 // The program that a transaction begins.
+#[tactic(auto, unfolding(paper::specs::Program::program_of), using(paper::proofs::Pages::place_of))]
 fn program_of(memory: Memory, form: Addressing, blocks: u16, input: &[u8]) -> Operation
     ensures { result ≡ program_of memory form blocks input.now }
 {
     let place = place_in(memory, form, blocks, input);
     let start = pages::page_place((place % 256) as u8, passed_count(form, input));
-    let count = kept_count(form, input);
     Operation::Program {
-        memory: memory,
+        memory,
+        start,
         base: place / types::PAGE_BYTES * types::PAGE_BYTES,
-        start: start,
-        count: count,
+        count: kept_count(form, input),
         done: 0,
     }
 }
 
 // The erase that a transaction begins.
+#[tactic(auto, unfolding(paper::specs::Erase::erase_of))]
 fn erase_of(unit: EraseUnit, form: Addressing, blocks: u16, input: &[u8]) -> Operation
     ensures { result ≡ erase_of unit form blocks input.now }
 {
     let place = place_in(pages::unit_memory(unit), form, blocks, input);
     let base = pages::unit_base(unit, blocks, place);
     Operation::Erase {
-        unit: unit,
-        base: base,
+        unit,
+        base,
         done: 0,
     }
 }
 
 // The register write that a transaction begins.
+#[tactic(auto, unfolding(paper::specs::Registers::write_of))]
 fn write_of(register: Register, input: &[u8]) -> Operation
     ensures { result ≡ write_of register input.now }
 {
     let value = operations::held_byte(register, byte_at(input, 1));
-    Operation::Write {
-        register: register,
-        value: value,
-    }
+    Operation::Write { register, value }
 }
 
 // What a command begins on a part of so many blocks, with its address sent so: an operation with no tick done, or nothing.
-pub fn begins(effect: Effect, form: Addressing, blocks: u16, input: &[u8]) -> Work
+pub fn begins(effect: Effect, form: Addressing, blocks: u16, input: &[u8]) -> Option<Operation>
     ensures { result ≡ begins effect form blocks input.now }
 {
     match effect {
-        Effect::Looks => Work::NoWork,
-        Effect::Enables => Work::NoWork,
-        Effect::Disables => Work::NoWork,
-        Effect::Programs(memory) => Work::At(program_of(memory, form, blocks, input)),
-        Effect::Erases(unit) => Work::At(erase_of(unit, form, blocks, input)),
-        Effect::Writes(register) => Work::At(write_of(register, input)),
-        Effect::Suspends => Work::NoWork,
-        Effect::Resumes => Work::NoWork,
-        Effect::Sleeps => Work::NoWork,
-        Effect::Wakes => Work::NoWork,
-        Effect::Arms => Work::NoWork,
-        Effect::Resets => Work::NoWork,
-        Effect::SetsLive => Work::NoWork,
-        Effect::ClearsErrors => Work::NoWork,
-        Effect::SetsBank => Work::NoWork,
-        Effect::SetsFar(_) => Work::NoWork,
+        Effect::Programs(memory) => Some(program_of(memory, form, blocks, input)),
+        Effect::Erases(unit) => Some(erase_of(unit, form, blocks, input)),
+        Effect::Writes(register) => Some(write_of(register, input)),
+        Effect::Looks
+        | Effect::Enables
+        | Effect::Disables
+        | Effect::Suspends
+        | Effect::Resumes
+        | Effect::Sleeps
+        | Effect::Wakes
+        | Effect::Arms
+        | Effect::Resets
+        | Effect::SetsLive
+        | Effect::ClearsErrors
+        | Effect::SetsBank
+        | Effect::SetsFar(_) => None,
     }
 }

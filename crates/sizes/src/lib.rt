@@ -1,4 +1,4 @@
-// The sizes of a part.
+// The sizes of a part. A size is its number of blocks: C gives it so, and the definitions take it so.
 #![tactic(auto)]
 
 ghost use Rattle.std.specs.Prelude.{◌≡◌};
@@ -15,8 +15,5 @@ pub fn is_large(blocks: u64) -> bool
 pub fn size_ok(blocks: u64) -> bool
     ensures { result ≡ size_ok blocks }
 {
-    match blocks {
-        1 | 4 | 8 | 16 | 512 => true,
-        _ => false,
-    }
+    matches!(blocks, 1 | 4 | 8 | 16 | 512)
 }

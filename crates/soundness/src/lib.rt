@@ -6,16 +6,15 @@ ghost use Rattle.types.specs.declared.Phase.TheVariants.{Idle};
 ghost use Rattle.words.specs.Logic.{◌and◌};
 ghost use Rattle.paper.specs.Soundness.{latch_ok, nest_ok, phase_ok, bits_ok, large_ok, kept_in, part_sound, sound, sound_of};
 
-use types::{Operation, Part, Phase, Record, Stored, Work};
+use types::{Operation, Part, Phase, Record, Stored};
 
 fn latch_ok(phase: Phase, wel: bool) -> bool
     ensures { result ≡ latch_ok phase wel }
 {
     match phase {
         Phase::Idle => true,
-        Phase::Busy(_) => wel,
+        Phase::Busy(_) | Phase::Nested(..) => wel,
         Phase::Suspended(op) => words::either(phases::is_erase(op), !wel),
-        Phase::Nested(..) => wel,
     }
 }
 
@@ -27,7 +26,7 @@ fn nest_ok(outer: Operation, inner: Operation, blocks: u16) -> bool
     let halts = operations::can_suspend(outer);
     let programs = phases::is_program(inner);
     let page = operations::can_suspend(inner);
-    let apart = operations::outside_of(Work::At(outer), blocks, inner);
+    let apart = operations::outside_of(Some(outer), blocks, inner);
     words::both(
         erases,
         words::both(halts, words::both(programs, words::both(page, apart))),
@@ -59,9 +58,7 @@ fn kept_in(phase: Phase) -> usize
 {
     match phase {
         Phase::Idle => 0,
-        Phase::Busy(op) => operations::kept_by(op),
-        Phase::Suspended(op) => operations::kept_by(op),
-        Phase::Nested(inner, _) => operations::kept_by(inner),
+        Phase::Busy(op) | Phase::Suspended(op) | Phase::Nested(op, _) => operations::kept_by(op),
     }
 }
 
@@ -75,7 +72,8 @@ fn registers_ok(part: Part, phase: Phase) -> bool
     words::both(bits, large)
 }
 
-// Whether an idle part is sound, which is told whether it has no page data: the tests that are not met by being idle.
+// Whether an idle part is sound, which is told whether it has no page data: the tests that are not met by being idle. It
+// reads no page, unlike `is_sound_of`.
 pub fn is_sound_idle(part: Part, empty: bool) -> bool
     ensures { result ≡ (part_sound part Idle and empty) }
 {

@@ -1,4 +1,5 @@
 -- An erase that is suspended, whatever is sent and runs within, and resumed: it goes on where it was, and run to its end leaves FFh in its whole unit.
+use Rattle.std.specs.Prelude.{None, Some}
 use Prim.Native.Nat.{ℕ, ◌+◌, ◌-◌, ◌<◌, ◌≤◌}
 use mathlib.Core.Path.{◌≡◌, refl, sym, ap, ◌∙◌, subst⁻¹}
 use mathlib.Core.Bool.{Bool, true, false, not, cond, false≢true}
@@ -11,9 +12,7 @@ use Rattle.types.specs.declared.Operation.{Operation}
 use Rattle.types.specs.declared.Operation.TheVariants.{Erase}
 use Rattle.types.specs.declared.Phase.{Phase}
 use Rattle.types.specs.declared.Phase.TheVariants.{Idle, Busy, Suspended, Nested}
-use Rattle.types.specs.declared.Work.TheVariants.{NoWork, At}
 use Rattle.types.specs.declared.Command.TheVariants.{Suspend, Resume}
-use Rattle.types.specs.declared.Decoded.TheVariants.{Known}
 use Rattle.types.specs.declared.Part.{Part}
 use Rattle.types.specs.declared.Record.{Record}
 use Rattle.types.specs.declared.Answer.{Answer}
@@ -51,11 +50,11 @@ pub resume_codes : Always 0x7A Resume × Always 0x30 Resume
 resume_codes = (known 0x7A Resume refl refl, known 0x30 Resume refl refl)
 
 -- no number applies to a suspend where what runs alone can be suspended, nor to a resume where something is
-suspend_number : (p : Part) (o : Operation) (c : ℕ) (wp : Bool) → p.asleep ≡ false → can_suspend o ≡ true → command_number (columns Suspend) (addressing_on (columns Suspend) p) NoWork p (Busy o) (c ∷ []) wp ≡ 0
+suspend_number : (p : Part) (o : Operation) (c : ℕ) (wp : Bool) → p.asleep ≡ false → can_suspend o ≡ true → command_number (columns Suspend) (addressing_on (columns Suspend) p) None p (Busy o) (c ∷ []) wp ≡ 0
 unfolding command_number ◌and◌ ◌or◌ unless ◌or_else◌
 suspend_number p o c wp a h = rw (a, h)
 
-resume_number : (p : Part) (o : Operation) (c : ℕ) (wp : Bool) → p.asleep ≡ false → command_number (columns Resume) (addressing_on (columns Resume) p) NoWork p (Suspended o) (c ∷ []) wp ≡ 0
+resume_number : (p : Part) (o : Operation) (c : ℕ) (wp : Bool) → p.asleep ≡ false → command_number (columns Resume) (addressing_on (columns Resume) p) None p (Suspended o) (c ∷ []) wp ≡ 0
 unfolding command_number ◌or◌ unless ◌or_else◌
 resume_number p o c wp a = rw a
 
@@ -66,7 +65,7 @@ module _ (p : Record) (o : Operation) (s : sound p ≡ true) (wp : Bool) (c : �
   unfolding ◌or◌
   suspends_now f h e =
       let a : p.part.asleep ≡ false = not-true _ (sound_in p (Busy o) f s).sleep in
-      let n : ignored_number (Known Suspend) p.part p.phase (c ∷ []) wp ≡ 0 = ap (λ (g : Phase). command_number (columns Suspend) (addressing_on (columns Suspend) p.part) NoWork p.part g (c ∷ []) wp) f ∙ suspend_number p.part o c wp a h in
+      let n : ignored_number (Some Suspend) p.part p.phase (c ∷ []) wp ≡ 0 = ap (λ (g : Phase). command_number (columns Suspend) (addressing_on (columns Suspend) p.part) None p.part g (c ∷ []) wp) f ∙ suspend_number p.part o c wp a h in
       executes p s wp Suspend (c ∷ []) (omega arith) (omega arith) (e p.part.blocks p.part.bank) n
       ∙ ap (λ (g : Phase). record { next = record_of p.identity (unarmed (settled p.part (suspended_in g) false)) (suspended_in g) p.page; number = 0; first = 1 }) f
 
@@ -76,7 +75,7 @@ module _ (p : Record) (o : Operation) (s : sound p ≡ true) (wp : Bool) (c : �
   unfolding ◌or◌
   resumes_now f e =
       let a : p.part.asleep ≡ false = not-true _ (sound_in p (Suspended o) f s).sleep in
-      let n : ignored_number (Known Resume) p.part p.phase (c ∷ []) wp ≡ 0 = ap (λ (g : Phase). command_number (columns Resume) (addressing_on (columns Resume) p.part) NoWork p.part g (c ∷ []) wp) f ∙ resume_number p.part o c wp a in
+      let n : ignored_number (Some Resume) p.part p.phase (c ∷ []) wp ≡ 0 = ap (λ (g : Phase). command_number (columns Resume) (addressing_on (columns Resume) p.part) None p.part g (c ∷ []) wp) f ∙ resume_number p.part o c wp a in
       executes p s wp Resume (c ∷ []) (omega arith) (omega arith) (e p.part.blocks p.part.bank) n
       ∙ ap (λ (g : Phase). record { next = record_of p.identity (unarmed (settled p.part (resumed_in g) true)) (resumed_in g) p.page; number = 0; first = 1 }) f
 
@@ -86,7 +85,7 @@ held_so true x h = sym (h refl)
 held_so false x h = refl
 
 -- an operation is suspended and nothing runs
-at_rest : (f : Phase) (e : Operation) → halted f ≡ At e → is_busy f ≡ false → f ≡ Suspended e
+at_rest : (f : Phase) (e : Operation) → halted f ≡ Some e → is_busy f ≡ false → f ≡ Suspended e
 at_rest Idle e h n = absurd (no_work_at h)
 at_rest (Busy o) e h n = absurd (no_work_at h)
 at_rest (Suspended o) e h n = ap Suspended (at_same h)

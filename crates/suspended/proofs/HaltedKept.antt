@@ -1,4 +1,5 @@
 -- What is suspended stays as it was, with the same target and as many ticks done, over every call but a resume or a reset that is executed.
+use Rattle.std.specs.Prelude.{None, Option, Some}
 use Prim.Native.Nat.{ℕ, zero, suc, ◌+◌}
 use mathlib.Core.Path.{◌≡◌, refl, sym, ap, ◌∙◌, subst⁻¹}
 use mathlib.Core.Bool.{Bool, true, false, not, cond, false≢true}
@@ -10,12 +11,8 @@ use borrow.Author.Tests.{eqb-true, not-true}
 use Rattle.types.specs.declared.Operation.{Operation}
 use Rattle.types.specs.declared.Phase.{Phase}
 use Rattle.types.specs.declared.Phase.TheVariants.{Idle}
-use Rattle.types.specs.declared.Work.{Work}
-use Rattle.types.specs.declared.Work.TheVariants.{NoWork, At}
 use Rattle.types.specs.declared.Command.{Command}
 use Rattle.types.specs.declared.Command.TheVariants.{Read, FastRead, ReadStatus, ReadFunction, ReadIdentity, ReadMakerDevice, Wake, ReadRow, WriteEnable, WriteDisable, WriteStatus, WriteFunction, PageProgram, SectorErase, BlockErase32, BlockErase64, ChipErase, Suspend, Resume, Sleep, ArmReset, Reset, RowErase, RowProgram, ReadExtended, SetStored, SetLive, ClearErrors, FarRead, FarFastRead, FarPageProgram, FarPageProgramAtRest, FarSectorErase, FarBlockErase32, FarBlockErase64, ReadBank, WriteBank, EnterFar, LeaveFar}
-use Rattle.types.specs.declared.Decoded.{Decoded}
-use Rattle.types.specs.declared.Decoded.TheVariants.{Known, Unknown}
 use Rattle.types.specs.declared.Effect.{Effect}
 use Rattle.types.specs.declared.Effect.TheVariants.{Looks, Enables, Disables, Programs, Erases, Writes, Suspends, Resumes, Sleeps, Wakes, Arms, Resets, SetsLive, ClearsErrors, SetsBank, SetsFar}
 use Rattle.types.specs.declared.Columns.{Columns}
@@ -50,13 +47,13 @@ use Rattle.suspended.specs.Interrupted.{none_releases}
 
 -- what is suspended stays so where something goes on, and when it ends
 worked_halted : (p : Record) (o : Operation) (t : Bool) → halted (cond t (advanced p (advanced_by 1 o)) (finished p o)).phase ≡ halted p.phase
-worked_halted p o true = other_halts p.phase (At (advanced_by 1 o))
-worked_halted p o false = other_halts p.phase NoWork
+worked_halted p o true = other_halts p.phase (Some (advanced_by 1 o))
+worked_halted p o false = other_halts p.phase None
 
-ticked_halted : (p : Record) (w : Work) → halted (ticked_at p w).phase ≡ halted p.phase
+ticked_halted : (p : Record) (w : Option Operation) → halted (ticked_at p w).phase ≡ halted p.phase
 unfolding worked
-ticked_halted p NoWork = refl
-ticked_halted p (At o) = worked_halted p o (ltb (ticks_done o + 1) (ticks_in_all o p.part.blocks))
+ticked_halted p None = refl
+ticked_halted p (Some o) = worked_halted p o (ltb (ticks_done o + 1) (ticks_in_all o p.part.blocks))
 
 -- ticks leave it
 pub run_halted : (n : ℕ) (p : Record) → halted (record_after n p).phase ≡ halted p.phase
@@ -68,20 +65,20 @@ pub letting_go : codes_of (λ (k : Columns). lets_go k.effect) (far_codes ++ (co
 letting_go = refl
 
 -- where something is suspended, no suspend is executed
-no_suspend : (f : Phase) (e : Operation) → halted f ≡ At e → suspendable f ≡ true → ⊥
-no_suspend f e h t = false≢true (sym (ap (λ (w : Work). not (work_is any_operation w)) h) ∙ and_r _ _ t)
+no_suspend : (f : Phase) (e : Operation) → halted f ≡ Some e → suspendable f ≡ true → ⊥
+no_suspend f e h t = false≢true (sym (ap (λ (w : Option Operation). not (work_is any_operation w)) h) ∙ and_r _ _ t)
 
 -- what each transaction makes of a part that is suspended from e
-module _ (p : Record) (e : Operation) (h : halted p.phase ≡ At e) where
-  starts_halted : (w : Work) (d : Data) (i : List ℕ) → halted (changed (starts w p.part p.phase d) i p).phase ≡ At e
-  starts_halted NoWork d i = h
-  starts_halted (At o) d i = other_halts p.phase (At o) ∙ h
+module _ (p : Record) (e : Operation) (h : halted p.phase ≡ Some e) where
+  starts_halted : (w : Option Operation) (d : Data) (i : List ℕ) → halted (changed (starts w p.part p.phase d) i p).phase ≡ Some e
+  starts_halted None d i = h
+  starts_halted (Some o) d i = other_halts p.phase (Some o) ∙ h
 
-  begun_halted : (k : Command) (d : Data) (i : List ℕ) → halted (changed (starts (begun (columns k) p.part i) p.part p.phase d) i p).phase ≡ At e
+  begun_halted : (k : Command) (d : Data) (i : List ℕ) → halted (changed (starts (begun (columns k) p.part i) p.part p.phase d) i p).phase ≡ Some e
   begun_halted k d i = starts_halted (begun (columns k) p.part i) d i
 
   executed_halted : (k : Command) (i : List ℕ) → lets_go (columns k).effect ≡ false → state_ok (columns k).wanted p.part p.phase ≡ true
-      → halted (changed (executed (columns k) p.part p.phase i).change i p).phase ≡ At e
+      → halted (changed (executed (columns k) p.part p.phase i).change i p).phase ≡ Some e
   executed_halted Read i n t = h
   executed_halted FastRead i n t = h
   executed_halted ReadStatus i n t = h
@@ -123,40 +120,40 @@ module _ (p : Record) (e : Operation) (h : halted p.phase ≡ At e) where
   executed_halted LeaveFar i n t = h
 
   module _ (wp : Bool) (i : List ℕ) where
-    barred_halted : (c : Effect) (t : Bool) → halted (changed (cond t (change_barred c p.part) (Marked false)) i p).phase ≡ At e
+    barred_halted : (c : Effect) (t : Bool) → halted (changed (cond t (change_barred c p.part) (Marked false)) i p).phase ≡ Some e
     barred_halted c true = h
     barred_halted c false = h
 
     taken_halted : (k : Command) (t : Bool) (n : ℕ) → (t ≡ true → state_ok (columns k).wanted p.part p.phase ≡ true)
-        → let u = cond t (executed (columns k) p.part p.phase i) (ignored (Known k) n p.part (length i)) in
-        (eqb u.number 0 and lets_go (columns k).effect) ≡ false → halted (changed u.change i p).phase ≡ At e
+        → let u = cond t (executed (columns k) p.part p.phase i) (ignored (Some k) n p.part (length i)) in
+        (eqb u.number 0 and lets_go (columns k).effect) ≡ false → halted (changed u.change i p).phase ≡ Some e
     unfolding ◌and◌
     taken_halted k true n t g = executed_halted k i g (t refl)
     taken_halted k false n t g = barred_halted (columns k).effect (eqb n 28)
 
-    decoded_halted : (d : Decoded) → let u = outcome_to d p.part p.phase wp i in
-        (eqb u.number 0 and lets_go_by d) ≡ false → halted (changed u.change i p).phase ≡ At e
-    decoded_halted (Known k) g =
-        let n = ignored_number (Known k) p.part p.phase i wp in
+    decoded_halted : (d : Option Command) → let u = outcome_to d p.part p.phase wp i in
+        (eqb u.number 0 and lets_go_by d) ≡ false → halted (changed u.change i p).phase ≡ Some e
+    decoded_halted (Some k) g =
+        let n = ignored_number (Some k) p.part p.phase i wp in
         taken_halted k (eqb n 0) n (λ t. (command_taken (columns k) (begun (columns k) p.part i) p.part p.phase i wp (eqb-true n 0 t)).state_ok_lem) g
-    decoded_halted Unknown g = h
+    decoded_halted None g = h
 
     refused_halted : (t : Bool) (n : ℕ) → let u = cond t (outcome_to (decoded p.part.blocks p.part.bank (get_or i 0 0)) p.part p.phase wp i) (refused n) in
-        (eqb u.number 0 and lets_go_by (decoded p.part.blocks p.part.bank (get_or i 0 0))) ≡ false → halted (changed u.change i p).phase ≡ At e
+        (eqb u.number 0 and lets_go_by (decoded p.part.blocks p.part.bank (get_or i 0 0))) ≡ false → halted (changed u.change i p).phase ≡ Some e
     refused_halted true n g = decoded_halted (decoded p.part.blocks p.part.bank (get_or i 0 0)) g
     refused_halted false n g = h
 
 -- an operation that is suspended stays so, with the same target and as many ticks done, over every call that does not let it go
-pub call_halted : (c : Call) (p : Record) (e : Operation) → halted p.phase ≡ At e → releases c p ≡ false → halted (record_after_call c p).phase ≡ At e
+pub call_halted : (c : Call) (p : Record) (e : Operation) → halted p.phase ≡ Some e → releases c p ≡ false → halted (record_after_call c p).phase ≡ Some e
 unfolding transacted outcome_of
 call_halted (transaction wp i o) p e h g =
     let n = transaction_refusal p.part.blocks (sound p) (array_bytes p.part.blocks) rows_bytes (length i) o in
     refused_halted p e h wp i (eqb n 0) n g
 call_halted (ticks n) p e h g =
-    after_tick_call (λ (q : Record). halted q.phase ≡ At e) p n h (run_halted n p ∙ h) (array_bytes p.part.blocks) rows_bytes
+    after_tick_call (λ (q : Record). halted q.phase ≡ Some e) p n h (run_halted n p ∙ h) (array_bytes p.part.blocks) rows_bytes
 
 -- and over a list of such calls
-pub calls_halted : (cs : List Call) (p : Record) (e : Operation) → halted p.phase ≡ At e → none_releases cs p ≡ true → halted (record_after_calls cs p).phase ≡ At e
+pub calls_halted : (cs : List Call) (p : Record) (e : Operation) → halted p.phase ≡ Some e → none_releases cs p ≡ true → halted (record_after_calls cs p).phase ≡ Some e
 calls_halted [] p e h g = h
 calls_halted (c ∷ cs) p e h g =
     calls_halted cs (record_after_call c p) e (call_halted c p e h (not-true _ (and_l _ _ g))) (and_r _ _ g)
@@ -166,7 +163,7 @@ abbrev pub LetGo : Phase → Phase → Type 0
 LetGo f g = (g ≡ resumed_in f) ⊎ (g ≡ Idle)
 
 module _ (p : Record) (i : List ℕ) where
-  effect_releases : (c : Effect) (a : Addressing) (w : Work) → lets_go c ≡ true → LetGo p.phase (changed (change_by c a w p.part p.phase i) i p).phase
+  effect_releases : (c : Effect) (a : Addressing) (w : Option Operation) → lets_go c ≡ true → LetGo p.phase (changed (change_by c a w p.part p.phase i) i p).phase
   effect_releases Looks a w h = absurd (false≢true h)
   effect_releases Enables a w h = absurd (false≢true h)
   effect_releases Disables a w h = absurd (false≢true h)
@@ -184,11 +181,11 @@ module _ (p : Record) (i : List ℕ) where
   effect_releases SetsBank a w h = absurd (false≢true h)
   effect_releases (SetsFar far) a w h = absurd (false≢true h)
 
-  decoded_releases : (wp : Bool) (o : ℕ) (d : Decoded) → decoded p.part.blocks p.part.bank (get_or i 0 0) ≡ d → lets_go_by d ≡ true → (transacted p (array_bytes p.part.blocks) rows_bytes wp i o).number ≡ 0
+  decoded_releases : (wp : Bool) (o : ℕ) (d : Option Command) → decoded p.part.blocks p.part.bank (get_or i 0 0) ≡ d → lets_go_by d ≡ true → (transacted p (array_bytes p.part.blocks) rows_bytes wp i o).number ≡ 0
       → LetGo p.phase (record_after_call (transaction wp i o) p).phase
-  decoded_releases wp o (Known k) e h z =
+  decoded_releases wp o (Some k) e h z =
       subst⁻¹ (λ (t : Answer). LetGo p.phase t.next.phase) (executed_so p (array_bytes p.part.blocks) rows_bytes wp i o k e z) (effect_releases (columns k).effect (addressing_on (columns k) p.part) (begun (columns k) p.part i) h)
-  decoded_releases wp o Unknown e h z = absurd (false≢true h)
+  decoded_releases wp o None e h z = absurd (false≢true h)
 
 -- and so does every call that lets it go
 pub call_lets_go : (c : Call) (p : Record) → releases c p ≡ true → LetGo p.phase (record_after_call c p).phase
@@ -196,9 +193,9 @@ call_lets_go (transaction wp i o) p h = decoded_releases p i wp o (decoded p.par
 call_lets_go (ticks n) p h = absurd (false≢true h)
 
 -- nothing is suspended then
-none_halted : (f g : Phase) → LetGo f g → halted g ≡ NoWork
-none_halted f g (inl e) = ap halted e ∙ phase_halts (halted f) NoWork
+none_halted : (f g : Phase) → LetGo f g → halted g ≡ None
+none_halted f g (inl e) = ap halted e ∙ phase_halts (halted f) None
 none_halted f g (inr e) = ap halted e
 
-pub call_releases : (c : Call) (p : Record) → releases c p ≡ true → halted (record_after_call c p).phase ≡ NoWork
+pub call_releases : (c : Call) (p : Record) → releases c p ≡ true → halted (record_after_call c p).phase ≡ None
 call_releases c p h = none_halted p.phase (record_after_call c p).phase (call_lets_go c p h)

@@ -1,4 +1,5 @@
 -- The bytes of a suspended erase's unit: no program that runs within reaches one, so that they stay over every list of calls none of which lets the erase go.
+use Rattle.std.specs.Prelude.{Some}
 use Prim.Native.Nat.{ℕ, zero, suc, ◌+◌, ◌%◌, ◌≤◌, ◌<◌}
 use mathlib.Core.Path.{◌≡◌, refl, sym, ap, ◌∙◌, subst}
 use mathlib.Core.Bool.{Bool, true, false, not, cond, false≢true}
@@ -14,7 +15,6 @@ use Rattle.types.specs.declared.Operation.{Operation}
 use Rattle.types.specs.declared.Operation.TheVariants.{Program, Erase, Write}
 use Rattle.types.specs.declared.Phase.{Phase}
 use Rattle.types.specs.declared.Phase.TheVariants.{Idle, Busy, Suspended, Nested}
-use Rattle.types.specs.declared.Work.TheVariants.{At}
 use Rattle.types.specs.declared.Stored.{Stored}
 use Rattle.types.specs.declared.Record.{Record}
 use Rattle.words.specs.Logic.{◌and◌}
@@ -78,17 +78,17 @@ module _ (m : Memory) (at : ℕ) (e : Operation) where
       ∙ spared_next n p.part.stored m at e o p.page x (in-nest e o n (and_l _ _ h)) (in_order e n p.part.stored (and_l _ _ (and_r _ _ h))) (in_order o n p.part.stored (and_r _ _ (and_r _ _ h))) i
 
   -- and so does the next tick of any part that is suspended from it
-  spared_in : (p : Record) (f : Phase) (x : ℕ) → p.phase ≡ f → halted f ≡ At e → sound p ≡ true → in_unit e p.part.blocks m at ≡ true → byte_after m at (touch_of p) x ≡ x
+  spared_in : (p : Record) (f : Phase) (x : ℕ) → p.phase ≡ f → halted f ≡ Some e → sound p ≡ true → in_unit e p.part.blocks m at ≡ true → byte_after m at (touch_of p) x ≡ x
   spared_in p Idle x q h s i = absurd (no_work_at h)
   spared_in p (Busy o) x q h s i = absurd (no_work_at h)
   spared_in p (Suspended o) x q h s i = ap (λ (g : Phase). byte_after m at (touch_at (running g) p.page) x) q
   spared_in p (Nested o y) x q h s i = nested_spares p o x (q ∙ ap (λ (z : Operation). Nested o z) (at_same h)) s i
 
-  halted_spares : (p : Record) (x : ℕ) → halted p.phase ≡ At e → sound p ≡ true → in_unit e p.part.blocks m at ≡ true → byte_after m at (touch_of p) x ≡ x
+  halted_spares : (p : Record) (x : ℕ) → halted p.phase ≡ Some e → sound p ≡ true → in_unit e p.part.blocks m at ≡ true → byte_after m at (touch_of p) x ≡ x
   halted_spares p x = spared_in p p.phase x refl
 
   -- n ticks leave it
-  pub ticks_spare_unit : (n : ℕ) (p : Record) (x : ℕ) → halted p.phase ≡ At e → sound p ≡ true → in_unit e p.part.blocks m at ≡ true → byte_after_all m at (tick_touches n p) x ≡ x
+  pub ticks_spare_unit : (n : ℕ) (p : Record) (x : ℕ) → halted p.phase ≡ Some e → sound p ≡ true → in_unit e p.part.blocks m at ≡ true → byte_after_all m at (tick_touches n p) x ≡ x
   ticks_spare_unit zero p x h s i = refl
   ticks_spare_unit (suc n) p x h s i =
       bytes_append m at (tick_touches n p) (touch_of (record_after n p) ∷ []) x
@@ -100,13 +100,13 @@ module _ (m : Memory) (at : ℕ) (e : Operation) where
   called_spares n p x false h = refl
 
   -- so does a call
-  call_spares_unit : (c : Call) (p : Record) (x : ℕ) → halted p.phase ≡ At e → sound p ≡ true → in_unit e p.part.blocks m at ≡ true → byte_after_all m at (call_touches c p) x ≡ x
+  call_spares_unit : (c : Call) (p : Record) (x : ℕ) → halted p.phase ≡ Some e → sound p ≡ true → in_unit e p.part.blocks m at ≡ true → byte_after_all m at (call_touches c p) x ≡ x
   call_spares_unit (transaction wp i o) p x h s k = refl
   call_spares_unit (ticks n) p x h s k =
       called_spares n p x (eqb (ticked p (array_bytes p.part.blocks) rows_bytes n).number 0) (ticks_spare_unit n p x h s k)
 
   -- and so do calls none of which lets the erase go
-  pub calls_spare_unit : (cs : List Call) (p : Record) (x : ℕ) → halted p.phase ≡ At e → sound p ≡ true → in_unit e p.part.blocks m at ≡ true → none_releases cs p ≡ true → byte_after_all m at (history cs p) x ≡ x
+  pub calls_spare_unit : (cs : List Call) (p : Record) (x : ℕ) → halted p.phase ≡ Some e → sound p ≡ true → in_unit e p.part.blocks m at ≡ true → none_releases cs p ≡ true → byte_after_all m at (history cs p) x ≡ x
   calls_spare_unit [] p x h s i g = refl
   calls_spare_unit (c ∷ cs) p x h s i g =
       bytes_append m at (call_touches c p) (history cs (record_after_call c p)) x

@@ -1,4 +1,5 @@
 -- An erase that is under way: over calls after none of which the part is idle its pages that are done hold FFh, and its other pages hold what they held; at its end its whole unit holds FFh. Programs that run within a suspend reach no place of its unit.
+use Rattle.std.specs.Prelude.{Some}
 use Prim.Native.Nat.{ℕ, ◌+◌, ◌-◌, ◌*◌, ◌≤◌, ◌<◌}
 use mathlib.Core.Path.{◌≡◌, refl, sym, ap, ◌∙◌, subst, subst⁻¹}
 use mathlib.Core.Bool.{Bool, true, false, cond, false≢true}
@@ -12,7 +13,6 @@ use Rattle.types.specs.declared.Operation.{Operation}
 use Rattle.types.specs.declared.Operation.TheVariants.{Erase}
 use Rattle.types.specs.declared.Phase.{Phase}
 use Rattle.types.specs.declared.Phase.TheVariants.{Idle, Busy, Suspended, Nested}
-use Rattle.types.specs.declared.Work.TheVariants.{At}
 use Rattle.types.specs.declared.Record.{Record}
 use Rattle.types.specs.declared.Ticked.{Ticked}
 use Rattle.words.specs.Logic.{◌and◌, ◌or◌}
@@ -68,7 +68,7 @@ module _ (u : EraseUnit) (b n : ℕ) where
   stands ts f g r h k =
       let d : done_in f ≡ done_in g = ap done_of (sym h) in
       record {
-        erasing = h ∙ r ∙ ap (λ (c : ℕ). At (Erase u b c)) d;
+        erasing = h ∙ r ∙ ap (λ (c : ℕ). Some (Erase u b c)) d;
         bytes = λ m at x i. k m at (left_in u b f m at x) i ∙ ap (λ (c : ℕ). left_by u b c m at x) d;
       }
 
@@ -126,7 +126,7 @@ module _ (u : EraseUnit) (b n : ℕ) where
           ∙ ap (λ (t : Bool). cond t erased_byte x) i
 
     -- while it is suspended
-    halted_proceeds : (e : Operation) → Erasing u b p.phase → halted p.phase ≡ At e → under_way p.phase ≡ At e → Proceeds (tick_touches k p) p.phase (record_after k p).phase
+    halted_proceeds : (e : Operation) → Erasing u b p.phase → halted p.phase ≡ Some e → under_way p.phase ≡ Some e → Proceeds (tick_touches k p) p.phase (record_after k p).phase
     halted_proceeds e r h w =
         let is : e ≡ Erase u b (done_in p.phase) = at_same (sym w ∙ r) in
         stands (tick_touches k p) p.phase (record_after k p).phase r (halted_under (record_after k p).phase e (run_halted k p ∙ h) ∙ sym w)
@@ -143,7 +143,7 @@ module _ (u : EraseUnit) (b n : ℕ) where
         subst (λ (f : Phase). Proceeds (tick_touches k p) f (record_after k p).phase) q (halted_proceeds x (subst⁻¹ (Erasing u b) q r) (ap halted q) (ap under_way q))
 
     -- ticks that make the part idle end it
-    not_halted : (e : Operation) → halted p.phase ≡ At e → is_idle (record_after k p).phase ≡ true → ⊥
+    not_halted : (e : Operation) → halted p.phase ≡ Some e → is_idle (record_after k p).phase ≡ true → ⊥
     not_halted e h g = no_work_at (sym (ap halted (idle_is (record_after k p).phase g)) ∙ run_halted k p ∙ h)
 
     ran_fills : (f : Phase) → p.phase ≡ f → Erasing u b f → is_idle (record_after k p).phase ≡ true → (m : Memory) (at x : ℕ) → in_unit (Erase u b 0) n m at ≡ true

@@ -22,7 +22,7 @@ const WEL: bool = true;
 const NO: bool = false;
 
 // A line of the table: the length, whether WEL is needed, when the command is taken, what its address names, what it
-// wants of the state, what it drives and from which place, and what it does.
+// wants of the state, what it drives and from which place, and what it does. With it a line is a line of the source too.
 fn line(
     length: Length,
     wel: bool,
@@ -36,14 +36,14 @@ fn line(
     ensures { result ≡ line length wel taken named wanted source from effect }
 {
     Columns {
-        length: length,
-        wel: wel,
-        taken: taken,
-        named: named,
-        wanted: wanted,
-        source: source,
-        from: from,
-        effect: effect,
+        length,
+        wel,
+        taken,
+        named,
+        wanted,
+        source,
+        from,
+        effect,
     }
 }
 
@@ -61,39 +61,39 @@ pub fn columns_of(command: Command) -> Columns
         Command::ReadMakerDevice => line(AtLeast(4), NO, OrHalted, Bare, Any, MakerPair, 4, Looks),
         Command::Wake => line(AtLeast(1), NO, OrAsleep, Bare, Any, DeviceByte, 4, Wakes),
         Command::ReadRow => line(AtLeast(5), NO, OrHalted, InRow, Any, RowBytes, 5, Looks),
-        Command::WriteEnable => line(Exactly(1), NO, Esus, Bare, Any, None, 0, Enables),
-        Command::WriteDisable => line(Exactly(1), NO, Esus, Bare, Any, None, 0, Disables),
-        Command::WriteStatus => line(Exactly(2), WEL, Rest, Bare, Any, None, 0, Writes(Status)),
-        Command::WriteFunction => line(Exactly(2), WEL, Rest, Bare, Any, None, 0, Writes(Function)),
-        Command::PageProgram => line(AtLeast(5), WEL, Esus, Place, Any, None, 0, Programs(Array)),
-        Command::SectorErase => line(Exactly(4), WEL, Rest, Place, Any, None, 0, Erases(Sector)),
-        Command::BlockErase32 => line(Exactly(4), WEL, Rest, Place, Any, None, 0, Erases(Block32)),
-        Command::BlockErase64 => line(Exactly(4), WEL, Rest, Place, Any, None, 0, Erases(Block64)),
-        Command::ChipErase => line(Exactly(1), WEL, Rest, Bare, Any, None, 0, Erases(Chip)),
-        Command::Suspend => line(Exactly(1), NO, OrBusy, Bare, Running, None, 0, Suspends),
-        Command::Resume => line(Exactly(1), NO, OrHalted, Bare, Halted, None, 0, Resumes),
-        Command::Sleep => line(Exactly(1), NO, Rest, Bare, Any, None, 0, Sleeps),
-        Command::ArmReset => line(Exactly(1), NO, Awake, Bare, Any, None, 0, Arms),
-        Command::Reset => line(Exactly(1), NO, Awake, Bare, Armed, None, 0, Resets),
-        Command::RowErase => line(Exactly(4), WEL, Rest, InRow, Any, None, 0, Erases(Row)),
-        Command::RowProgram => line(AtLeast(5), WEL, Rest, InRow, Any, None, 0, Programs(Rows)),
+        Command::WriteEnable => line(Exactly(1), NO, Esus, Bare, Any, Void, 0, Enables),
+        Command::WriteDisable => line(Exactly(1), NO, Esus, Bare, Any, Void, 0, Disables),
+        Command::WriteStatus => line(Exactly(2), WEL, Rest, Bare, Any, Void, 0, Writes(Status)),
+        Command::WriteFunction => line(Exactly(2), WEL, Rest, Bare, Any, Void, 0, Writes(Function)),
+        Command::PageProgram => line(AtLeast(5), WEL, Esus, Place, Any, Void, 0, Programs(Array)),
+        Command::SectorErase => line(Exactly(4), WEL, Rest, Place, Any, Void, 0, Erases(Sector)),
+        Command::BlockErase32 => line(Exactly(4), WEL, Rest, Place, Any, Void, 0, Erases(Block32)),
+        Command::BlockErase64 => line(Exactly(4), WEL, Rest, Place, Any, Void, 0, Erases(Block64)),
+        Command::ChipErase => line(Exactly(1), WEL, Rest, Bare, Any, Void, 0, Erases(Chip)),
+        Command::Suspend => line(Exactly(1), NO, OrBusy, Bare, Running, Void, 0, Suspends),
+        Command::Resume => line(Exactly(1), NO, OrHalted, Bare, Halted, Void, 0, Resumes),
+        Command::Sleep => line(Exactly(1), NO, Rest, Bare, Any, Void, 0, Sleeps),
+        Command::ArmReset => line(Exactly(1), NO, Awake, Bare, Any, Void, 0, Arms),
+        Command::Reset => line(Exactly(1), NO, Awake, Bare, Armed, Void, 0, Resets),
+        Command::RowErase => line(Exactly(4), WEL, Rest, InRow, Any, Void, 0, Erases(Row)),
+        Command::RowProgram => line(AtLeast(5), WEL, Rest, InRow, Any, Void, 0, Programs(Rows)),
         Command::ReadExtended => line(AtLeast(1), NO, Awake, Bare, Any, ExtendedByte, 1, Looks),
-        Command::SetStored => line(Exactly(2), WEL, Rest, Bare, Any, None, 0, Writes(Extended)),
-        Command::SetLive => line(Exactly(2), NO, Rest, Bare, Any, None, 0, SetsLive),
-        Command::ClearErrors => line(Exactly(1), NO, Rest, Bare, Any, None, 0, ClearsErrors),
+        Command::SetStored => line(Exactly(2), WEL, Rest, Bare, Any, Void, 0, Writes(Extended)),
+        Command::SetLive => line(Exactly(2), NO, Rest, Bare, Any, Void, 0, SetsLive),
+        Command::ClearErrors => line(Exactly(1), NO, Rest, Bare, Any, Void, 0, ClearsErrors),
         Command::FarRead => line(AtLeast(5), NO, OrHalted, Far, Any, ArrayBytes, 5, Looks),
         Command::FarFastRead => line(AtLeast(6), NO, OrHalted, Far, Any, ArrayBytes, 6, Looks),
-        Command::FarPageProgram => line(AtLeast(6), WEL, Esus, Far, Any, None, 0, Programs(Array)),
+        Command::FarPageProgram => line(AtLeast(6), WEL, Esus, Far, Any, Void, 0, Programs(Array)),
         Command::FarPageProgramAtRest => {
-            line(AtLeast(6), WEL, Rest, Far, Any, None, 0, Programs(Array))
+            line(AtLeast(6), WEL, Rest, Far, Any, Void, 0, Programs(Array))
         }
-        Command::FarSectorErase => line(Exactly(5), WEL, Rest, Far, Any, None, 0, Erases(Sector)),
-        Command::FarBlockErase32 => line(Exactly(5), WEL, Rest, Far, Any, None, 0, Erases(Block32)),
-        Command::FarBlockErase64 => line(Exactly(5), WEL, Rest, Far, Any, None, 0, Erases(Block64)),
+        Command::FarSectorErase => line(Exactly(5), WEL, Rest, Far, Any, Void, 0, Erases(Sector)),
+        Command::FarBlockErase32 => line(Exactly(5), WEL, Rest, Far, Any, Void, 0, Erases(Block32)),
+        Command::FarBlockErase64 => line(Exactly(5), WEL, Rest, Far, Any, Void, 0, Erases(Block64)),
         Command::ReadBank => line(AtLeast(1), NO, OrHalted, Bare, Any, BankByte, 1, Looks),
-        Command::WriteBank => line(Exactly(2), NO, Rest, Bare, Any, None, 0, SetsBank),
-        Command::EnterFar => line(Exactly(1), NO, Rest, Bare, Any, None, 0, SetsFar(true)),
-        Command::LeaveFar => line(Exactly(1), NO, Rest, Bare, Any, None, 0, SetsFar(false)),
+        Command::WriteBank => line(Exactly(2), NO, Rest, Bare, Any, Void, 0, SetsBank),
+        Command::EnterFar => line(Exactly(1), NO, Rest, Bare, Any, Void, 0, SetsFar(true)),
+        Command::LeaveFar => line(Exactly(1), NO, Rest, Bare, Any, Void, 0, SetsFar(false)),
     }
 }
 
@@ -102,10 +102,9 @@ pub fn addressing(named: Named, bank: u8) -> Addressing
     ensures { result ≡ addressing named bank }
 {
     match named {
-        Named::Bare => Addressing::Three(false),
+        Named::Bare | Named::InRow => Addressing::Three(false),
         Named::Place => Addressing::Three(bank % 2 == 1),
         Named::Far => Addressing::Four,
-        Named::InRow => Addressing::Three(false),
     }
 }
 
@@ -113,28 +112,14 @@ pub fn addressing(named: Named, bank: u8) -> Addressing
 pub fn taken_asleep(taken: Taken) -> bool
     ensures { result ≡ taken_asleep taken }
 {
-    match taken {
-        Taken::Rest => false,
-        Taken::Esus => false,
-        Taken::OrHalted => false,
-        Taken::OrBusy => false,
-        Taken::Awake => false,
-        Taken::OrAsleep => true,
-    }
+    matches!(taken, Taken::OrAsleep)
 }
 
 // Whether it is taken while the part is busy.
 pub fn taken_busy(taken: Taken) -> bool
     ensures { result ≡ taken_busy taken }
 {
-    match taken {
-        Taken::Rest => false,
-        Taken::Esus => false,
-        Taken::OrHalted => false,
-        Taken::OrBusy => true,
-        Taken::Awake => true,
-        Taken::OrAsleep => false,
-    }
+    matches!(taken, Taken::OrBusy | Taken::Awake)
 }
 
 // Whether it is taken while the part is suspended, from an erase or from a program.
@@ -142,12 +127,9 @@ pub fn taken_suspended(taken: Taken, erase: bool) -> bool
     ensures { result ≡ taken_suspended taken erase }
 {
     match taken {
-        Taken::Rest => false,
+        Taken::Rest | Taken::OrBusy => false,
         Taken::Esus => erase,
-        Taken::OrHalted => true,
-        Taken::OrBusy => false,
-        Taken::Awake => true,
-        Taken::OrAsleep => true,
+        Taken::OrHalted | Taken::Awake | Taken::OrAsleep => true,
     }
 }
 
@@ -165,27 +147,15 @@ pub fn length_ok(length: Length, n: usize) -> bool
 pub fn drives_any(source: Source) -> bool
     ensures { result ≡ drives source }
 {
-    match source {
-        Source::None => false,
-        Source::ArrayBytes => true,
-        Source::RowBytes => true,
-        Source::StatusByte => true,
-        Source::FunctionByte => true,
-        Source::IdentityBytes => true,
-        Source::MakerPair => true,
-        Source::DeviceByte => true,
-        Source::ExtendedByte => true,
-        Source::BankByte => true,
-    }
+    !matches!(source, Source::Void)
 }
 
-// The first driven place of n output places: n where nothing is driven.
+// The first driven place of n output places: n where nothing is driven, as the call answers it.
 pub fn first_driven(k: Columns, n: usize) -> usize
     ensures { result ≡ first_driven k n }
 {
-    let source = k.source;
-    if drives_any(source) {
-        words::lesser(k.from, n)
+    if drives_any(k.source) {
+        k.from.min(n)
     } else {
         n
     }

@@ -1,11 +1,12 @@
 -- What the definitions for a tick call on bytes come to: no record held, and the call itself.
+use Rattle.types.specs.declared.Operation.{Operation}
+use Rattle.std.specs.Prelude.{Option}
 use Prim.Native.Nat.{ℕ}
 use mathlib.Core.Path.{◌≡◌, refl, sym, ap, ◌∙◌}
 use mathlib.Core.Bool.{Bool, true, false, cond}
 use mathlib.Core.List.{List, []}
 use lib.ListN.{length, take, drop}
 use Rattle.types.specs.declared.Memory.{Memory}
-use Rattle.types.specs.declared.Work.{Work}
 use Rattle.types.specs.declared.Record.{Record}
 use Rattle.types.specs.declared.Ticked.{Ticked}
 use Rattle.types.specs.declared.Waited.{Waited}
@@ -18,8 +19,8 @@ use Rattle.paper.specs.Reached.{nothing, reached}
 use Rattle.paper.specs.Calls.{ticked}
 use Rattle.record_bytes.specs.declared.Found.{Found}
 use Rattle.record_bytes.specs.Layout.{header_length, record_bytes, change_written}
-use Rattle.record_bytes.specs.Read.{Held, record_in, on_held, found}
-use Rattle.record_bytes.proofs.Back.{lent_length, held_page, found_sound, on_none, on_held_lem}
+use Rattle.record_bytes.specs.Read.{Held, record_in, on_held, found_of}
+use Rattle.record_bytes.proofs.Back.{lent_length, held_page, on_none, on_held_lem}
 use Rattle.record_bytes.proofs.Changed.{held_changed}
 use Rattle.ticks.specs.Waited.{waited_of, waited_memory, ticked_by}
 use Rattle.ticks.specs.InBytes.{held_ticks, held_reached, held_worked, tick_bytes, tick_memory}
@@ -51,7 +52,7 @@ module _ (h : Held) (e : h.ok ≡ false) (a r n : ℕ) where
   unheld_memory m xs = sym (on_none h _ xs e)
 
 -- a record held: what was found, and its page data as it is lent
-module _ (bs : List ℕ) (e : (record_in bs).ok ≡ true) (x : Found) (ex : x ≡ found (record_in bs)) where
+module _ (bs : List ℕ) (e : (record_in bs).ok ≡ true) (x : Found) (ex : x ≡ found_of (record_in bs).state) where
   abbrev held : Record
   held = (record_in bs).state
 
@@ -61,12 +62,12 @@ module _ (bs : List ℕ) (e : (record_in bs).ok ≡ true) (x : Found) (ex : x �
   module _ (a r n : ℕ) where
     module _ (u : Waited) (eu : u ≡ waited_of x.part x.phase x.sound a r n) where
       ticks_told : ticked_by u held ≡ ticked held a r n
-      ticks_told = ap (λ (y : Waited). ticked_by y held) eu ∙ rw (found_sound bs e x ex, ex) (ticked_told held a r n)
+      ticks_told = ap (λ (y : Waited). ticked_by y held) eu ∙ rw ex (ticked_told held a r n)
 
-      pub told_worked : (w : Work) → w ≡ running x.phase → ◌≡◌ {A = Worked} record { number = u.number; reached = record { work = w; count = u.done } } (held_worked (record_in bs) a r n)
+      pub told_worked : (w : Option Operation) → w ≡ running x.phase → ◌≡◌ {A = Worked} record { number = u.number; reached = record { work = w; count = u.done } } (held_worked (record_in bs) a r n)
       unfolding held_worked
       told_worked w ew =
-          ap (λ (v : Work). record { number = u.number; reached = record { work = v; count = u.done } }) (ew ∙ ap (λ (y : Found). running y.phase) ex)
+          ap (λ (v : Option Operation). record { number = u.number; reached = record { work = v; count = u.done } }) (ew ∙ ap (λ (y : Found). running y.phase) ex)
           ∙ ap (λ (y : Ticked). record { number = y.number; reached = reached held y }) ticks_told
           ∙ sym (rw (on_held_lem (record_in bs) (λ p. ticked p a r n) (record { next = held; number = rows_number r or_else sound_number false; done = 0 }) e, on_held_lem (record_in bs) (λ p. reached p (ticked p a r n)) nothing e) refl)
 
@@ -78,7 +79,7 @@ module _ (bs : List ℕ) (e : (record_in bs).ok ≡ true) (x : Found) (ex : x �
     pub told_memory : (m : Memory) (xs y : List ℕ) → y ≡ waited_memory m x.part x.phase x.sound lent a r n xs → y ≡ tick_memory m (record_in bs) a r n xs
     unfolding tick_memory
     told_memory m xs y ey =
-        ey ∙ rw (found_sound bs e x ex, ex, held_page bs e) (memory_told held a r n m xs (ap (λ (g : List ℕ). length g) (sym (held_page bs e)) ∙ lent_length bs e)) ∙ sym (on_held_lem (record_in bs) _ xs e)
+        ey ∙ rw (ex, held_page bs e) (memory_told held a r n m xs (ap (λ (g : List ℕ). length g) (sym (held_page bs e)) ∙ lent_length bs e)) ∙ sym (on_held_lem (record_in bs) _ xs e)
 
 -- the bytes after ticks are those of the record that they answer
 module _ (h : Held) (a r n : ℕ) (bs : List ℕ) where

@@ -1,4 +1,5 @@
 -- What a tick call is told to change makes of the record what its ticks make of it, tick by tick.
+use Rattle.std.specs.Prelude.{None, Option, Some}
 use Prim.Native.Nat.{ℕ, ◌≤◌, min}
 use mathlib.Core.Path.{◌≡◌, refl, sym, ap, ◌∙◌}
 use mathlib.Core.Bool.{Bool, true, false, cond}
@@ -9,8 +10,6 @@ use lib.Dec.{eqb}
 use borrow.Author.Tests.{eqb-true}
 use Rattle.types.specs.declared.Memory.{Memory}
 use Rattle.types.specs.declared.Operation.{Operation}
-use Rattle.types.specs.declared.Work.{Work}
-use Rattle.types.specs.declared.Work.TheVariants.{NoWork, At}
 use Rattle.types.specs.declared.Data.TheVariants.{Kept, Zero}
 use Rattle.types.specs.declared.Change.{Change}
 use Rattle.types.specs.declared.Change.TheVariants.{Same, Runs}
@@ -33,15 +32,15 @@ use Rattle.ticks.proofs.OneMemory.{left_within}
 
 -- whichever it is
 changed_as : (p : Record) (o : Operation) (k : ℕ) (t : Bool)
-    → changed (cond {A = Change} t (Runs (finished_part p.part p.phase o) Zero NoWork) (Runs p.part Kept (At (advanced_by k o)))) [] p
+    → changed (cond {A = Change} t (Runs (finished_part p.part p.phase o) Zero None) (Runs p.part Kept (Some (advanced_by k o)))) [] p
     ≡ cond t (finished p o) (advanced p (advanced_by k o))
 changed_as p o k true = refl
 changed_as p o k false = refl
 
 module _ (n : ℕ) (p : Record) (s : sound p ≡ true) where
-  changed_at : (w : Work) → running p.phase ≡ w → changed (tick_change n w p.part p.phase) [] p ≡ record_after n p
-  changed_at NoWork e = sym (rest_record p e n)
-  changed_at (At o) e =
+  changed_at : (w : Option Operation) → running p.phase ≡ w → changed (tick_change n w p.part p.phase) [] p ≡ record_after n p
+  changed_at None e = sym (rest_record p e n)
+  changed_at (Some o) e =
       let k = min n (ticks_left o p.part.blocks) in
       changed_as p o k (eqb k (ticks_left o p.part.blocks))
       ∙ sym (ran_all p o e n k (running_in_order p o e s).going refl).next
@@ -51,18 +50,18 @@ module _ (n : ℕ) (p : Record) (s : sound p ≡ true) where
   changed_ticks = changed_at (running p.phase) refl
 
   -- how many of them do work
-  reached_at : (w : Work) → running p.phase ≡ w → ticks_reached n w p.part.blocks ≡ working_ticks n p
-  reached_at NoWork e = sym (rest_works p e n)
-  reached_at (At o) e = sym (ran_all p o e n _ (running_in_order p o e s).going refl).done
+  reached_at : (w : Option Operation) → running p.phase ≡ w → ticks_reached n w p.part.blocks ≡ working_ticks n p
+  reached_at None e = sym (rest_works p e n)
+  reached_at (Some o) e = sym (ran_all p o e n _ (running_in_order p o e s).going refl).done
 
   pub reached_ticks : ticks_reached n (running p.phase) p.part.blocks ≡ working_ticks n p
   reached_ticks = reached_at (running p.phase) refl
 
   -- and what they make of a memory that is the part's own
   module _ (m : Memory) (a r : ℕ) (ea : a ≡ array_bytes p.part.blocks) (er : r ≡ rows_bytes) (eg : length p.page ≡ page_bytes) (xs : List ℕ) where
-    memory_at : (w : Work) → running p.phase ≡ w → memory_reached m n w p.part.blocks p.page a r xs ≡ memory_after m n p xs
-    memory_at NoWork e = sym (rest_memory p e m xs n)
-    memory_at (At o) e =
+    memory_at : (w : Option Operation) → running p.phase ≡ w → memory_reached m n w p.part.blocks p.page a r xs ≡ memory_after m n p xs
+    memory_at None e = sym (rest_memory p e m xs n)
+    memory_at (Some o) e =
         let k = min n (ticks_left o p.part.blocks) in
         let i = running_in_order p o e s in
         let few : k ≤ ticks_left o p.part.blocks = omega arith in

@@ -1,10 +1,8 @@
 -- A tick call told by part, phase and page data, by what it reaches and what it changes: its ticks are done in one step.
-use Rattle.std.specs.Prelude.{ℕ, min, Bool, cond, List, [], eqb}
+use Rattle.std.specs.Prelude.{ℕ, min, Bool, cond, List, [], eqb, None, Option, Some}
 use Rattle.types.specs.declared.Memory.{Memory}
 use Rattle.types.specs.declared.Operation.{Operation}
 use Rattle.types.specs.declared.Phase.{Phase}
-use Rattle.types.specs.declared.Work.{Work}
-use Rattle.types.specs.declared.Work.TheVariants.{NoWork, At}
 use Rattle.types.specs.declared.Part.{Part}
 use Rattle.types.specs.declared.Record.{Record}
 use Rattle.types.specs.declared.Data.TheVariants.{Kept, Zero}
@@ -24,23 +22,23 @@ use Rattle.ticks.specs.OneMemory.{ran_within}
 abbrev pub change_after : ℕ → Operation → Part → Phase → Change
 change_after k o p f =
     cond (eqb k (ticks_left o p.blocks))
-    (Runs (finished_part p f o) Zero NoWork)
-    (Runs p Kept (At (advanced_by k o)))
+    (Runs (finished_part p f o) Zero None)
+    (Runs p Kept (Some (advanced_by k o)))
 
 -- what n ticks change, where w runs
-abbrev pub tick_change : ℕ → Work → Part → Phase → Change
-tick_change n NoWork p f = Same
-tick_change n (At o) p f = change_after (min n (ticks_left o p.blocks)) o p f
+abbrev pub tick_change : ℕ → Option Operation → Part → Phase → Change
+tick_change n None p f = Same
+tick_change n (Some o) p f = change_after (min n (ticks_left o p.blocks)) o p f
 
 -- what n ticks reach, where w runs on a part of so many blocks: nothing, or the next ticks of an operation, as many of them as it has left
-abbrev pub ticks_reached : ℕ → Work → ℕ → ℕ
-ticks_reached n NoWork blocks = 0
-ticks_reached n (At o) blocks = min n (ticks_left o blocks)
+abbrev pub ticks_reached : ℕ → Option Operation → ℕ → ℕ
+ticks_reached n None blocks = 0
+ticks_reached n (Some o) blocks = min n (ticks_left o blocks)
 
 -- and what they make of a memory, with the page data g, for an array of a and rows of r bytes
-abbrev pub memory_reached : Memory → ℕ → Work → ℕ → List ℕ → ℕ → ℕ → List ℕ → List ℕ
-memory_reached m n NoWork blocks g a r xs = xs
-memory_reached m n (At o) blocks g a r xs = ran_within m (min n (ticks_left o blocks)) o g a r xs
+abbrev pub memory_reached : Memory → ℕ → Option Operation → ℕ → List ℕ → ℕ → ℕ → List ℕ → List ℕ
+memory_reached m n None blocks g a r xs = xs
+memory_reached m n (Some o) blocks g a r xs = ran_within m (min n (ticks_left o blocks)) o g a r xs
 
 -- what a tick call answers, of a part in a phase that is sound or is not, for an array of a and rows of r bytes
 unfoldable pub waited_of : Part → Phase → Bool → ℕ → ℕ → ℕ → Waited

@@ -2,10 +2,12 @@
 // memory that the operation is of, and tells once what becomes of the record.
 #![tactic(auto)]
 
-ghost use Rattle.std.specs.Prelude.{◌≡◌, cond, ◌+◌, ◌*◌, ◌^◌, ◌≤◌, ◌<◌, length};
+ghost use Rattle.std.specs.Prelude.{◌≡◌, cond, ◌+◌, ◌*◌, ◌^◌, ◌≤◌, ◌<◌, length, Some};
 ghost use Rattle.types.specs.declared.Memory.TheVariants.{Array, Rows};
-ghost use Rattle.types.specs.declared.Work.TheVariants.{At};
 ghost use Rattle.paper.specs.Registers.{register_written, stored_after};
+ghost use Rattle.words.specs.Logic.{◌or_else◌};
+ghost use Rattle.paper.specs.Refusals.{number_of};
+ghost use Rattle.paper.specs.Numbers.{rows_number};
 ghost use Rattle.paper.specs.Phases.{running};
 ghost use Rattle.paper.specs.Operations.{ticks_done, ticks_left, advanced_by};
 ghost use Rattle.paper.specs.Ticks.{finished_part};
@@ -17,46 +19,35 @@ ghost use Rattle.ticks.specs.InBytes.{held_worked, tick_bytes, tick_memory};
 
 use record_bytes::places;
 use types::{
-    Change, Data, Memory, Operation, Part, Phase, Reached, Record, Register, Stored, Ticked,
-    Waited, Work, Worked,
+    Change, Data, Memory, Operation, Part, Phase, Reached, Record, Refusal, Register, Stored,
+    Ticked, Waited, Worked,
 };
 
-// So many pages from a place on set to FFh, lowest first.
+// So many pages from a place on set to FFh, lowest first. Page by page, since `pages::erase_page` is what a tick of an erase does.
 fn erase_pages(memory: &mut [u8], from: usize, count: usize)
     requires { from + count * 256 ≤ length memory.old }
     ensures { memory.new ≡ pages_erased count from memory.old }
 {
-    let mut i = 0;
-    while i < count {
+    for i in 0..count {
         pages::erase_page(memory, from + i * types::PAGE_BYTES);
-        i += 1;
     }
 }
 
-// So many kept bytes, from byte done on, written in order of arrival to their places in a page.
+// So many kept bytes, from byte done on, written in order of arrival to their places in a page. By an index, since page_place
+// gives the place of each, which goes round at the end of the page.
 fn narrow_page(page: &mut [u8], start: u8, done: usize, kept: &[u8], count: usize)
     requires { (done + count ≤ length kept.now) × (length page.old ≡ 256) }
     ensures { page.new ≡ bytes_narrowed count 0 start done kept.now page.old }
 {
-    let mut i = 0;
-    while i < count {
+    for i in 0..count {
         let k = done + i;
-        let place = pages::page_place(start, k) as usize;
-        page[place] = page[place] & kept[k];
-        i += 1;
+        let place = usize::from(pages::page_place(start, k));
+        page[place] &= kept[k];
     }
 }
 
-// The same to the page at a base of a memory, which is lent on.
-fn narrow_bytes(memory: &mut [u8], base: usize, start: u8, done: usize, kept: &[u8], count: usize)
-    requires { (done + count ≤ length kept.now) × (base + 256 ≤ length memory.old) }
-    ensures { memory.new ≡ bytes_narrowed count base start done kept.now memory.old }
-{
-    let end = base + types::PAGE_BYTES;
-    narrow_page(&mut memory[base..end], start, done, kept, count);
-}
-
-// Whether so many ticks of a program lie within kept bytes of page data, and its page within a memory of all bytes.
+// Whether so many ticks of a program lie within kept bytes of page data, and its page within a memory of all bytes. The lengths are
+// judged before anything is lent, so a memory is as long as a page by a clause, and not by its type.
 fn program_within(base: usize, done: usize, count: usize, kept: usize, all: usize) -> bool
     requires { (done + count < 2 ^ 64) × (256 ≤ all) }
     ensures { result ≡ program_within base done count kept all }
@@ -75,14 +66,16 @@ fn erase_within(base: usize, done: usize, count: usize, all: usize) -> bool
     done + count <= (all - base) / types::PAGE_BYTES
 }
 
-// So many ticks of a program of a memory, if they lie within it and the page data.
+// So many ticks of a program of a memory, if they lie within it and the page data. A memory with a base, here and below: only the
+// test says whether the page can be lent.
 fn program(memory: &mut [u8], base: usize, start: u8, done: usize, kept: &[u8], count: usize)
     requires { (done + count < 2 ^ 64) × (256 ≤ length memory.old) }
     ensures { memory.new ≡ cond (program_within base done count (length kept.now) (length memory.old)) (bytes_narrowed count base start done kept.now memory.old) memory.old }
 {
     let within = program_within(base, done, count, kept.len(), memory.len());
     if within {
-        narrow_bytes(memory, base, start, done, kept, count);
+        let page = &mut memory[base..base + types::PAGE_BYTES];
+        narrow_page(page, start, done, kept, count);
     }
 }
 
@@ -97,7 +90,8 @@ fn erase(memory: &mut [u8], base: usize, done: usize, count: usize)
     }
 }
 
-// So many ticks of an operation, on the memory that it is of, if they lie within it.
+// So many ticks of an operation, on the memory that it is of, if they lie within it. Each arm lends its memory: to choose one of
+// the two borrows would take a function more, with a contract on what both become.
 fn touch(op: Operation, count: usize, kept: &[u8], array: &mut [u8], rows: &mut [u8])
     requires { (ticks_done op + count < 2 ^ 64) × (256 ≤ length array.old) × (256 ≤ length rows.old) }
     ensures { (array.new ≡ ran_within Array count op kept.now (length array.old) (length rows.old) array.old) × (rows.new ≡ ran_within Rows count op kept.now (length array.old) (length rows.old) rows.old) }
@@ -127,21 +121,20 @@ fn touch(op: Operation, count: usize, kept: &[u8], array: &mut [u8], rows: &mut 
 fn register_written(register: Register, value: u8, stored: Stored) -> Stored
     ensures { result ≡ register_written register value stored }
 {
-    let mut next = stored;
     match register {
-        Register::Status => {
-            next.status = value;
-            next
-        }
+        Register::Status => Stored {
+            status: value,
+            ..stored
+        },
         Register::Function => {
             let tbs = 2 * (stored.function / 2 % 2);
-            next.function = (stored.function / 16 | value / 16) * 16 + tbs;
-            next
+            let function = (stored.function / 16 | value / 16) * 16 + tbs;
+            Stored { function, ..stored }
         }
-        Register::Extended => {
-            next.extended = value;
-            next
-        }
+        Register::Extended => Stored {
+            extended: value,
+            ..stored
+        },
     }
 }
 
@@ -150,13 +143,12 @@ fn stored_after(op: Operation, stored: Stored) -> Stored
     ensures { result ≡ stored_after op stored }
 {
     match op {
-        Operation::Program { .. } => stored,
-        Operation::Erase { .. } => stored,
+        Operation::Program { .. } | Operation::Erase { .. } => stored,
         Operation::Write { register, value } => register_written(register, value, stored),
     }
 }
 
-// The part after an operation's last tick.
+// The part after an operation's last tick. Part, phase and operation are three here and below, as the paper's finished_part takes them.
 fn finish(part: Part, phase: Phase, op: Operation) -> Part
     ensures { result ≡ finished_part part phase op }
 {
@@ -182,21 +174,18 @@ fn advance(op: Operation, count: usize) -> Operation
             count: kept,
             done,
         } => Operation::Program {
-            memory: memory,
-            base: base,
-            start: start,
+            memory,
+            base,
+            start,
             count: kept,
             done: done + count,
         },
         Operation::Erase { unit, base, done } => Operation::Erase {
-            unit: unit,
-            base: base,
+            unit,
+            base,
             done: done + count,
         },
-        Operation::Write { register, value } => Operation::Write {
-            register: register,
-            value: value,
-        },
+        Operation::Write { .. } => op,
     }
 }
 
@@ -207,9 +196,9 @@ fn change_after(count: usize, left: usize, op: Operation, part: Part, phase: Pha
 {
     if count == left {
         let last = finish(part, phase, op);
-        return Change::Runs(last, Data::Zero, Work::NoWork);
+        return Change::Runs(last, Data::Zero, None);
     }
-    Change::Runs(part, Data::Kept, Work::At(advance(op, count)))
+    Change::Runs(part, Data::Kept, Some(advance(op, count)))
 }
 
 // Ticks of a part on which an operation runs.
@@ -223,15 +212,15 @@ fn work(
     ticks: usize,
 ) -> Waited
     requires { (256 ≤ length array.old) × (256 ≤ length rows.old) }
-    ensures { (result ≡ record { change = tick_change ticks (At op) part phase; number = 0; done = ticks_reached ticks (At op) part.blocks }) × (array.new ≡ memory_reached Array ticks (At op) part.blocks page.now (length array.old) (length rows.old) array.old) × (rows.new ≡ memory_reached Rows ticks (At op) part.blocks page.now (length array.old) (length rows.old) rows.old) }
+    ensures { (result ≡ record { change = tick_change ticks (Some op) part phase; number = 0; done = ticks_reached ticks (Some op) part.blocks }) × (array.new ≡ memory_reached Array ticks (Some op) part.blocks page.now (length array.old) (length rows.old) array.old) × (rows.new ≡ memory_reached Rows ticks (Some op) part.blocks page.now (length array.old) (length rows.old) rows.old) }
 {
     let all = operations::ticks_in_all(op, part.blocks);
-    let left = all - words::lesser(all, operations::ticks_done(op));
-    let count = words::lesser(ticks, left);
+    let left = all.saturating_sub(operations::ticks_done(op));
+    let count = ticks.min(left);
     touch(op, count, page, array, rows);
     let change = change_after(count, left, op, part, phase);
     Waited {
-        change: change,
+        change,
         number: 0,
         done: count,
     }
@@ -251,19 +240,20 @@ fn run(
 {
     let running = phases::running(phase);
     match running {
-        Work::NoWork => Waited {
+        None => Waited {
             change: Change::Same,
             number: 0,
             done: 0,
         },
-        Work::At(op) => work(op, part, phase, page, array, rows, ticks),
+        Some(op) => work(op, part, phase, page, array, rows, ticks),
     }
 }
 
 // So many ticks of a part in a phase with page data, of a record that is sound or is not, as the caller says. It answers what
 // becomes of the record, the number, and how many ticks did work; refused, with 1, 2, 5 or 6, it writes nothing and the record
 // stays the same. Ticks that do not lie within the memory or the page data that is lent write nothing; all ticks
-// of a sound record lie within.
+// of a sound record lie within. What is lent goes on as parameters: a struct that held it would need a clause for each field here
+// and in `run` and `work`. Whether the record is sound stands beside part and phase, as waited_of takes it.
 pub fn tick_part(
     part: Part,
     phase: Phase,
@@ -277,11 +267,16 @@ pub fn tick_part(
     ensures array { array.new ≡ waited_memory Array part phase sound page.now (length array.old) (length rows.old) ticks array.old }
     ensures rows { rows.new ≡ waited_memory Rows part phase sound page.now (length array.old) (length rows.old) ticks rows.old }
 {
-    let number = refusals::tick_number(part.blocks, sound, array.len(), rows.len(), ticks);
-    if number != 0 {
+    if let Err(refusal) = refusals::check_ticks(
+        part.blocks,
+        sound,
+        array.len(),
+        rows.len(),
+        ticks,
+    ) {
         return Waited {
             change: Change::Same,
-            number: number,
+            number: refusals::number(refusal),
             done: 0,
         };
     }
@@ -300,13 +295,20 @@ pub fn tick(state: Record, array: &mut [u8], rows: &mut [u8], ticks: usize) -> T
     let page = state.page;
     let sound = soundness::is_sound_of(part, phase, &page);
     let waited = tick_part(part, phase, sound, &page, array, rows, ticks);
-    let change = waited.change;
-    let next = effects::apply(change, &page[0..0], state);
+    let next = effects::apply(waited.change, &[], state);
     Ticked {
-        next: next,
+        next,
         number: waited.number,
         done: waited.done,
     }
+}
+
+// The refusal of ticks where the bytes hold no record: there is no size to judge.
+fn check_unread(rows: usize) -> Result<(), Refusal>
+    ensures { number_of result ≡ (rows_number rows or_else 5) }
+{
+    refusals::check_rows(rows)?;
+    Err(Refusal::Record)
 }
 
 // So many ticks of the record that bytes hold, which is written over them. It answers the number, and what the ticks reached;
@@ -317,29 +319,26 @@ pub fn tick_bytes(bytes: &mut [u8], array: &mut [u8], rows: &mut [u8], ticks: us
     ensures array { array.new ≡ tick_memory Array (record_in bytes.old) (length array.old) (length rows.old) ticks array.old }
     ensures rows { rows.new ≡ tick_memory Rows (record_in bytes.old) (length array.old) (length rows.old) ticks rows.old }
 {
-    let found = record_bytes::reading::read(bytes);
-    if !found.ok {
-        let unread = refusals::rows_number_or(rows.len(), 5);
+    let Some(found) = record_bytes::reading::read(bytes) else {
+        let unread = check_unread(rows.len());
         return Worked {
-            number: unread,
+            number: refusals::number_of(unread),
             reached: Reached {
-                work: Work::NoWork,
+                work: None,
                 count: 0,
             },
         };
-    }
+    };
     let part = found.part;
     let phase = found.phase;
     let work = phases::running(phase);
     let page = &bytes[places::PAGE..places::END];
     let told = tick_part(part, phase, found.sound, page, array, rows, ticks);
-    let change = told.change;
-    let none_sent = [0u8; 0];
-    record_bytes::writing::write_change(change, &none_sent, bytes);
+    record_bytes::writing::write_change(told.change, &[], bytes);
     Worked {
         number: told.number,
         reached: Reached {
-            work: work,
+            work,
             count: told.done,
         },
     }

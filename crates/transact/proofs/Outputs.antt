@@ -9,7 +9,7 @@ use native.Mathlib.Nat.{eq-zero-or-pos}
 use lib.Dec.{leb}
 use lib.ListN.{length, length-take, length-drop}
 use Rattle.types.specs.declared.Source.{Source}
-use Rattle.types.specs.declared.Source.TheVariants.{None, RowBytes}
+use Rattle.types.specs.declared.Source.TheVariants.{Void, RowBytes}
 use Rattle.types.specs.declared.Addressing.{Addressing}
 use Rattle.types.specs.declared.Columns.{Columns}
 use Rattle.types.specs.declared.Identity.{Identity}
@@ -42,7 +42,7 @@ module _ (k : Columns) (id : Identity) (p : Part) (xs rs i : List ℕ) where
         let n = subst (λ (x : Source). drives x ≡ true → length (source_bytes x form id p xs rs i) ≡ 0 → ⊥) e h d in
         ⊎_elim (λ z. absurd (n z)) (λ l. l) (eq-zero-or-pos (length (source_bytes w form id p xs rs i)))
 
-  pub blank_output : k.source ≡ None → output_of k id p xs rs i ≡ undriven (length i)
+  pub blank_output : k.source ≡ Void → output_of k id p xs rs i ≡ undriven (length i)
   unfolding output_of output_for ◌and◌
   blank_output e = ap (λ (x : Source). output_for x (drives x)) e ∙ up_to_const (length i) undriven_byte
 

@@ -2,12 +2,19 @@
 // operation, the rows of the command table, and what the calls answer.
 #![tactic(auto)]
 
-// A page, and a row, have 256 bytes, a block 65,536, the rows 1,024.
+// A page, and a row, have 256 bytes, a sector 4,096, a block 65,536, the rows 1,024.
 pub const PAGE_BYTES: usize = 256;
+
+pub const SECTOR_BYTES: usize = 4096;
 
 pub const BLOCK_BYTES: usize = 65536;
 
 pub const ROWS_BYTES: usize = 1024;
+
+// A sector has 16 pages, a block 256.
+pub const SECTOR_PAGES: usize = 16;
+
+pub const BLOCK_PAGES: usize = 256;
 
 // A transaction has at most 4,096 bytes, and a tick call asks at most 4,096 ticks, on the large part at most 131,072.
 pub const TRANSACTION_MOST: usize = 4096;
@@ -20,20 +27,21 @@ pub const LARGE_TICKS_MOST: usize = 131072;
 pub const BANK_BYTES: usize = 16777216;
 
 // The two memories of a part: the array of blocks, and the four information rows.
-#[derive(Clone, Copy)]
+#[derive(Clone, Copy, PartialEq, Eq)]
 pub enum Memory {
     Array,
     Rows,
 }
 
-// So many blocks of the array, from the first of them on.
+// So many blocks of the array, from the first of them on. A range is said by its first number and a count, here and below, as
+// the paper's definitions say it and C gets it.
 #[derive(Clone, Copy)]
 pub struct Blocks {
     pub first: u16,
     pub count: u16,
 }
 
-// A cell of the block table: the first protected block, and how many there are from it.
+// A cell of the block table: the first protected block, and how many there are from it. The paper's blocks_of makes blocks of it.
 #[derive(Clone, Copy)]
 pub struct Cell(pub u16, pub u16);
 
@@ -41,7 +49,8 @@ pub struct Cell(pub u16, pub u16);
 #[derive(Clone, Copy)]
 pub struct BlockRow(pub Cell, pub Cell, pub Cell, pub Cell);
 
-// A row of the block table of the large part: with the top or bottom bit 0, and 1.
+// A row of the block table of the large part: with the top or bottom bit 0, and 1. Each table has a type of row, as the paper's
+// block_table and large_table have.
 #[derive(Clone, Copy)]
 pub struct LargeRow(pub Cell, pub Cell);
 
@@ -97,15 +106,8 @@ pub enum Phase {
     Nested(Operation, Operation),
 }
 
-// An operation, or none: what runs, what is suspended, what a transaction begins.
-#[derive(Clone, Copy)]
-pub enum Work {
-    NoWork,
-    At(Operation),
-}
-
 // The identity bytes M (maker), T (type), C (capacity) and D (device).
-#[derive(Clone, Copy)]
+#[derive(Clone, Copy, Default)]
 pub struct Identity {
     pub maker: u8,
     pub kind: u8,
@@ -115,7 +117,7 @@ pub struct Identity {
 
 // The registers of a part: their stored bits, which power-up takes and reset keeps, and among them those that
 // other fields define (WIP, WEL, ESUS and PSUS). Of the extended read register it is the stored byte.
-#[derive(Clone, Copy)]
+#[derive(Clone, Copy, Default)]
 pub struct Stored {
     pub status: u8,
     pub function: u8,
@@ -135,7 +137,8 @@ pub struct Part {
     pub bank: u8,
 }
 
-// The record of a part: what it is, what it does, its identity, which no call changes, and the 256 bytes of page data.
+// The record of a part: what it is, what it does, its identity, which no call changes, and the 256 bytes of page data. All of
+// them stand there, however many a program keeps: a record has one length.
 #[derive(Clone, Copy)]
 pub struct Record {
     pub part: Part,
@@ -171,7 +174,7 @@ pub enum Change {
     // The part becomes this one; what runs, what is suspended and page data stay.
     Anew(Part),
     // The part becomes this one, page data what is said of it, and what runs this work; what is suspended stays.
-    Runs(Part, Data, Work),
+    Runs(Part, Data, Option<Operation>),
     // The part becomes this one, and what runs is suspended; page data stays.
     Halts(Part),
     // The part becomes this one, and what is suspended goes on; page data stays.
@@ -225,13 +228,6 @@ pub enum Command {
     LeaveFar,
 }
 
-// What decoding a first byte gives: a command, or that the byte is in no row of the table.
-#[derive(Clone, Copy)]
-pub enum Decoded {
-    Known(Command),
-    Unknown,
-}
-
 // A command's length, the code counted.
 #[derive(Clone, Copy)]
 pub enum Length {
@@ -239,10 +235,10 @@ pub enum Length {
     AtLeast(usize),
 }
 
-// What a command drives.
+// What a command drives. Void has a name of its own, since the table has a source in each row.
 #[derive(Clone, Copy)]
 pub enum Source {
-    None,
+    Void,
     ArrayBytes,
     RowBytes,
     StatusByte,
@@ -308,7 +304,8 @@ pub enum Wanted {
 }
 
 // A row of the command table: the length, whether WEL is needed, when the command is taken, what its address names,
-// what it wants of the state, what it drives and from which place, and what it does.
+// what it wants of the state, what it drives and from which place, and what it does. The place stands in each row, and is 0
+// where nothing is driven, as in the paper's table.
 #[derive(Clone, Copy)]
 pub struct Columns {
     pub length: Length,
@@ -320,6 +317,10 @@ pub struct Columns {
     pub from: usize,
     pub effect: Effect,
 }
+
+// What the calls answer. Each answer has its number, 0 for none, which the paper's powered_up, outcome_of, transacted and
+// ticked and the definitions waited_of and held_worked give it, and which C reads. Each call has a type of its own, since they
+// name what is answered: the first driven place, or how many ticks did work.
 
 // What power-up answers.
 #[derive(Clone, Copy)]
@@ -360,10 +361,11 @@ pub struct Waited {
     pub done: usize,
 }
 
-// What a tick call reached: what ran before it, if anything did, and how many ticks of that did work.
+// What a tick call reached: what ran before it, if anything did, and how many ticks of that did work. The count is 0 where
+// nothing ran, as in the paper's reached.
 #[derive(Clone, Copy)]
 pub struct Reached {
-    pub work: Work,
+    pub work: Option<Operation>,
     pub count: usize,
 }
 
@@ -383,7 +385,7 @@ pub struct Wear {
 }
 
 // What the ticks of a call count: an erase for each of so many sectors, from the first on, and, where it is true, a program
-// for the sector at.
+// for the sector at. That stands there also where no program ended, as the paper's tally_by has it.
 #[derive(Clone, Copy)]
 pub struct Tally {
     pub first: usize,
@@ -392,8 +394,53 @@ pub struct Tally {
     pub at: usize,
 }
 
+// Why a call is refused, or a command ignored, each with the number that the call answers.
+#[derive(Clone, Copy)]
+pub enum Refusal {
+    // There is no part of that size, or the array is not as long as the part is large.
+    Size = 1,
+    // The rows are not 1,024 bytes.
+    Rows = 2,
+    // No byte is sent, or more than 4,096.
+    Input = 3,
+    // The output has not the length that is asked.
+    Output = 4,
+    // No record, or one that is not sound, or another argument is out of range.
+    Record = 5,
+    // More ticks than one call runs.
+    Ticks = 6,
+    // A script's lists differ in length, or its lengths do not add up to the input's.
+    Lists = 7,
+    // The first byte is not a command of the part.
+    Unknown = 20,
+    // A sleeping part takes only ABh.
+    Asleep = 21,
+    // A busy part does not take the command.
+    Busy = 22,
+    // A suspended part does not take it.
+    Suspended = 23,
+    // More or fewer bytes than the command has.
+    Length = 24,
+    // Nothing to suspend, nothing to resume, or 99h without 66h right before it.
+    OutOfTurn = 25,
+    // WEL is 0.
+    NotEnabled = 26,
+    // The address is not that of an information row.
+    NoSuchRow = 27,
+    // Protected, locked, in the unit of a suspended erase, or barred by WP#.
+    Protected = 28,
+    // There is not one wear record for each sector.
+    Wear = 35,
+    // The map has not one bit for each page.
+    Map = 36,
+    // The part has no page of that number.
+    Page = 37,
+    // The image is not as long as the array.
+    Image = 38,
+}
+
 // What a check of a script says: yes; a step, the first that fails, or the number of steps where none does but the part is
-// not idle; the first address that differs; or the number that refuses it.
+// not idle; the first address that differs; or the number that refuses it, which is C's and the paper's unchecked_by's.
 #[derive(Clone, Copy)]
 pub enum Verdict {
     Yes,
@@ -402,15 +449,8 @@ pub enum Verdict {
     Refused(u8),
 }
 
-// What a query of a map of blank pages says: a page, the first that is blank; that none is; or the number that refuses it.
-#[derive(Clone, Copy)]
-pub enum Blank {
-    Page(usize),
-    NoPage,
-    Refused(u8),
-}
-
-// What a line of the bench says: a transaction, with WP# high where it is true; so many ticks; or neither.
+// What a line of the bench says: a transaction, with WP# high where it is true; so many ticks; or neither, which has a text of
+// its own in the paper's line_text.
 #[derive(Clone, Copy)]
 pub enum Line {
     Transaction(bool),

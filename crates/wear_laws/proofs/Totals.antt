@@ -1,4 +1,5 @@
 -- Wear in all: what calls count lies in the sectors of the part, so what the history counts of all sectors, added up, is what it counts in all.
+use Rattle.std.specs.Prelude.{None, Option, Some}
 use Prim.Native.Nat.{ℕ, zero, suc, ◌+◌, ◌-◌, ◌*◌, ◌/◌, ◌%◌, ◌≤◌, ◌<◌}
 use mathlib.Core.Path.{◌≡◌, refl, sym, ap, ◌∙◌}
 use mathlib.Core.Bool.{Bool, true, false, cond}
@@ -15,8 +16,6 @@ use Rattle.types.specs.declared.EraseUnit.{EraseUnit}
 use Rattle.types.specs.declared.EraseUnit.TheVariants.{Sector, Block32, Block64, Chip, Row}
 use Rattle.types.specs.declared.Operation.{Operation}
 use Rattle.types.specs.declared.Operation.TheVariants.{Program, Erase, Write}
-use Rattle.types.specs.declared.Work.{Work}
-use Rattle.types.specs.declared.Work.TheVariants.{NoWork, At}
 use Rattle.types.specs.declared.Stored.{Stored}
 use Rattle.types.specs.declared.Record.{Record}
 use Rattle.words.specs.Logic.{◌and◌, bit}
@@ -95,9 +94,9 @@ module _ (p : Record) (s : sound p ≡ true) where
   abbrev sectors : ℕ
   sectors = array_sectors p.part.blocks
 
-  work_inside : (w : Work) → running p.phase ≡ w → (n : ℕ) → every (in_sectors sectors) (work_counts w (working_ticks n p)) ≡ true
-  work_inside NoWork e n = refl
-  work_inside (At o) e n =
+  work_inside : (w : Option Operation) → running p.phase ≡ w → (n : ℕ) → every (in_sectors sectors) (work_counts w (working_ticks n p)) ≡ true
+  work_inside None e n = refl
+  work_inside (Some o) e n =
       ticks_inside o p.part.blocks p.part.stored (working_ticks n p) (running_in_order p o e s) (working_fits p o e s n)
 
   counts_inside : (n : ℕ) → every (in_sectors sectors) (tick_counts n p) ≡ true

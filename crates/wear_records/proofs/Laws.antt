@@ -2,12 +2,14 @@
 use Prim.Native.Nat.{ℕ, zero, suc, ◌+◌, ◌-◌, ◌<◌, ◌≤◌, min}
 use mathlib.Core.Path.{◌≡◌, refl, sym, ap, ◌∙◌, subst}
 use mathlib.Core.Bool.{Bool, true, false, cond}
-use mathlib.Core.List.{List}
+use mathlib.Core.List.{List, [], ◌∷◌, ◌++◌}
 use native.Mathlib.Omega.{arith}
 use native.Mathlib.Nat.{zero-add}
 use borrow.Author.Tests.{ltb-true, lt-ltb, eqb-true, eqb-false}
 use lib.Dec.{eqb, ltb}
-use lib.ListN.{length, get_or, length-set}
+use Rattle.std.proofs.lemmas.Bool.Decides.{nat_tests}
+use Rattle.std.proofs.lemmas.List.{set-append_left, set-append_right, get_or_append_left, get_or-append_right}
+use lib.ListN.{length, get_or, set, length-set}
 use lib.Seq.{ext_get_or, get_or-set_same, get_or-set_other}
 use Rattle.types.specs.declared.Wear.{Wear}
 use Rattle.types.specs.declared.Tally.{Tally}
@@ -18,6 +20,31 @@ use Rattle.paper.specs.Sizes.{from_on}
 use Rattle.paper.specs.Wear.{unworn, one_more, worn_by, worn}
 use Rattle.paper.proofs.ByPlace.{from_on_lem, on_from}
 use Rattle.wear_records.specs.Thin.{erase_at, program_at, program_where, erased_from, clipped}
+
+-- one more by the largest count
+pub saturates : (n : ℕ) → n ≤ 4294967295 → min (n + 1) 4294967295 ≡ one_more n
+unfolding one_more
+saturates n h = grind (arith, nat_tests)
+
+-- a record with one field more is the one that the definition has in its place
+same_wear : (w : Wear) (a b : ℕ) → w.erases ≡ a → w.programs ≡ b → w ≡ record { erases = a; programs = b }
+same_wear w a b e f = ap (λ (x : ℕ). record { erases = x; programs = w.programs }) e ∙ ap (λ (y : ℕ). record { erases = a; programs = y }) f
+
+-- put into a list of records, it is an erase there, also in the middle of all of them
+at_erase : (xs : List Wear) (i : ℕ) (d w : Wear) → i < length xs → w.erases ≡ one_more (get_or xs i d).erases → w.programs ≡ (get_or xs i d).programs → set xs i w ≡ erase_at i xs
+unfolding erase_at
+at_erase [] i d w h e f = absurd (omega arith)
+at_erase (x ∷ xs) zero d w h e f = ap (λ (v : Wear). v ∷ xs) (same_wear w _ _ e f)
+at_erase (x ∷ xs) (suc i) d w h e f = ap (λ (vs : List Wear). x ∷ vs) (at_erase xs i d w (omega arith) e f)
+
+mid_at : (ws xs ys : List Wear) (i : ℕ) → i < length xs → ws ++ (erase_at i xs ++ ys) ≡ erase_at (length ws + i) (ws ++ (xs ++ ys))
+unfolding erase_at
+mid_at ws xs ys i h =
+    let past : i ≡ length ws + i - length ws = omega arith in
+    rw (set-append_right ws (xs ++ ys) (length ws) (length ws + i) _ refl (omega arith), get_or-append_right ws (xs ++ ys) (length ws) (length ws + i) unworn refl (omega arith), ← past, get_or_append_left xs ys unworn i h, set-append_left xs ys i _ h)
+
+pub mid_erase : (ws xs ys : List Wear) (i : ℕ) (d w : Wear) → i < length xs → w.erases ≡ one_more (get_or xs i d).erases → w.programs ≡ (get_or xs i d).programs → ws ++ (set xs i w ++ ys) ≡ erase_at (length ws + i) (ws ++ (xs ++ ys))
+mid_erase ws xs ys i d w h e f = ap (λ (vs : List Wear). ws ++ (vs ++ ys)) (at_erase xs i d w h e f) ∙ mid_at ws xs ys i h
 
 -- lengths stay
 erase_length : (i : ℕ) (ws : List Wear) → length (erase_at i ws) ≡ length ws

@@ -6,26 +6,18 @@ ghost use Rattle.std.specs.Prelude.{◌≡◌, true, cond, suc, ◌+◌, ◌-◌
 ghost use Rattle.types.specs.declared.Memory.TheVariants.{Array};
 ghost use Rattle.paper.specs.Sizes.{same_memory, from_on, sector_pages};
 ghost use Rattle.paper.specs.Wear.{one_more, tally_by, no_tally, tally_of, worn};
-ghost use Rattle.wear_records.specs.Thin.{erase_at, program_where, erased_from, clipped};
+ghost use Rattle.wear_records.specs.Thin.{program_at, erased_from, clipped};
 
-use types::{Memory, Operation, Reached, Tally, Wear, Work};
+use types::{Memory, Operation, Reached, SECTOR_BYTES, SECTOR_PAGES, Tally, Wear};
 
-// A sector has 4,096 bytes, and an erase takes 16 ticks for it.
-const SECTOR_BYTES: usize = 4096;
-
-const SECTOR_TICKS: usize = 16;
-
-// A full count stays.
-const FULL: u32 = 4294967295;
+// An erase takes a tick for each page of a sector.
+const SECTOR_TICKS: usize = SECTOR_PAGES;
 
 // Whether a memory is the array: the rows have no records.
 fn in_array(memory: Memory) -> bool
     ensures { result ≡ same_memory Array memory }
 {
-    match memory {
-        Memory::Array => true,
-        Memory::Rows => false,
-    }
+    memory == Memory::Array
 }
 
 // The sectors that an erase finishes in so many ticks, after those done.
@@ -40,22 +32,21 @@ fn erased_in(memory: Memory, done: usize, ticks: usize) -> usize
     ensures { result ≡ cond (same_memory Array memory) ((done + ticks) / sector_pages - done / sector_pages) 0 }
 {
     if in_array(memory) {
-        return finished(done, ticks);
+        finished(done, ticks)
+    } else {
+        0
     }
-    0
 }
 
-// Whether the last tick of a program of so many bytes is among so many ticks, after those done.
+// Whether the last tick of a program of so many bytes is among so many ticks, after those done. A difference, since a sum could
+// overflow.
 fn ends(done: usize, ticks: usize, count: usize) -> bool
     ensures { result ≡ from_on (suc done) ticks count }
 {
-    if done < count {
-        return count - done <= ticks;
-    }
-    false
+    done < count && count - done <= ticks
 }
 
-// The tally of ticks that count nothing.
+// The tally of ticks that count nothing: zeros, as the paper's no_tally.
 pub fn nothing() -> Tally
     ensures { result ≡ no_tally }
 {
@@ -67,7 +58,7 @@ pub fn nothing() -> Tally
     }
 }
 
-// What so many ticks of an operation count.
+// What so many ticks of an operation count, which differs with the operation.
 fn tally_by(operation: Operation, ticks: usize) -> Tally
     ensures { result ≡ tally_by operation ticks }
 {
@@ -78,24 +69,16 @@ fn tally_by(operation: Operation, ticks: usize) -> Tally
             base,
             count,
             done,
-        } => {
-            let last = ends(done, ticks, count);
-            Tally {
-                first: 0,
-                erases: 0,
-                programmed: words::both(in_array(memory), last),
-                at: base / SECTOR_BYTES,
-            }
-        }
-        Operation::Erase { unit, base, done } => {
-            let first = base / SECTOR_BYTES + done / SECTOR_TICKS;
-            Tally {
-                first: first,
-                erases: erased_in(pages::unit_memory(unit), done, ticks),
-                programmed: false,
-                at: 0,
-            }
-        }
+        } => Tally {
+            programmed: in_array(memory) && ends(done, ticks, count),
+            at: base / SECTOR_BYTES,
+            ..nothing()
+        },
+        Operation::Erase { unit, base, done } => Tally {
+            first: base / SECTOR_BYTES + done / SECTOR_TICKS,
+            erases: erased_in(pages::unit_memory(unit), done, ticks),
+            ..nothing()
+        },
         Operation::Write { register, value } => nothing(),
     }
 }
@@ -106,34 +89,25 @@ pub fn tally(reached: Reached) -> Tally
 {
     let work = reached.work;
     match work {
-        Work::NoWork => nothing(),
-        Work::At(operation) => tally_by(operation, reached.count),
+        None => nothing(),
+        Some(operation) => tally_by(operation, reached.count),
     }
 }
 
-// One more, up to the largest count.
-fn more(n: u32) -> u32
-    ensures { result ≡ one_more n }
+// One erase more for a sector: one field of its record changes. A full count stays.
+fn add_erase(sector: &mut Wear)
+    ensures erases { sector.new.erases ≡ one_more sector.old.erases }
+    ensures programs { sector.new.programs ≡ sector.old.programs }
 {
-    if n < FULL { n + 1 } else { n }
+    sector.erases = sector.erases.saturating_add(1);
 }
 
-// One erase more for a sector: one field of one record changes.
-fn add_erase(wear: &mut [Wear], sector: usize)
+// One program more for a sector: one field of one record changes. A full count stays.
+fn add_program(wear: &mut [Wear], sector: usize)
     requires { sector < length wear.old }
-    ensures { wear.new ≡ erase_at sector wear.old }
+    ensures { wear.new ≡ program_at sector wear.old }
 {
-    wear[sector].erases = more(wear[sector].erases);
-}
-
-// One program more for a sector, where a program ended.
-fn add_program(wear: &mut [Wear], programmed: bool, sector: usize)
-    requires { programmed ≡ true → sector < length wear.old }
-    ensures { wear.new ≡ program_where programmed sector wear.old }
-{
-    if programmed {
-        wear[sector].programs = more(wear[sector].programs);
-    }
+    wear[sector].programs = wear[sector].programs.saturating_add(1);
 }
 
 // One erase more for each of so many sectors.
@@ -141,10 +115,8 @@ fn erase_each(wear: &mut [Wear], first: usize, count: usize)
     requires { first + count ≤ length wear.old }
     ensures { wear.new ≡ erased_from first count wear.old }
 {
-    let mut k = 0;
-    while k < count {
-        add_erase(wear, first + k);
-        k += 1;
+    for sector in &mut wear[first..first + count] {
+        add_erase(sector);
     }
 }
 
@@ -152,12 +124,11 @@ fn erase_each(wear: &mut [Wear], first: usize, count: usize)
 fn within(tally: Tally, n: usize) -> Tally
     ensures { result ≡ clipped tally n }
 {
-    let first = words::lesser(tally.first, n);
-    let here = tally.at < n;
+    let first = tally.first.min(n);
     Tally {
-        first: first,
-        erases: words::lesser(tally.erases, n - first),
-        programmed: words::both(tally.programmed, here),
+        first,
+        erases: tally.erases.min(n - first),
+        programmed: tally.programmed && tally.at < n,
         at: tally.at,
     }
 }
@@ -169,5 +140,7 @@ pub fn keep(wear: &mut [Wear], tally: Tally)
 {
     let t = within(tally, wear.len());
     erase_each(wear, t.first, t.erases);
-    add_program(wear, t.programmed, t.at);
+    if t.programmed {
+        add_program(wear, t.at);
+    }
 }

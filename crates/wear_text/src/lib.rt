@@ -1,134 +1,92 @@
 // The text of wear records: a line for each sector, then the largest and the total of each count.
 #![tactic(auto)]
 
-ghost use Rattle.std.specs.Prelude.{◌≡◌, ◌≤◌, length};
+ghost use Rattle.std.specs.Prelude.{◌≡◌};
+ghost use Rattle.paper.specs.Refusals.{number_of};
 ghost use Rattle.paper.specs.Numbers.{wear_text_number};
-ghost use Rattle.paper.specs.WearText.{larger, wear_written};
-ghost use Rattle.wear_text.specs.Page.{page, lined, lined_to, begun_of, finished, written_of};
+ghost use Rattle.paper.specs.WearText.{wear_text, wear_written};
+ghost use Rattle.printing.specs.Printed.{Prints};
+ghost use Rattle.wear_text.specs.Page.{with, written_of};
 
-use types::Wear;
+use refusals::ensure;
+use types::{Refusal, Wear};
 
-// What the call answers: the number, and how many bytes of text there are.
+// What the call answers: the number, 0 for none, as wear_written gives it, and how many bytes of text there are.
 #[derive(Clone, Copy)]
 pub struct Written {
     pub number: u8,
     pub bytes: usize,
 }
 
-// What is carried from line to line: where the next one goes; of the erases and of the programs so far the largest, le and lp,
-// and the total, te and tp.
+// What is told of one of the two counts of the records so far: the largest, and the total.
 #[derive(Clone, Copy)]
-struct State {
-    at: usize,
-    le: u32,
-    lp: u32,
-    te: u64,
-    tp: u64,
+struct Sum {
+    largest: u32,
+    total: u64,
 }
 
-// What is settled before the first line: the state, how many lines there are, and the number of a refusal or 0.
-#[derive(Clone, Copy)]
-struct Begun {
-    state: State,
-    count: usize,
-    number: u8,
-}
-
-// The larger of two numbers.
-fn larger(a: u32, b: u32) -> u32
-    ensures { result ≡ larger a b }
-{
-    if a < b { b } else { a }
-}
-
-// The line of a sector, and the sums with its counts.
-fn line(state: State, text: &mut [u8], sector: usize, erases: u32, programs: u32) -> State
-    ensures { page result text.new ≡ lined sector (record { erases = erases; programs = programs }) (page state text.old) }
-{
-    let at = printing::put_wear(text, state.at, sector, erases, programs);
-    let le = larger(state.le, erases);
-    let lp = larger(state.lp, programs);
-    State {
-        at: at,
-        le: le,
-        lp: lp,
-        te: std::num::wrapping_add_u64(state.te, erases as u64),
-        tp: std::num::wrapping_add_u64(state.tp, programs as u64),
-    }
-}
-
-// The lines of the first records.
-fn lines(start: State, wear: &[Wear], text: &mut [u8], count: usize) -> State
-    requires { count ≤ length wear.now }
-    ensures { page result text.new ≡ lined_to wear.now count (page start text.old) }
-{
-    let mut s = start;
-    let mut k = 0;
-    while k < count {
-        let w = wear[k];
-        s = line(s, text, k, w.erases, w.programs);
-        k += 1;
-    }
-    s
-}
-
-// 1 where the size is none; 35 where there isn't one record for each sector; 4 where the buffer hasn't the length that is asked;
-// else 0.
-fn text_number(blocks: u64, records: usize, room: usize) -> u8
-    ensures { result ≡ wear_text_number blocks records room }
-{
-    if sizes::size_ok(blocks) {
-        let n = blocks as usize;
-        let all = records == n * 16;
-        let asked = room == n * 512 + 64;
-        return words::number_or(all, 35, words::number_or(asked, 4, 0));
-    }
-    1
-}
-
-// The call is judged. Refused, it has no lines.
-fn begin(blocks: u64, records: usize, room: usize) -> Begun
-    ensures { result ≡ begun_of blocks records room }
-{
-    let number = text_number(blocks, records, room);
-    let state = State {
-        at: 0,
-        le: 0,
-        lp: 0,
-        te: 0,
-        tp: 0,
+impl Sum {
+    // Before the first record.
+    const NONE: Sum = Sum {
+        largest: 0,
+        total: 0,
     };
-    Begun {
-        state: state,
-        count: if number == 0 { records } else { 0 },
-        number: number,
+
+    // The sum with the count of one record more.
+    #[tactic(auto, using(std::proofs::lemmas::Bool::Decides::nat_tests), unfolding(crate::specs::Page::with, paper::specs::WearText::larger))]
+    fn with(self, count: u32) -> Sum
+        ensures { result ≡ with self count }
+    {
+        let largest = self.largest.max(count);
+        Sum {
+            largest,
+            total: self.total.wrapping_add(count as u64),
+        }
     }
 }
 
-// The last two lines. Refused, nothing.
-fn finish(text: &mut [u8], number: u8, state: State) -> Written
-    ensures answer { result ≡ written_of (finished number state text.old) }
-    ensures text { text.new ≡ (finished number state text.old).text }
+// The text of all records: the line of each, and the last two. It answers how many bytes of it there are.
+fn tell(wear: &[Wear], text: &mut [u8]) -> usize
+    ensures { Prints text.old 0 (wear_text wear.now) text.new result }
 {
-    if number != 0 {
-        return Written {
-            number: number,
-            bytes: 0,
-        };
+    let mut at = 0;
+    let mut erases = Sum::NONE;
+    let mut programs = Sum::NONE;
+    for (sector, w) in wear.iter().enumerate() {
+        at = printing::put_wear(text, at, sector, w.erases, w.programs);
+        erases = erases.with(w.erases);
+        programs = programs.with(w.programs);
     }
-    let bytes = printing::put_sums(text, state.at, state.le, state.lp, state.te, state.tp);
-    Written {
-        number: 0,
-        bytes: bytes,
-    }
+    printing::put_sums(
+        text,
+        at,
+        erases.largest,
+        programs.largest,
+        erases.total,
+        programs.total,
+    )
+}
+
+// 1 where the size is none; 35 where there isn't one record for each sector; 4 where the buffer hasn't the length that is asked.
+fn check_text(blocks: u64, records: usize, room: usize) -> Result<(), Refusal>
+    ensures { number_of result ≡ wear_text_number blocks records room }
+{
+    ensure(sizes::size_ok(blocks), Refusal::Size)?;
+    let n = blocks as usize;
+    ensure(records == n * 16, Refusal::Wear)?;
+    ensure(room == n * 512 + 64, Refusal::Output)
 }
 
 // The text of the wear records of a part of so many blocks, into a buffer. Refused, with 1, 35 or 4, the buffer is as it was.
+#[tactic(auto, using(std::proofs::lemmas::Bool::Decides::nat_tests), unfolding(paper::specs::WearText::wear_written))]
 pub fn write(blocks: u64, wear: &[Wear], text: &mut [u8]) -> Written
     ensures answer { result ≡ written_of (wear_written blocks wear.now text.old) }
     ensures text { text.new ≡ (wear_written blocks wear.now text.old).text }
 {
-    let b = begin(blocks, wear.len(), text.len());
-    let s = lines(b.state, wear, text, b.count);
-    finish(text, b.number, s)
+    if let Err(refusal) = check_text(blocks, wear.len(), text.len()) {
+        let number = refusals::number(refusal);
+        return Written { number, bytes: 0 };
+    }
+    let bytes = tell(wear, text);
+    Written { number: 0, bytes }
 }

@@ -16,12 +16,11 @@ use Rattle.types.specs.declared.PoweredUp.{PoweredUp}
 use Rattle.words.specs.Logic.{◌and◌}
 use Rattle.words.proofs.Tests.{and_l, and_r, unless_zero, or_else_zero, or_else_on, or_else_first}
 use Rattle.paper.specs.Soundness.{sound}
-use Rattle.paper.specs.Registers.{with_bytes, with_extended}
 use Rattle.paper.specs.Program.{no_data}
 use Rattle.paper.specs.Records.{fresh}
 use Rattle.paper.specs.Commands.{changed}
 use Rattle.paper.specs.Numbers.{power_up_number, later_refusal}
-use Rattle.paper.specs.Calls.{no_stored, zero_record, powered_up, outcome_of, output_after, ticked}
+use Rattle.paper.specs.Calls.{zero_record, powered_up, outcome_of, output_after, ticked}
 use Rattle.paper.proofs.Sizes.{size_range, limit_range}
 use Rattle.paper.proofs.Soundness.{record_of}
 use Rattle.paper.proofs.CallKept.{done_at_most}
@@ -29,8 +28,8 @@ use Rattle.ticks.specs.InBytes.{held_ticks, held_worked}
 use Rattle.ticks.proofs.InBytes.{reached_count}
 use Rattle.record_bytes.specs.declared.Found.{Found}
 use Rattle.record_bytes.specs.Layout.{record_length, record_bytes, change_written}
-use Rattle.record_bytes.specs.Read.{Held, identity_in, record_in, found}
-use Rattle.record_bytes.proofs.Back.{held_identity, found_sound, on_none, on_held_lem}
+use Rattle.record_bytes.specs.Read.{Held, identity_in, record_in, found_of}
+use Rattle.record_bytes.proofs.Back.{held_identity, on_none, on_held_lem}
 use Rattle.record_bytes.proofs.Changed.{held_changed}
 use Rattle.yawlspar.specs.Face.{packed, Asked, given_number, identity_of, registers_of, up_of, up_number, power_up_bytes, outcome_at, transact_answer, transact_bytes, transact_output, tick_answer}
 
@@ -49,12 +48,12 @@ module _ (h : Held) (e : h.ok ≡ false) where
   unheld_output xs rs wp i o = sym (on_none h _ o e)
 
 -- a record held: what was found; t is that it is sound and that the level is one
-module _ (bs : List ℕ) (e : (record_in bs).ok ≡ true) (x : Found) (ex : x ≡ found (record_in bs)) (wp : ℕ) (t : Bool) (et : t ≡ (x.sound and leb wp 1)) where
+module _ (bs : List ℕ) (e : (record_in bs).ok ≡ true) (x : Found) (ex : x ≡ found_of (record_in bs).state) (wp : ℕ) (t : Bool) (et : t ≡ (x.sound and leb wp 1)) where
   abbrev held : Record
   held = (record_in bs).state
 
   sound_told : t ≡ (sound held and leb wp 1)
-  sound_told = et ∙ rw (found_sound bs e x ex)
+  sound_told = et ∙ rw ex
 
   module _ (a r : ℕ) (i : List ℕ) (o : ℕ) (u : Outcome) (eu : u ≡ outcome_of x.part x.phase t a r (eqb wp 1) i o) where
     told : u ≡ outcome_at held a r wp i o
@@ -112,11 +111,6 @@ given l q e =
     let q5 = and_r _ _ q4 in
     let q6 = and_r _ _ q5 in
     record { long = eqb-true _ _ (and_l _ _ w); few = (size_range q.blocks (unless_zero _ 0 z.0)).1; maker = leb-true _ _ (and_l _ _ q1); kind = leb-true _ _ (and_l _ _ q2); capacity = leb-true _ _ (and_l _ _ q3); device = leb-true _ _ (and_l _ _ q4); status_byte = leb-true _ _ (and_l _ _ q5); function_byte = leb-true _ _ (and_l _ _ q6); extended_byte = leb-true _ _ (and_r _ _ q6) }
-
--- power-up with these bytes in registers that have nothing else
-pub up_with : (q : Asked) (s : Stored) → s ≡ no_stored → powered_up q.blocks (identity_of q) (with_bytes q.status q.function (with_extended q.extended s)) ≡ up_of q
-up_with q s e =
-    ap (λ (x : Stored). powered_up q.blocks (identity_of q) (with_bytes q.status q.function (with_extended q.extended x))) e
 
 -- what power-up gives, taken or refused, is idle and has no page data
 idle_up : (n : ℕ) (id : Identity) (s : Stored) (k : ℕ) (t : Bool) → let u = cond {A = PoweredUp} t (record { next = fresh n id s; number = 0 }) (record { next = zero_record; number = k }) in

@@ -1,4 +1,6 @@
 -- A first driven place does not pass 4,096.
+use Rattle.types.specs.declared.Command.{Command}
+use Rattle.std.specs.Prelude.{None, Option, Some}
 use Prim.Native.Nat.{ℕ, ◌≤◌, min}
 use mathlib.Core.Path.{◌≡◌, refl}
 use mathlib.Core.Bool.{Bool, true, false, cond}
@@ -8,8 +10,6 @@ use lib.Dec.{eqb}
 use lib.ListN.{length, get_or}
 use borrow.Author.Tests.{eqb-true}
 use Rattle.types.specs.declared.Phase.{Phase}
-use Rattle.types.specs.declared.Decoded.{Decoded}
-use Rattle.types.specs.declared.Decoded.TheVariants.{Known, Unknown}
 use Rattle.types.specs.declared.Part.{Part}
 use Rattle.types.specs.declared.Outcome.{Outcome}
 use Rattle.paper.specs.Table.{decoded, columns, is_read}
@@ -25,9 +25,9 @@ least : (t : Bool) (k n : ℕ) → cond t (min k n) n ≤ n
 least true k n = omega arith
 least false k n = omega arith
 
-outcome_first : (d : Decoded) (p : Part) (f : Phase) (wp : Bool) (i : List ℕ) → (outcome_to d p f wp i).first ≤ length i
-outcome_first (Known k) p f wp i = first_of (eqb (ignored_number (Known k) p f i wp) 0) _ _ (length i) (least (is_read (columns k)) (columns k).from (length i)) (omega arith)
-outcome_first Unknown p f wp i = omega arith
+outcome_first : (d : Option Command) (p : Part) (f : Phase) (wp : Bool) (i : List ℕ) → (outcome_to d p f wp i).first ≤ length i
+outcome_first (Some k) p f wp i = first_of (eqb (ignored_number (Some k) p f i wp) 0) _ _ (length i) (least (is_read (columns k)) (columns k).from (length i)) (omega arith)
+outcome_first None p f wp i = omega arith
 
 module _ (p : Part) (f : Phase) (s : Bool) (a r : ℕ) (wp : Bool) (i : List ℕ) (o : ℕ) where
   first_as : (t : Bool) → eqb (transaction_refusal p.blocks s a r (length i) o) 0 ≡ t

@@ -1,19 +1,22 @@
 // The model for C, which include/yawlspar.h declares, but for scripts: the three calls on a record that is kept in bytes, and
 // the functions on numbers. A call reads part and phase, is made, and writes what it makes of the record over the bytes;
-// page data stays where it is.
+// page data stays where it is. C lends buffers and gives numbers, and gets one number: that of a refusal, or 0, with the answer
+// above it.
 #![tactic(auto)]
 
 pub mod numbers;
 
 ghost use Rattle.std.specs.Prelude.{◌≡◌, ◌%◌, ◌^◌, length};
 ghost use Rattle.types.specs.declared.Memory.TheVariants.{Array, Rows};
+ghost use Rattle.paper.specs.Refusals.{number_of};
 ghost use Rattle.record_bytes.specs.Read.{record_in};
 ghost use Rattle.ticks.specs.InBytes.{tick_bytes, tick_memory};
 ghost use Rattle.yawlspar.specs.Face.{packed, asked, given_number, power_up_answer, power_up_bytes, transact_answer, transact_bytes, transact_output, tick_answer};
 ghost use Rattle.yawlspar.specs.Version.{version};
 
 use record_bytes::places;
-use types::Identity;
+use refusals::ensure;
+use types::{Identity, Refusal, Stored};
 
 // A result has 56 bits above its number.
 const PLACES: u64 = 72057594037927936;
@@ -25,8 +28,9 @@ pub fn pack(number: u8, place: usize) -> u64
     (number as u64) + 256 * ((place as u64) % PLACES)
 }
 
-// Whether power-up can take what it is given: the size, the buffer's length, and the seven bytes.
-fn given_number(
+// Whether power-up can take what it is given: the size, the buffer's length, and the seven bytes. They are the arguments of
+// C's call, in its order. The tests are joined as values, as given_number joins them: a u8::try_from would be a branch for each.
+fn check_given(
     length: usize,
     blocks: u64,
     maker: u64,
@@ -36,8 +40,8 @@ fn given_number(
     status: u64,
     function: u64,
     extended: u64,
-) -> u8
-    ensures { result ≡ given_number length (asked blocks maker kind capacity device status function extended) }
+) -> Result<(), Refusal>
+    ensures { number_of result ≡ given_number length (asked blocks maker kind capacity device status function extended) }
 {
     let size = sizes::size_ok(blocks);
     let long = length == places::END;
@@ -51,7 +55,8 @@ fn given_number(
     let registers = words::both(s, words::both(f, e));
     let bytes = words::both(m, words::both(t, words::both(c, words::both(d, registers))));
     let fits = words::both(long, bytes);
-    words::number_or(size, 1, words::number_or(fits, 5, 0))
+    ensure(size, Refusal::Size)?;
+    ensure(fits, Refusal::Record)
 }
 
 // Power-up into a buffer of a record's length. The number is 0, 1 or 5; refused, the buffer is as it was.
@@ -69,7 +74,7 @@ pub fn yawlspar_power_up(
     ensures answer { result ≡ power_up_answer (length bytes.old) (asked blocks maker kind capacity device status function extended) }
     ensures bytes { bytes.new ≡ power_up_bytes (asked blocks maker kind capacity device status function extended) bytes.old }
 {
-    let number = given_number(
+    let checked = check_given(
         bytes.len(),
         blocks,
         maker,
@@ -80,8 +85,8 @@ pub fn yawlspar_power_up(
         function,
         extended,
     );
-    if number != 0 {
-        return number as u64;
+    if let Err(refusal) = checked {
+        return refusals::number(refusal) as u64;
     }
     let identity = Identity {
         maker: maker as u8,
@@ -89,10 +94,11 @@ pub fn yawlspar_power_up(
         capacity: capacity as u8,
         device: device as u8,
     };
-    let mut stored = record::no_stored();
-    stored.status = status as u8;
-    stored.function = function as u8;
-    stored.extended = extended as u8;
+    let stored = Stored {
+        status: status as u8,
+        function: function as u8,
+        extended: extended as u8,
+    };
     let up = record::power_up(blocks as u16, identity, stored);
     if up.number != 0 {
         return up.number as u64;
@@ -107,6 +113,7 @@ pub fn yawlspar_power_up(
 
 // A transaction. WP# is low for 0 and high for 1. The number and the first driven place; refused, with 1 to 5,
 // every buffer is as it was. Where the bytes hold no record, 1 is not judged: there is no size.
+// transact::transact is the same on a record in fields.
 pub fn yawlspar_transact(
     bytes: &mut [u8],
     array: &[u8],
@@ -119,11 +126,10 @@ pub fn yawlspar_transact(
     ensures bytes { bytes.new ≡ transact_bytes (record_in bytes.old) (length array.now) (length rows.now) wp input.now (length output.old) bytes.old }
     ensures output { output.new ≡ transact_output (record_in bytes.old) array.now rows.now wp input.now output.old }
 {
-    let found = record_bytes::reading::read(bytes);
-    if !found.ok {
-        let unread = refusals::later_refusal(false, rows.len(), input.len(), output.len());
-        return pack(unread, 0);
-    }
+    let Some(found) = record_bytes::reading::read(bytes) else {
+        let unread = refusals::check_later(false, rows.len(), input.len(), output.len());
+        return pack(refusals::number_of(unread), 0);
+    };
     let part = found.part;
     let phase = found.phase;
     // all bytes, cut to a length that the compiler knows

@@ -1,12 +1,16 @@
-// The C bench's functions on numbers.
+// The C bench's functions on numbers. As C gets them, none is 0, or 256 for a place in a page, and yes is 1.
 ghost use Rattle.std.specs.Prelude.{◌≡◌};
 ghost use Rattle.paper.specs.CBench.{protection_number, protected_first, protected_count, protected_answer, place_answer};
+
+// The bytes of a block, as C counts them.
+const BLOCK: u64 = types::BLOCK_BYTES as u64;
 
 // The protection question's number. The address does not matter to it.
 pub fn yawlspar_protection_number(code: u64, blocks: u64, address: u64) -> u64
     ensures { result ≡ protection_number code blocks }
 {
-    protection::question_number(code, blocks) as u64
+    let checked = protection::check_question(code, blocks);
+    refusals::number_of(checked) as u64
 }
 
 // Its first protected block, 0 where there is none and when refused.
@@ -32,8 +36,9 @@ pub fn yawlspar_protected(code: u64, blocks: u64, address: u64) -> u64
     if protected.count == 0 {
         return 0;
     }
-    let place = address % (blocks * 65536);
-    words::bit_of(protection::is_among(protected, (place / 65536) as usize)) as u64
+    let place = address % (blocks * BLOCK);
+    // bit_of, since protected_answer says bit
+    words::bit_of(protection::is_among(protected, (place / BLOCK) as usize)) as u64
 }
 
 // The place in a page of byte index of bytes that are sent from the place start on; 256 where there is none.

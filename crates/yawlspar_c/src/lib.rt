@@ -1,5 +1,6 @@
 // What C links of the model, which include/yawlspar.h declares, but for scripts, checks and maps: each function is the
 // library's of its name.
+// A crate is a library or a static library, so each export is a function of its own. C's types are numbers and buffers.
 #![tactic(auto)]
 
 ghost use Rattle.std.specs.Prelude.{◌≡◌, length};

@@ -7,13 +7,11 @@ use native.Mathlib.Omega.{arith}
 use lib.Dec.{eqb}
 use lib.ListN.{length}
 use borrow.Author.Tests.{eqb-true}
-use Rattle.types.specs.declared.Blank.{Blank}
-use Rattle.types.specs.declared.Blank.TheVariants.{Page, NoPage, Refused}
 use Rattle.words.proofs.Tests.{or_else_zero, unless_zero}
 use Rattle.paper.specs.Sizes.{size_ok}
 use Rattle.paper.specs.Numbers.{query_number}
 use Rattle.paper.specs.Board.{board_of}
-use Rattle.paper.specs.Map.{queried, map_tick_number_of, map_ticked}
+use Rattle.paper.specs.Map.{Blank, Page, NoPage, Refused, queried, map_tick_number_of, map_ticked}
 use Rattle.paper.proofs.Sizes.{size_range, limit_range}
 use Rattle.paper.proofs.CallKept.{done_at_most}
 use Rattle.paper.proofs.BlankQuery.{query_page}

@@ -1,9 +1,7 @@
 -- The answers of a query and of ticks with a map as C gets them: one number each.
 use Rattle.std.specs.Prelude.{ℕ}
-use Rattle.types.specs.declared.Blank.{Blank}
-use Rattle.types.specs.declared.Blank.TheVariants.{Page, NoPage, Refused}
 use Rattle.paper.specs.Sizes.{array_pages}
-use Rattle.paper.specs.Map.{MapTicked}
+use Rattle.paper.specs.Map.{Blank, Page, NoPage, Refused, MapTicked}
 use Rattle.yawlspar.specs.Face.{packed}
 
 -- a query on n blocks: the page; where there is none, the number of pages

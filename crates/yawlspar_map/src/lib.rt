@@ -1,15 +1,18 @@
 // A map of blank pages for C, which include/yawlspar.h declares and yawlspar_map_c exports: made from the array, searched, and kept
-// by ticks. A script with a map stands beside the other scripts.
+// by ticks. A script with a map stands beside the other scripts. C gets one number: that of a refusal, or 0, with the answer
+// above it.
 #![tactic(auto)]
 
 ghost use Rattle.std.specs.Prelude.{◌≡◌, length};
 ghost use Rattle.paper.specs.Numbers.{rebuild_number};
 ghost use Rattle.paper.specs.Map.{rebuilt, queried};
 ghost use Rattle.record_bytes.specs.Read.{record_in};
-ghost use Rattle.mapped.specs.InBytes.{held_map_ticked, board_bytes};
+ghost use Rattle.beside.specs.Beside.{board_bytes};
+ghost use Rattle.mapped.specs.InBytes.{held_map_ticked};
 ghost use Rattle.yawlspar_map.specs.Face.{blank_answer, map_tick_answer};
 
-use types::Blank;
+// The pages of a block.
+const BLOCK_PAGES: usize = types::BLOCK_BYTES / types::PAGE_BYTES;
 
 // A rebuild: the map is made from the array. The number; refused, with 1 or 36, the map is as it was.
 pub fn yawlspar_map_rebuild(blocks: u64, array: &[u8], map: &mut [u8]) -> u64
@@ -24,11 +27,13 @@ pub fn yawlspar_map_rebuild(blocks: u64, array: &[u8], map: &mut [u8]) -> u64
 pub fn yawlspar_map_next(blocks: u64, map: &[u8], page: u64) -> u64
     ensures { result ≡ blank_answer blocks (queried blocks map.now page) }
 {
-    let next = blank_map::next(blocks, map, page);
+    let next = match blank_map::next(blocks, map, page) {
+        Ok(next) => next,
+        Err(refusal) => return refusals::number(refusal) as u64,
+    };
     match next {
-        Blank::Page(found) => yawlspar::pack(0, found),
-        Blank::NoPage => yawlspar::pack(0, (blocks as usize) * 256),
-        Blank::Refused(number) => number as u64,
+        Some(found) => yawlspar::pack(0, found),
+        None => yawlspar::pack(0, (blocks as usize) * BLOCK_PAGES),
     }
 }
 

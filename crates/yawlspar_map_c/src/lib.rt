@@ -1,12 +1,14 @@
 // What C links of the calls that keep a map of blank pages: each function is the library's of its name. A static library of its
 // own, for the speed of calls without a map (docs/SPEED.md).
+// A crate is a library or a static library, so each export is a function of its own. C's types are numbers and buffers.
 #![tactic(auto)]
 
 ghost use Rattle.std.specs.Prelude.{◌≡◌, length};
 ghost use Rattle.paper.specs.Numbers.{rebuild_number};
 ghost use Rattle.paper.specs.Map.{rebuilt, queried};
 ghost use Rattle.record_bytes.specs.Read.{record_in};
-ghost use Rattle.mapped.specs.InBytes.{held_map_ticked, board_bytes};
+ghost use Rattle.beside.specs.Beside.{board_bytes};
+ghost use Rattle.mapped.specs.InBytes.{held_map_ticked};
 ghost use Rattle.yawlspar_map.specs.Face.{blank_answer, map_tick_answer};
 
 // A rebuild: the map is made from the array. The number; refused, with 1 or 36, the map is as it was.

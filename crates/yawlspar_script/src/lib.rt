@@ -1,10 +1,12 @@
 // Scripts, with a map of blank pages and without, and checks for C, which include/yawlspar.h declares and yawlspar_script_c exports.
+// C lends each list of a script as a buffer of its own, and gets one number: that of a refusal, or 0, with the answer above it.
 #![tactic(auto)]
 
 ghost use Rattle.std.specs.Prelude.{◌≡◌, ◌+◌, ◌*◌, ◌%◌, ◌^◌, ◌≤◌};
 ghost use Rattle.record_bytes.specs.Read.{record_in};
 ghost use Rattle.script.specs.InBytes.{script_of, held_script, script_bytes};
-ghost use Rattle.mapped.specs.InBytes.{held_map_scripted, board_bytes};
+ghost use Rattle.beside.specs.Beside.{board_bytes};
+ghost use Rattle.mapped.specs.InBytes.{held_map_scripted};
 ghost use Rattle.checker.specs.InBytes.{held_check};
 ghost use Rattle.yawlspar.specs.Face.{packed};
 ghost use Rattle.yawlspar_script.specs.Face.{script_answer, check_answer};
@@ -70,15 +72,12 @@ pub fn yawlspar_script_map(
     yawlspar::pack(kept.number, kept.step)
 }
 
-// A result has 48 bits above its number and what is said.
-const PLACES: u64 = 281474976710656;
-
 // What is said, 1 a step or 2 an address, with the step or the address, above a number of 0.
-fn pack(said: u64, place: usize) -> u64
+fn pack(said: u8, place: usize) -> u64
     requires { said ≤ 2 }
     ensures { result ≡ packed 0 (said + 256 * (place % 2 ^ 48)) }
 {
-    256 * (said + 256 * ((place as u64) % PLACES))
+    yawlspar::pack(0, yawlspar::pack(said, place) as usize)
 }
 
 // The verdict in one number.

@@ -1,11 +1,13 @@
 // What C links of scripts and checks: each function is the library's of its name. A static library of its own, for the speed of
 // single calls (docs/SPEED.md).
+// A crate is a library or a static library, so each export is a function of its own. C's types are numbers and buffers.
 #![tactic(auto)]
 
 ghost use Rattle.std.specs.Prelude.{◌≡◌};
 ghost use Rattle.record_bytes.specs.Read.{record_in};
 ghost use Rattle.script.specs.InBytes.{script_of, held_script, script_bytes};
-ghost use Rattle.mapped.specs.InBytes.{held_map_scripted, board_bytes};
+ghost use Rattle.beside.specs.Beside.{board_bytes};
+ghost use Rattle.mapped.specs.InBytes.{held_map_scripted};
 ghost use Rattle.checker.specs.InBytes.{held_check};
 ghost use Rattle.yawlspar_script.specs.Face.{script_answer, check_answer};
 

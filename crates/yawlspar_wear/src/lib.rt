@@ -1,4 +1,5 @@
 // Wear records for C, which include/yawlspar.h declares and yawlspar_wear_c exports: kept by ticks and by a script, and their text.
+// C lends each list of a script as a buffer of its own, and gets one number: that of a refusal, or 0, with the answer above it.
 #![tactic(auto)]
 
 ghost use Rattle.std.specs.Prelude.{◌≡◌, length};

@@ -1,5 +1,6 @@
 // What C links of the calls that keep wear records, and of their text: each function is the library's of its name. A static library
 // of its own, for the speed of calls without them (docs/SPEED.md).
+// A crate is a library or a static library, so each export is a function of its own. C's types are numbers and buffers.
 #![tactic(auto)]
 
 ghost use Rattle.std.specs.Prelude.{◌≡◌, length};

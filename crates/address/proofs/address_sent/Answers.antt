@@ -18,9 +18,9 @@ pub returns : goal.returns
 returns c =
     let a = c.args in
     let xs = a.input.now in
-    let l2 = c.lesser-end in
-    let e : 1 + l2.result - 1 ≡ min (min a.count 8) (length (drop 1 xs)) =
-    rw length-drop (omega (arith, l2.ensures, c.lesser.ensures)) in
+    let m = c.min-end in
+    let e : 1 + m.result - 1 ≡ min (min a.count 8) (length (drop 1 xs)) =
+    rw length-drop (omega (arith, m.ensures, c.min.ensures)) in
     let t : take 8 (take (min (min a.count 8) (length (drop 1 xs))) (drop 1 xs)) ≡ take (min (min a.count 8) (length (drop 1 xs))) (drop 1 xs) =
     take_all 8 _ (rw (length-take-le (min (min a.count 8) (length (drop 1 xs))) (drop 1 xs) (omega arith)) (omega arith)) in
     c.high_first.ensures ∙ rw (e, t, take_min)

@@ -8,19 +8,19 @@ use Rattle.words.specs.Lists.{all_below, AreBytes}
 use Rattle.blank_map.proofs.Blank.{blank_more}
 use Rattle.blank_map.proofs.all_blank.Goals as goal
 
-pub loop-i-init : goal.loop-i-init
+pub loop-byte-init : goal.loop-byte-init
 unfolding all_below
-loop-i-init c = (refl, omega arith, omega arith)
+loop-byte-init c = (refl, omega arith)
 
-pub loop-i-preserved : goal.loop-i-preserved
-loop-i-preserved c =
-    let l = c.loop-i in
+pub loop-byte-preserved : goal.loop-byte-preserved
+loop-byte-preserved c =
+    let l = c.loop-byte in
     let xs = c.args.bytes.now in
-    let bytes : AreBytes xs = λ j. omega (arith, c.shared_slice_known-1.given j) in
-    (rw add-one (blank_more xs l.all l.i bytes l.invariant.1 l.invariant.0), omega (arith, and_le_l l.all (get_or xs l.i 0)), omega arith)
+    let bytes : AreBytes xs = λ j. omega (arith, c.type_inv.bytes j) in
+    (rw add-one (blank_more xs l.all l.byte-index bytes l.invariant.1 l.invariant.0), omega (arith, and_le_l l.all (get_or xs l.byte-index 0)))
 
 pub returns : goal.returns
 returns c =
-    let l = c.loop-i in
-    let e : l.i ≡ length c.args.bytes.now = omega (arith, l.invariant.2) in
+    let l = c.loop-byte in
+    let e : l.byte-index ≡ length c.args.bytes.now = omega (arith, l.auto.byte-index-end) in
     rw (← e) l.invariant.0

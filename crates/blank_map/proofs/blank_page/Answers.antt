@@ -17,7 +17,7 @@ returns-then-array-page c =
 
 pub loop-k-init : goal.loop-k-init
 unfolding all_below
-loop-k-init c = (refl, omega arith)
+loop-k-init c = refl
 
 pub returns-then-not-all_blank : goal.returns-then-not-all_blank
 returns-then-not-all_blank c =
@@ -31,12 +31,12 @@ loop-k-preserved c =
     let a = c.args in
     let l = c.loop-k in
     let at = a.page * 256 + l.k * 64 in
-    (rw add-one (chunk_full_lem a.array.now a.page l.k at (at + 64 - at) refl (omega arith) (omega arith) l.invariant.0 (sym c.all_blank.ensures ∙ c.if-not-all_blank.false)), omega arith)
+    rw add-one (chunk_full_lem a.array.now a.page l.k at (at + 64 - at) refl (omega arith) (omega arith) l.invariant (sym c.all_blank.ensures ∙ c.if-not-all_blank.false))
 
 pub returns : goal.returns
 unfolding blank_page
 returns c =
     let l = c.loop-k in
     let a = c.args in
-    let e : l.k ≡ 4 = omega (arith, l.invariant.1) in
-    sym (ap (λ (k : ℕ). all_below (k * 64) (λ (i : ℕ). eqb (get_or a.array.now (a.page * 256 + i) 0) 255)) (sym e) ∙ l.invariant.0)
+    let e : l.k ≡ 4 = omega (arith, c.loop-k-test.false) in
+    sym (ap (λ (k : ℕ). all_below (k * 64) (λ (i : ℕ). eqb (get_or a.array.now (a.page * 256 + i) 0) 255)) (sym e) ∙ l.invariant)

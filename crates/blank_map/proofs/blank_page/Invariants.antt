@@ -1,4 +1,4 @@
-use Prim.Native.Nat.{ℕ, ◌+◌, ◌-◌, ◌*◌, ◌≤◌}
+use Prim.Native.Nat.{ℕ, ◌+◌, ◌*◌}
 use mathlib.Core.Path.{◌≡◌}
 use mathlib.Core.Bool.{true}
 use lib.Dec.{eqb}
@@ -7,7 +7,4 @@ use Rattle.words.specs.Lists.{all_below}
 use Rattle.blank_map.proofs.blank_page.Given as goal
 
 abbrev pub invariant-loop-k : goal.invariant-loop-k
-invariant-loop-k l = (all_below (l.k * 64) (λ (i : ℕ). eqb (get_or l.array (l.page * 256 + i) 0) 255) ≡ true) × (l.k ≤ 4)
-
-abbrev pub decreases-loop-k : goal.decreases-loop-k
-decreases-loop-k l = 4 - l.k
+invariant-loop-k l = all_below (l.k * 64) (λ (i : ℕ). eqb (get_or l.array (l.page * 256 + i) 0) 255) ≡ true

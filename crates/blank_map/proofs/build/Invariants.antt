@@ -1,14 +1,10 @@
-use Prim.Native.Nat.{◌-◌, ◌≤◌}
 use mathlib.Core.Path.{◌≡◌}
 use mathlib.Core.List.{◌++◌}
-use lib.ListN.{length, drop}
+use lib.ListN.{drop}
 use Rattle.words.specs.Lists.{up_to}
 use Rattle.words.specs.Bits.{byte_of}
 use Rattle.paper.specs.Map.{blank_page}
 use Rattle.blank_map.proofs.build.Given as goal
 
 abbrev pub invariant-loop-j : goal.invariant-loop-j
-invariant-loop-j l = (l.map ≡ up_to l.j (byte_of (blank_page l.array)) ++ drop l.j l.initial.map) × (length l.map ≡ length l.initial.map) × (l.j ≤ length l.initial.map)
-
-abbrev pub decreases-loop-j : goal.decreases-loop-j
-decreases-loop-j l = length l.initial.map - l.j
+invariant-loop-j l = l.map ≡ up_to l.j (byte_of (blank_page l.array)) ++ drop l.j l.initial.map

@@ -14,7 +14,7 @@ returns-then-n-j c =
 pub returns-then-rest-n : goal.returns-then-rest-n
 returns-then-rest-n c =
     let a = c.args in
-    let k = c.lesser-head in
+    let k = c.min-head in
     let p = c.requires in
     rw (c.mark_bits-then-rest-n.ensures, c.mark_bytes.ensures, c.mark_bits.ensures)
     (in-parts (λ (q : ℕ). true) a.map.now a.j a.place a.count k.result (a.count - k.result) (a.j + (a.place + 7) / 8) p k.ensures refl refl)
@@ -22,7 +22,7 @@ returns-then-rest-n c =
 pub returns-else-rest-n : goal.returns-else-rest-n
 returns-else-rest-n c =
     let a = c.args in
-    let k = c.lesser-head in
+    let k = c.min-head in
     let p = c.requires in
     rw (c.mark_bytes.ensures, c.mark_bits.ensures)
     (in-two-parts (λ (q : ℕ). true) a.map.now a.j a.place a.count k.result (a.count - k.result) (a.j + (a.place + 7) / 8) p k.ensures refl refl (omega (arith, c.if-rest-n.false)))

@@ -15,6 +15,6 @@ returns-then-n-j c =
 pub returns : goal.returns
 returns c =
     let a = c.args in
-    let k = c.lesser-some in
+    let k = c.min-some in
     let bytes : AreBytes a.map.now = λ i. omega (arith, c.slice_known-1.given i) in
-    bytes_put a.map.now a.j a.count k.result bytes (omega arith) k.ensures (a.j + k.result - a.j) (omega arith) _ c.blank.ensures
+    bytes_put a.map.now a.j a.count k.result bytes (omega arith) k.ensures (a.j + k.result - a.j) (omega arith) _ (c.fill.ensures.after (λ y e. e))

@@ -2,18 +2,16 @@
 use Prim.Native.Nat.{◌+◌, ◌-◌}
 use mathlib.Core.Path.{sym, ◌∙◌}
 use native.Mathlib.Omega.{arith}
+use borrow.Author.Tests.{lt-leb}
 use Rattle.blank_map.proofs.Clear.{no_group, group_lent}
 use Rattle.blank_map.proofs.zero_group.Goals as goal
 
-pub overflow_sub-map : goal.overflow_sub-map
-overflow_sub-map c = omega (arith, c.requires)
-
-pub returns-then-map-j-lt8 : goal.returns-then-map-j-lt8
-returns-then-map-j-lt8 c =
+pub returns-then-map-j-ge8 : goal.returns-then-map-j-ge8
+returns-then-map-j-ge8 c =
     let a = c.args in
-    sym (no_group a.map.now a.j (omega (arith, c.if-map-j-lt8.true, c.requires)))
+    c.zero_from.ensures ∙ group_lent a.map.now a.j (a.j + 8 - a.j) (omega arith) (omega (arith, c.if-map-j-ge8.true, c.requires))
 
-pub returns : goal.returns
-returns c =
+pub returns-else-map-j-ge8 : goal.returns-else-map-j-ge8
+returns-else-map-j-ge8 c =
     let a = c.args in
-    c.zero_from.ensures ∙ group_lent a.map.now a.j (a.j + 8 - a.j) (omega arith) (omega (arith, c.if-map-j-lt8.false, c.requires))
+    lt-leb 8 _ c.if-map-j-ge8.false ∙ sym (no_group a.map.now a.j (omega (arith, c.if-map-j-ge8.false, c.requires)))

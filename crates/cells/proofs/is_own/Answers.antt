@@ -1,24 +1,23 @@
--- `cells::is_own` meets its contract: each range of kinds has its law.
-use mathlib.Core.Path.{sym, ap, ◌∙◌}
-use mathlib.Core.Bool.{Bool}
+-- `cells::is_own` meets its contract: each kind has its law.
+use mathlib.Core.Path.{sym, ◌∙◌}
 use lib.Dec.{eqb}
 use Rattle.words.specs.Logic.{◌and◌}
-use Rattle.cells.proofs.Own.{programs_own, erases_own, writes_own, below_own, above_own}
+use Rattle.words.proofs.Tests.{and_assoc}
+use Rattle.cells.proofs.Own.{own_program, own_erase, own_write, none_own}
 use Rattle.cells.proofs.is_own.Goals as goal
 
-pub returns-in-1 : goal.returns-in-1
-returns-in-1 c = sym (programs_own _ c.in-1.if-kind-lt1-own.false c.in-1.if-kind-lt3-own.true)
+pub returns-in-Ok-Program : goal.returns-in-Ok-Program
+returns-in-Ok-Program c = sym (own_program c.args.cells _ (sym (rw c.in-Ok-Program.field-0-is at c.in-Ok-Program.ensures)))
 
-pub returns-in-3 : goal.returns-in-3
-returns-in-3 c = c.both.ensures ∙ sym (erases_own _ c.in-3.if-kind-lt3-own.false c.in-3.if-kind-lt8-own.true)
+pub returns-in-Ok-Erase : goal.returns-in-Ok-Erase
+unfolding ◌and◌
+returns-in-Ok-Erase c = c.eq.ensures ∙ sym (own_erase c.args.cells _ (sym (rw c.in-Ok-Erase.field-0-is at c.in-Ok-Erase.ensures)))
 
-pub returns-in-8 : goal.returns-in-8
-returns-in-8 c =
+pub returns-in-Ok-Write : goal.returns-in-Ok-Write
+unfolding ◌and◌
+returns-in-Ok-Write c =
     let s = c.args.cells in
-    c.both-in-8-2.ensures ∙ ap (λ (t : Bool). eqb s.base 0 and t) c.both-in-8.ensures ∙ sym (writes_own s c.in-8.if-kind-lt8-own.false c.in-8.if-kind-lt11-own.true)
+    c.eq-in-Ok-Write.ensures ∙ sym (and_assoc (eqb s.base 0) (eqb s.count 0) (eqb s.done 0)) ∙ sym (own_write c.args.cells _ (sym (rw c.in-Ok-Write.field-0-is at c.in-Ok-Write.ensures)))
 
-pub returns-in_default : goal.returns-in_default
-returns-in_default c = sym (below_own _ c.in_default.if-kind-lt1-own.true)
-
-pub returns-in_default-2 : goal.returns-in_default-2
-returns-in_default-2 c = sym (above_own _ c.in_default.if-kind-lt11-own.false)
+pub returns-in-Err : goal.returns-in-Err
+returns-in-Err c = sym (none_own c.args.cells c.in-Err.ensures)

@@ -11,7 +11,7 @@ returns-then-image-array c =
     let s = script_of a.wp a.input.now a.lengths.now a.ticks.now in
     let h = c.if-image-array.true in
     let g = image_left a.bytes.now a.wp s a.array.now a.rows.now a.output.now a.answers.now a.done.now a.image.now h in
-    record { verdict = ap Refused c.image_refusal-number.ensures ∙ image_verdict a.bytes.now a.wp s a.array.now a.rows.now a.output.now a.answers.now a.done.now a.image.now h; bytes = g.bytes; array = g.array; rows = g.rows; output = g.output; answers = g.answers; done = g.done }
+    record { verdict = ap Refused (c.number.ensures ∙ c.image_refusal-refusal.ensures) ∙ image_verdict a.bytes.now a.wp s a.array.now a.rows.now a.output.now a.answers.now a.done.now a.image.now h; bytes = g.bytes; array = g.array; rows = g.rows; output = g.output; answers = g.answers; done = g.done }
 
 pub returns-then-not-has_run : goal.returns-then-not-has_run
 returns-then-not-has_run c =

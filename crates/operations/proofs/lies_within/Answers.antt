@@ -6,17 +6,17 @@ use Prim.Native.Nat.{suc, ◌+◌, ◌-◌, ◌≤◌, ◌<◌}
 use native.Mathlib.Omega.{arith}
 use Rattle.operations.proofs.lies_within.Goals as goal
 
-pub returns-then-place-base : goal.returns-then-place-base
+pub returns-then-base-place : goal.returns-then-base-place
 unfolding ◌and◌
-returns-then-place-base c =
-    let a = c.args in
-    let h : a.place < a.base = omega arith in
-    rw (lt-leb _ _ h)
-
-pub returns : goal.returns
-unfolding ◌and◌
-returns c =
+returns-then-base-place c =
     let a = c.args in
     let h : a.base ≤ a.place = omega arith in
     rw (le-leb _ _ h)
     (same_leb (suc (a.place - a.base)) a.size (suc a.place) (a.base + a.size) (λ l. omega arith) (λ l. omega arith))
+
+pub returns-else-base-place : goal.returns-else-base-place
+unfolding ◌and◌
+returns-else-base-place c =
+    let a = c.args in
+    let h : a.place < a.base = omega arith in
+    rw (lt-leb _ _ h)

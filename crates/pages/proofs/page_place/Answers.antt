@@ -5,4 +5,4 @@ use Rattle.pages.proofs.page_place.Goals as goal
 
 pub returns : goal.returns
 unfolding page_place
-returns c = omega (arith, c.wrapping_add_u8.ensures)
+returns c = omega arith

@@ -1,12 +1,14 @@
--- `record::power_up` meets its contract: the number decides which record is made.
-use borrow.Author.Tests.{eq-eqb, ne_eqb}
+-- `record::power_up` meets its contract: the refusal decides which record is made.
+use borrow.Author.Tests.{eq-eqb}
+use mathlib.Core.Path.{sym}
+use Rattle.paper.proofs.Refusals.{refused}
 use Rattle.paper.specs.Calls.{powered_up}
 use Rattle.record.proofs.power_up.Goals as goal
 
-pub returns-then-number-ne0 : goal.returns-then-number-ne0
+pub returns-in-Err : goal.returns-in-Err
 unfolding powered_up
-returns-then-number-ne0 c = rw (← c.power_up_number-number.ensures, ne_eqb _ _ c.if-number-ne0.true, c.zero_record-none.ensures)
+returns-in-Err c = rw (← c.in-Err.ensures, refused c.in-Err.refusal, c.zero_record.ensures, c.number.ensures)
 
 pub returns : goal.returns
 unfolding powered_up
-returns c = rw (← c.power_up_number-number.ensures, eq-eqb _ _ c.if-number-ne0.false, c.make_fresh-next.ensures)
+returns c = rw (eq-eqb _ _ (sym c.in_default.ensures), c.make_fresh.ensures)

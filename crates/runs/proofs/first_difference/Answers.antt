@@ -1,86 +1,57 @@
--- `runs::first_difference` meets its contract. The loop's invariant: none of the chunks so far differs.
-use Prim.Native.Nat.{ℕ, ◌+◌, ◌-◌, ◌≤◌}
-use mathlib.Core.Path.{◌≡◌, refl, sym, ap, ◌∙◌}
-use native.Mathlib.Omega.{arith}
-use lib.ListN.{length}
+-- `runs::first_difference` meets its contract. The loop's invariant: nothing differs before the place, and the chunks go on from there.
+use Rattle.std.proofs.Common.{◌≡◌, length, sym, ◌∙◌, inl, inr, arith, rules}
+use Rattle.std.specs.Cmp.Lexicographic.{same_text, other_text}
+use borrow.Author.Tests.{not-true, not-false}
 use Rattle.words.specs.Lists.{first_of, differ_at}
-use Rattle.runs.proofs.Differing.{same_chunks, within_le, chunk_differs, chunk_same}
+use Rattle.words.proofs.Search.{first_le}
+use Rattle.runs.proofs.Differing.{chunks, none_left}
 use Rattle.runs.proofs.first_difference.Goals as goal
 
-pub loop-i-init : goal.loop-i-init
+pub loop-x-init : goal.loop-x-init
 unfolding first_of
-loop-i-init c = (refl, omega arith)
+loop-x-init c = search rules
 
-pub overflow_add-x : goal.overflow_add-x
-overflow_add-x c = omega (arith, c.lesser-some.ensures)
-
-pub slice_bounds-x-end : goal.slice_bounds-x-end
-slice_bounds-x-end c = omega (arith, c.lesser-some.ensures, c.lesser-n.ensures)
-
-pub overflow_add-y : goal.overflow_add-y
-overflow_add-y c = omega (arith, c.lesser-some.ensures)
-
-pub slice_bounds-y-end : goal.slice_bounds-y-end
-slice_bounds-y-end c = omega (arith, c.lesser-some.ensures, c.lesser-n.ensures)
-
-pub differ-requires : goal.differ-requires
-differ-requires c =
-    let l = c.loop-i in
-    let a = c.args in
-    let k = c.lesser-some in
-    let n = c.lesser-n in
-    let m : l.i + k.result - l.i ≡ k.result = omega arith in
-    let r : l.i + k.result ≤ n.result = omega (arith, k.ensures) in
-    same_chunks a.a.now a.b.now l.i k.result _ m (omega (arith, n.ensures)) (omega (arith, n.ensures))
+pub loop-x-preserved : goal.loop-x-preserved
+loop-x-preserved c =
+    let i = c.loop-x.invariant in
+    let h = c.in-Some.ensures.steps in
+    let k = chunks _ _ _ _ 4096 _ _ _ _ _ _ _ _ c.min-n.ensures i.inside i.none i.left_a i.left_b i.size_a i.size_b h.0.1.0 h.1.1.0 h.0.1.1 h.1.1.1 in
+    record {
+      none = k.equal (same_text _ _ (sym (not-false _ (sym c.ne.ensures ∙ c.if-ne.false))));
+      inside = k.room;
+      left_a = k.left_a;
+      left_b = k.left_b;
+      size_a = h.0.0 ∙ i.size_a;
+      size_b = h.1.0 ∙ i.size_b;
+    }
 
 pub first_of_chunk-requires : goal.first_of_chunk-requires
 first_of_chunk-requires c =
-    let l = c.loop-i in
-    let a = c.args in
-    let k = c.lesser-some in
-    let n = c.lesser-n in
-    let m : l.i + k.result - l.i ≡ k.result = omega arith in
-    let r : l.i + k.result ≤ n.result = omega (arith, k.ensures) in
-    same_chunks a.a.now a.b.now l.i k.result _ m (omega (arith, n.ensures)) (omega (arith, n.ensures))
+    let i = c.loop-x.invariant in
+    let h = c.in-Some.ensures.steps in
+    let k = chunks _ _ _ _ 4096 _ _ _ _ _ _ _ _ c.min-n.ensures i.inside i.none i.left_a i.left_b i.size_a i.size_b h.0.1.0 h.1.1.0 h.0.1.1 h.1.1.1 in
+    k.same
 
 pub overflow_add-result : goal.overflow_add-result
 overflow_add-result c =
-    let l = c.loop-i in
-    let a = c.args in
-    let k = c.lesser-some in
-    let m : l.i + k.result - l.i ≡ k.result = omega arith in
-    let r : l.i + k.result ≤ length a.a.now = omega (arith, k.ensures, c.lesser-n.ensures) in
-    omega (arith, k.ensures, c.first_of_chunk.ensures, within_le a.a.now a.b.now l.i k.result _ m r l.invariant.0)
+    let i = c.loop-x.invariant in
+    let h = c.in-Some.ensures.steps in
+    let k = chunks _ _ _ _ 4096 _ _ _ _ _ _ _ _ c.min-n.ensures i.inside i.none i.left_a i.left_b i.size_a i.size_b h.0.1.0 h.1.1.0 h.0.1.1 h.1.1.1 in
+    omega (arith, k.room, c.first_of_chunk.ensures, first_le (differ_at c.in-Some.x.now c.in-Some.y.now) (length c.in-Some.x.now))
 
-pub returns-then-differ : goal.returns-then-differ
-returns-then-differ c =
-    let l = c.loop-i in
-    let a = c.args in
-    let k = c.lesser-some in
-    let n = c.lesser-n in
-    let m : l.i + k.result - l.i ≡ k.result = omega arith in
-    let r : l.i + k.result ≤ length a.a.now = omega (arith, k.ensures, n.ensures) in
-    rw c.first_of_chunk.ensures (chunk_differs a.a.now a.b.now l.i k.result _ m r l.invariant.0 _ (omega (arith, k.ensures, n.ensures)) (sym c.differ.ensures ∙ c.if-differ.true))
-
-pub overflow_add-i : goal.overflow_add-i
-overflow_add-i c = omega (arith, c.lesser-some.ensures)
-
-pub loop-i-smaller : goal.loop-i-smaller
-loop-i-smaller c = omega (arith, c.lesser-some.ensures)
-
-pub loop-i-preserved : goal.loop-i-preserved
-loop-i-preserved c =
-    let l = c.loop-i in
-    let a = c.args in
-    let k = c.lesser-some in
-    let n = c.lesser-n in
-    let m : l.i + k.result - l.i ≡ k.result = omega arith in
-    let r : l.i + k.result ≤ length a.a.now = omega (arith, k.ensures, n.ensures) in
-    (chunk_same a.a.now a.b.now l.i k.result _ m r l.invariant.0 (sym c.differ.ensures ∙ c.if-differ.false), omega (arith, k.ensures))
+pub returns-then-ne : goal.returns-then-ne
+returns-then-ne c =
+    let i = c.loop-x.invariant in
+    let h = c.in-Some.ensures.steps in
+    let k = chunks _ _ _ _ 4096 _ _ _ _ _ _ _ _ c.min-n.ensures i.inside i.none i.left_a i.left_b i.size_a i.size_b h.0.1.0 h.1.1.0 h.0.1.1 h.1.1.1 in
+    rw (c.first_of_chunk.ensures, ← c.min-n.ensures) (k.unequal (other_text _ _ (sym (not-true _ (sym c.ne.ensures ∙ c.if-ne.true)))))
 
 pub returns : goal.returns
 returns c =
-    let l = c.loop-i in
-    let n = c.lesser-n in
-    let e : l.i ≡ n.result = omega (arith, l.invariant.1) in
-    sym (ap (λ (k : ℕ). first_of k (differ_at c.args.a.now c.args.b.now)) (sym n.ensures ∙ sym e) ∙ l.invariant.0)
+    let i = c.loop-x.invariant in
+    let n = c.min-n.ensures in
+    let all : c.loop-x.at ≡ c.min-n.result = elim c.in-None.ensures.steps [
+      | inl w ↦ none_left _ _ _ _ (omega (arith, n)) i.inside i.left_a w.1.1.0
+      | inr w ↦ none_left _ _ _ _ (omega (arith, n)) i.inside i.left_b w.1.1.0
+    ] in
+    rw (← n, ← all) (sym i.none)

@@ -11,7 +11,7 @@ use Rattle.runs.proofs.first_of_chunk.Goals as goal
 
 pub loop-i-init : goal.loop-i-init
 unfolding first_of
-loop-i-init c = (refl, omega arith)
+loop-i-init c = refl
 
 pub bounds-b-i : goal.bounds-b-i
 bounds-b-i c = omega (arith, c.requires)
@@ -20,17 +20,17 @@ pub returns-then-a-i : goal.returns-then-a-i
 returns-then-a-i c =
     let l = c.loop-i in
     let a = c.args in
-    sym (first_next (differ_at a.a.now a.b.now) l.i l.invariant.0 (length a.a.now) c.loop-i-test.true (ap not (ne_eqb _ _ c.if-a-i.true)))
+    sym (first_next (differ_at a.a.now a.b.now) l.i l.invariant (length a.a.now) c.loop-i-test.true (ap not (ne_eqb _ _ c.if-a-i.true)))
 
 pub loop-i-preserved : goal.loop-i-preserved
 loop-i-preserved c =
     let l = c.loop-i in
     let a = c.args in
-    (rw add-one (none_next (differ_at a.a.now a.b.now) l.i l.invariant.0 (ap not (eq-eqb _ _ c.if-a-i.false))), omega arith)
+    rw add-one (none_next (differ_at a.a.now a.b.now) l.i l.invariant (ap not (eq-eqb _ _ c.if-a-i.false)))
 
 pub returns : goal.returns
 returns c =
     let l = c.loop-i in
     let a = c.args in
-    let e : l.i ≡ length a.a.now = omega (arith, l.invariant.1) in
-    rw (← e) (sym l.invariant.0)
+    let e : l.i ≡ length a.a.now = omega arith in
+    rw (← e) (sym l.invariant)

@@ -1,11 +1,7 @@
-use mathlib.Core.Path.{◌≡◌}
-use Prim.Native.Nat.{◌+◌, ◌-◌, ◌≤◌}
-use lib.ListN.{length}
+-- What is left and the sum so far make the total.
+use Rattle.std.proofs.Common.{◌≡◌, ◌+◌}
 use Rattle.words.specs.Lists.{sum_to}
 use Rattle.script.proofs.add_up.Given as goal
 
-abbrev pub invariant-loop-k : goal.invariant-loop-k
-invariant-loop-k l = (l.left + sum_to l.lengths l.k ≡ l.total) × (l.k ≤ length l.lengths)
-
-abbrev pub decreases-loop-k : goal.decreases-loop-k
-decreases-loop-k l = length l.lengths - l.k
+abbrev pub invariant-loop-n : goal.invariant-loop-n
+invariant-loop-n l = l.left + sum_to l.lengths l.n-index ≡ l.total

@@ -1,29 +1,30 @@
--- What the turns that `begin` asks come to is what the script gives.
-use Rattle.std.proofs.Common.{sym, ap}
-use Rattle.paper.specs.Script.{Scripted}
-use Rattle.script.specs.Steps.{counted}
-use Rattle.script.specs.InBytes.{ran_of}
-use Rattle.script.proofs.WearInBytes.{begun_begins, ends_run, ends_bytes, ends_wear}
+-- `script::run_wear` meets its contract: another number of records than sectors leaves all as it was, and else the script is run and they are kept.
+use mathlib.Core.Path.{◌≡◌, refl, sym, ap, ◌∙◌}
+use borrow.Author.Tests.{eqb-false}
+use Rattle.paper.specs.Wear.{WearScripted}
+use Rattle.paper.specs.Refusals.{number}
+use Rattle.paper.proofs.Refusals.{refused}
+use Rattle.beside.proofs.Told.{same_bytes}
+use Rattle.record_bytes.specs.Read.{record_in}
+use Rattle.script.specs.InBytes.{script_of, script_bytes}
+use Rattle.script.proofs.InBytes.{gives}
+use Rattle.script.proofs.WearInBytes.{refused_wear_script, passed_wear_script}
 use Rattle.script.proofs.run_wear.Goals as goal
 
-pub steps_wear-last-requires : goal.steps_wear-last-requires
-steps_wear-last-requires c =
+pub returns-in-Err : goal.returns-in-Err
+returns-in-Err c =
     let a = c.args in
-    begun_begins a.bytes.now a.wp a.input.now a.lengths.now a.ticks.now a.array.now a.rows.now a.output.now a.answers.now a.done.now a.wear.now c.begin-begun.result c.begin-begun.ensures
+    let bs = a.bytes.now in
+    let stop : number c.in-Err.unfit ≡ 0 → ⊥ = eqb-false _ _ (refused c.in-Err.unfit) in
+    let e = sym (refused_wear_script a.bytes.now a.wp (script_of a.wp a.input.now a.lengths.now a.ticks.now) a.array.now a.rows.now a.output.now a.answers.now a.done.now a.wear.now _ c.in-Err.ensures stop) in
+    let g = gives _ _ (ap (λ (w : WearScripted). w.run) e) in
+    record { answer = c.refused.ensures ∙ g.answer; bytes = same_bytes bs a.array.now a.rows.now ∙ ap (λ (w : WearScripted). script_bytes (record_in bs) w.run bs) e; array = g.array; rows = g.rows; output = g.output; answers = g.answers; done = g.done; wear = ap (λ (w : WearScripted). w.wear) e }
 
 pub returns : goal.returns
 returns c =
     let a = c.args in
-    let r = c.begin-begun in
-    let t = c.steps_wear-last in
-    let g = sym (ends_run a.bytes.now a.wp a.input.now a.lengths.now a.ticks.now a.array.now a.rows.now a.output.now a.answers.now a.done.now a.wear.now r.result r.ensures (counted t.result t.new.bytes t.new.array t.new.rows t.new.output t.new.answers t.new.done) t.ensures.made) in
-    record {
-      answer = ap ran_of g;
-      bytes = ends_bytes a.bytes.now a.wp a.input.now a.lengths.now a.ticks.now a.array.now a.rows.now a.output.now a.answers.now a.done.now a.wear.now r.result r.ensures t.new.bytes t.ensures.bytes;
-      array = ap (λ (w : Scripted). w.board.array) g;
-      rows = ap (λ (w : Scripted). w.board.rows) g;
-      output = ap (λ (w : Scripted). w.output) g;
-      answers = ap (λ (w : Scripted). w.answers) g;
-      done = ap (λ (w : Scripted). w.done) g;
-      wear = ends_wear a.bytes.now a.wp a.input.now a.lengths.now a.ticks.now a.array.now a.rows.now a.output.now a.answers.now a.done.now a.wear.now r.result r.ensures t.new.wear t.ensures.wear;
-    }
+    let bs = a.bytes.now in
+    let t = c.run_with.ensures in
+    let e = sym (passed_wear_script a.bytes.now a.wp (script_of a.wp a.input.now a.lengths.now a.ticks.now) a.array.now a.rows.now a.output.now a.answers.now a.done.now a.wear.now _ c.in_default.ensures refl) in
+    let g = gives _ _ (t.run ∙ ap (λ (w : WearScripted). w.run) e) in
+    record { answer = g.answer; bytes = t.bytes ∙ ap (λ (w : WearScripted). script_bytes (record_in bs) w.run bs) e; array = g.array; rows = g.rows; output = g.output; answers = g.answers; done = g.done; wear = t.wear ∙ ap (λ (w : WearScripted). w.wear) e }

@@ -1,10 +1,6 @@
-use Prim.Native.Nat.{◌≤◌, ◌-◌}
-use mathlib.Core.Path.{◌≡◌}
+use Rattle.std.proofs.Common.{◌≡◌}
 use Rattle.ticks.specs.OneMemory.{bytes_narrowed}
 use Rattle.ticks.proofs.narrow_page.Given as goal
 
 abbrev pub invariant-loop-i : goal.invariant-loop-i
-invariant-loop-i l = (l.page ≡ bytes_narrowed l.i 0 l.start l.done l.kept l.initial.page) × (l.i ≤ l.count)
-
-abbrev pub decreases-loop-i : goal.decreases-loop-i
-decreases-loop-i l = l.count - l.i
+invariant-loop-i l = l.page ≡ bytes_narrowed l.i 0 l.start l.done l.kept l.initial.page

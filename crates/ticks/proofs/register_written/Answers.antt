@@ -4,11 +4,11 @@ use lib.Bits.{bit_or, or_lt}
 use native.Mathlib.Omega.{arith}
 use Rattle.ticks.proofs.register_written.Goals as goal
 
-pub overflow_mul-next : goal.overflow_mul-next
-overflow_mul-next c = let a = c.args in let h : bit_or (a.stored.function / 16) (a.value / 16) < 16 = or_lt 4 (a.stored.function / 16) (a.value / 16) (omega arith) (omega arith) in omega arith
+pub overflow_mul-function : goal.overflow_mul-function
+overflow_mul-function c = let a = c.args in let h : bit_or (a.stored.function / 16) (a.value / 16) < 16 = or_lt 4 (a.stored.function / 16) (a.value / 16) (omega arith) (omega arith) in omega arith
 
-pub overflow_add-next : goal.overflow_add-next
-overflow_add-next c = let a = c.args in let h : bit_or (a.stored.function / 16) (a.value / 16) < 16 = or_lt 4 (a.stored.function / 16) (a.value / 16) (omega arith) (omega arith) in omega arith
+pub overflow_add-function : goal.overflow_add-function
+overflow_add-function c = let a = c.args in let h : bit_or (a.stored.function / 16) (a.value / 16) < 16 = or_lt 4 (a.stored.function / 16) (a.value / 16) (omega arith) (omega arith) in omega arith
 
 pub returns-in-Status : goal.returns-in-Status
 returns-in-Status c = rw c.in-Status.is

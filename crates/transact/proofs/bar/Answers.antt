@@ -3,4 +3,4 @@ use mathlib.Core.Path.{refl}
 use Rattle.transact.proofs.bar.Goals as goal
 
 pub returns : goal.returns
-returns c = (rw c.change_barred-change.ensures refl, c.blank.ensures)
+returns c = (rw (c.number.ensures, c.change_barred-change.ensures) refl, c.blank.ensures)

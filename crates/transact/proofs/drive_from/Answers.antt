@@ -9,6 +9,6 @@ pub returns : goal.returns
 returns c =
     let s = c in
     let a = c.args in
-    let m = c.lesser-first in
+    let m = c.min-first in
     c.drive.ensures
     ∙ driven_blank a.output.now a.from m.result (m.result - 0) _ (omega arith) m.ensures c.blank.ensures a.source.now a.at (λ z. omega (arith, c.requires))

@@ -11,6 +11,6 @@ returns c =
     let s = c in
     let xs = c.args.rows.now in
     let b = c.row_base-base in
-    let m = c.lesser-end in
+    let m = c.min-end in
     let e : m.result - b.result ≡ min 256 (length (drop b.result xs)) = rw length-drop (omega (arith, m.ensures, b.ensures, c.requires)) in
     c.drive_from.ensures ∙ rw (e, take_min, c.row_byte-at.ensures, b.ensures)

@@ -3,4 +3,4 @@ use mathlib.Core.Path.{refl}
 use Rattle.transact.proofs.ignore.Goals as goal
 
 pub returns : goal.returns
-returns c = (refl, c.blank.ensures)
+returns c = (rw c.number.ensures refl, c.blank.ensures)

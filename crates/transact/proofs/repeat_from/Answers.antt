@@ -8,5 +8,5 @@ use Rattle.transact.proofs.repeat_from.Goals as goal
 pub returns : goal.returns
 returns c =
     let a = c.args in
-    let m = c.lesser-first in
+    let m = c.min-first in
     repeated_blank a.output.now a.from m.result (m.result - 0) _ (omega arith) m.ensures c.blank.ensures a.byte (length a.output.now - m.result) _ (omega arith) c.fill.ensures

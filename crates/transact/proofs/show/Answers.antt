@@ -16,11 +16,11 @@ drive_row-requires c =
     let a = c.args in
     rw c.requires.2 (row_inside a.k a.identity a.part a.array.now a.rows.now a.input.now c.in-RowBytes.is c.requires.0)
 
-pub returns-in-None : goal.returns-in-None
-returns-in-None c =
+pub returns-in-Void : goal.returns-in-Void
+returns-in-Void c =
     let s = c in
     let a = c.args in
-    c.blank.ensures ∙ rw c.requires.1 (sym (blank_output a.k a.identity a.part a.array.now a.rows.now a.input.now c.in-None.is))
+    c.blank.ensures ∙ rw c.requires.1 (sym (blank_output a.k a.identity a.part a.array.now a.rows.now a.input.now c.in-Void.is))
 
 pub returns-in-ArrayBytes : goal.returns-in-ArrayBytes
 returns-in-ArrayBytes c =

@@ -1,7 +1,8 @@
--- One field of one record changes.
-use Rattle.wear_records.specs.Thin.{erase_at}
+-- One erase more: a full count stays.
+use mathlib.Core.Path.{◌∙◌}
+use native.Mathlib.Omega.{arith}
+use Rattle.wear_records.proofs.Laws.{saturates}
 use Rattle.wear_records.proofs.add_erase.Goals as goal
 
-pub returns : goal.returns
-unfolding erase_at
-returns c = rw c.more.ensures
+pub returns-clause-erases : goal.returns-clause-erases
+returns-clause-erases c = c.saturating_add-sector.ensures ∙ saturates c.args.sector.now.erases (omega arith)

@@ -1,9 +1,9 @@
 -- `wear_records::ends` meets its contract: the last tick comes after those done, and is among the next ones.
 use Prim.Native.Nat.{ℕ, suc, ◌-◌, ◌≤◌, ◌<◌}
-use mathlib.Core.Path.{◌≡◌, sym}
+use mathlib.Core.Path.{◌≡◌, sym, ◌∙◌}
 use mathlib.Core.Bool.{false}
 use native.Mathlib.Omega.{arith}
-use borrow.Author.Tests.{leb-true, le-leb}
+use borrow.Author.Tests.{leb-true, le-leb, le-ltb}
 use lib.Dec.{leb}
 use Rattle.words.proofs.Tests.{same_tests, fails}
 use Rattle.paper.specs.Sizes.{from_on}
@@ -20,5 +20,5 @@ over d t k h = fails _ (λ e. omega (arith, (on_from (suc d) t k e).0))
 pub returns-then-done-count : goal.returns-then-done-count
 returns-then-done-count c = let a = c.args in to-come a.done a.ticks a.count c.if-done-count.true
 
-pub returns : goal.returns
-returns c = let a = c.args in sym (over a.done a.ticks a.count c.if-done-count.false)
+pub returns-else-done-count : goal.returns-else-done-count
+returns-else-done-count c = let a = c.args in le-ltb a.done a.count c.if-done-count.false ∙ sym (over a.done a.ticks a.count c.if-done-count.false)

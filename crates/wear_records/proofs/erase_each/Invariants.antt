@@ -1,10 +1,6 @@
--- So many sectors have one erase more.
-use Rattle.std.proofs.Common.{◌-◌, ◌≡◌, ◌≤◌}
+use Rattle.std.proofs.Common.{◌≡◌, ◌++◌, take, drop}
 use Rattle.wear_records.specs.Thin.{erased_from}
 use Rattle.wear_records.proofs.erase_each.Given as goal
 
-abbrev pub invariant-loop-k : goal.invariant-loop-k
-invariant-loop-k l = (l.k ≤ l.count) × (l.wear ≡ erased_from l.first l.k l.fn.wear)
-
-abbrev pub decreases-loop-k : goal.decreases-loop-k
-decreases-loop-k l = l.count - l.k
+abbrev pub invariant-loop-sector : goal.invariant-loop-sector
+invariant-loop-sector l = take l.first l.fn.wear ++ (l.sector-items ++ drop l.count (drop l.first l.fn.wear)) ≡ erased_from l.first l.sector-index l.fn.wear

@@ -1,5 +1,6 @@
 -- Counted one field at a time, a tally makes what the whole tally makes.
-use Rattle.std.proofs.Common.{length, arith}
+use Rattle.std.proofs.Common.{◌≡◌, ◌<◌, true, false, length, arith, sym, ap, ◌∙◌}
+use Rattle.types.specs.declared.Tally.{Tally}
 use Rattle.wear_records.specs.Thin.{clipped}
 use Rattle.wear_records.proofs.Laws.{erased_length, clipped_erases, clipped_at, clipped_worn}
 use Rattle.wear_records.proofs.keep.Goals as goal
@@ -9,9 +10,21 @@ erase_each-requires c = rw c.within-t.ensures (clipped_erases c.args.tally (leng
 
 pub add_program-requires : goal.add_program-requires
 add_program-requires c =
-    rw (c.erase_each.ensures, c.within-t.ensures)
-    (λ e. omega (arith, clipped_at c.args.tally (length c.args.wear.now) e, erased_length (clipped c.args.tally (length c.args.wear.now)).first (clipped c.args.tally (length c.args.wear.now)).erases c.args.wear.now))
+    let a = c.args in
+    let t = clipped a.tally (length a.wear.now) in
+    let at : t.at < length a.wear.now = clipped_at a.tally (length a.wear.now) (ap (λ (x : Tally). x.programmed) (sym c.within-t.ensures) ∙ c.if-t.true) in
+    rw (c.erase_each.ensures, c.within-t.ensures) (omega (arith, at, erased_length t.first t.erases a.wear.now))
 
-pub returns : goal.returns
-returns c =
-    rw (c.add_program.ensures, c.erase_each.ensures, c.within-t.ensures) (clipped_worn c.args.tally c.args.wear.now)
+pub returns-then-t : goal.returns-then-t
+returns-then-t c =
+    let a = c.args in
+    let t = clipped a.tally (length a.wear.now) in
+    let on : t.programmed ≡ true = ap (λ (x : Tally). x.programmed) (sym c.within-t.ensures) ∙ c.if-t.true in
+    rw (c.add_program.ensures, c.erase_each.ensures, c.within-t.ensures) (rw on at (clipped_worn a.tally a.wear.now))
+
+pub returns-else-t : goal.returns-else-t
+returns-else-t c =
+    let a = c.args in
+    let t = clipped a.tally (length a.wear.now) in
+    let off : t.programmed ≡ false = ap (λ (x : Tally). x.programmed) (sym c.within-t.ensures) ∙ c.if-t.false in
+    rw (c.erase_each.ensures, c.within-t.ensures) (rw off at (clipped_worn a.tally a.wear.now))

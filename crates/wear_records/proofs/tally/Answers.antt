@@ -2,10 +2,10 @@
 use Rattle.paper.specs.Wear.{tally_of}
 use Rattle.wear_records.proofs.tally.Goals as goal
 
-pub returns-in-NoWork : goal.returns-in-NoWork
+pub returns-in-None : goal.returns-in-None
 unfolding tally_of
-returns-in-NoWork c = rw c.in-NoWork.is c.nothing.ensures
+returns-in-None c = rw c.in-None.is c.nothing.ensures
 
-pub returns-in-At : goal.returns-in-At
+pub returns-in-Some : goal.returns-in-Some
 unfolding tally_of
-returns-in-At c = rw c.in-At.is c.tally_by.ensures
+returns-in-Some c = rw c.in-Some.is c.tally_by.ensures

@@ -1,8 +1,9 @@
--- `record_bytes::reading::is_none` meets its contract: it joins the tests of the five cells.
+-- `record_bytes::reading::is_none` meets its contract: all five cells are 0.
+use mathlib.Core.Path.{sym, ◌∙◌}
+use Rattle.words.specs.Logic.{◌and◌}
 use Rattle.cells.proofs.Own.{none_told}
-use mathlib.Core.Path.{sym}
 use Rattle.record_bytes.proofs.reading.is_none.Goals as goal
 
 pub returns : goal.returns
-returns c =
-    rw (c.both-3.ensures, c.both-2.ensures, c.both-last.ensures, c.both.ensures) (sym (none_told _))
+unfolding ◌and◌
+returns c = c.eq.ensures ∙ sym (none_told c.args.cells)

@@ -13,8 +13,8 @@ returns c =
     let s = c in
     let bs = c.args.bytes.now in
     let p = c.args.part in
-    let e = c.fill.ensures ∙ ap (λ (n : ℕ). replicate n 0) (phase_room bs c.requires) ∙ idle_bytes in
-    let h = c.write_part.ensures ∙ part_laid bs c.requires Idle _ e p ∙ idle_laid bs c.requires p in
-    let l = idle_header_length bs c.requires p in
-    let z = c.fill-2.ensures ∙ ap (λ (n : ℕ). replicate n 0) (page_room bs (header_idle p bs) _ l c.requires h) ∙ no_data_bytes in
-    page_laid bs (header_idle p bs) _ l c.requires h _ no_data z
+    let e = c.fill.ensures ∙ ap (λ (n : ℕ). replicate n 0) (phase_room bs c.told-bytes) ∙ idle_bytes in
+    let h = c.write_part.ensures ∙ part_laid bs c.told-bytes Idle _ e p ∙ idle_laid bs c.told-bytes p in
+    let l = idle_header_length bs c.told-bytes p in
+    let z = c.fill-2.ensures ∙ ap (λ (n : ℕ). replicate n 0) (page_room bs (header_idle p bs) _ l c.told-bytes h) ∙ no_data_bytes in
+    page_laid bs (header_idle p bs) _ l c.told-bytes h _ no_data z

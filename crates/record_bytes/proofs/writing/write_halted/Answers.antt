@@ -9,4 +9,4 @@ use Rattle.record_bytes.proofs.writing.write_halted.Goals as goal
 pub returns : goal.returns
 returns c =
     let s = c.before in
-    c.write_works.ensures ∙ ap (λ (x : List ℕ). works_laid s.args.part (replicate operation_length 0) x s.args.bytes.now) c.operation_at-ran.ensures
+    c.write_works.ensures ∙ ap (λ (x : List ℕ). works_laid s.args.part (replicate operation_length 0) x s.args.bytes.now) (rw c.unwrap-ran.ensures at c.as_array.ensures.cases).same

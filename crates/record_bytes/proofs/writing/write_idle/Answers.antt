@@ -10,9 +10,9 @@ use Rattle.record_bytes.proofs.Laid.{signed_length, signed_as}
 use borrow.Author.Rules.{rules}
 use Rattle.record_bytes.proofs.writing.write_idle.Goals as goal
 
-pub returns-then-bytes-ne-END : goal.returns-then-bytes-ne-END
+pub returns-in_default : goal.returns-in_default
 unfolding written
-returns-then-bytes-ne-END c = rw (ne_eqb _ _ c.if-bytes-ne-END.true)
+returns-in_default c = rw (ne_eqb _ _ c.in_default.ensures.cases)
 
 pub shape_of-bytes : goal.shape_of-bytes
 shape_of-bytes c = search (rules, signed_length c.args.bytes.now c.args.identity)
@@ -21,5 +21,6 @@ pub returns : goal.returns
 unfolding written record_bytes
 returns c =
     let s = c in
-    let l = c.if-bytes-ne-END.false in
-    rw (eq-eqb _ _ l) (c.write_cleared.ensures ∙ ap (λ (x : List ℕ). ((part_bytes c.args.part ++ phase_bytes Idle) ++ x) ++ no_data) (signed_as c.args.bytes.now c.args.identity l))
+    let w = c.in-Some.ensures.cases in
+    let l = w.long in
+    rw (eq-eqb _ _ l) ((rw w.same at c.write_cleared.ensures) ∙ ap (λ (x : List ℕ). ((part_bytes c.args.part ++ phase_bytes Idle) ++ x) ++ no_data) (signed_as c.args.bytes.now c.args.identity l))

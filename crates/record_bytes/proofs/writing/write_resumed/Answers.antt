@@ -9,4 +9,4 @@ use Rattle.record_bytes.proofs.writing.write_resumed.Goals as goal
 pub returns : goal.returns
 returns c =
     let s = c.before in
-    c.write_works.ensures ∙ ap (λ (x : List ℕ). works_laid s.args.part x (replicate operation_length 0) s.args.bytes.now) c.operation_at-stood.ensures
+    c.write_works.ensures ∙ ap (λ (x : List ℕ). works_laid s.args.part x (replicate operation_length 0) s.args.bytes.now) (rw c.unwrap-stood.ensures at c.as_array.ensures.cases).same

@@ -4,4 +4,4 @@ use mathlib.Core.Path.{◌∙◌}
 use Rattle.record_bytes.proofs.writing.write_running.Goals as goal
 
 pub returns : goal.returns
-returns c = c.write_part.ensures ∙ part_kept c.args.bytes.now c.requires c.args.work _ c.write_work.ensures c.args.part
+returns c = c.write_part.ensures ∙ part_kept c.args.bytes.now c.told-bytes c.args.work _ (c.copy_from_slice.ensures.after ∙ c.work_bytes.ensures) c.args.part

@@ -15,4 +15,4 @@ returns c =
     let lb : length h ≡ operation_length = search rules in
     let ey = c.copy_from_slice.ensures.after in
     let ez = c.copy_from_slice-2.ensures.after in
-    c.write_part.ensures ∙ works_put bs c.requires w _ la ey h _ ez c.args.part
+    c.write_part.ensures ∙ works_put bs c.told-bytes w _ la ey h _ ez c.args.part
