@@ -3,7 +3,9 @@ use Prim.Native.Nat.{ℕ}
 use mathlib.Core.Path.{◌≡◌, refl, sym, ap, ◌∙◌}
 use mathlib.Core.Bool.{Bool, true, false}
 use mathlib.Core.List.{List}
-use Rattle.words.specs.Logic.{◌or_else◌}
+use lib.Dec.{eqb}
+use borrow.Author.Tests.{eqb-true}
+use Rattle.words.specs.Logic.{unless, ◌or_else◌}
 use Rattle.words.proofs.Tests.{or_else_zero}
 use Rattle.paper.specs.Numbers.{size_number}
 use Rattle.paper.specs.Board.{board_of}
@@ -52,6 +54,17 @@ module _ (h : Held) (fits : Bool) (a number : ℕ) where
 pub found_so : (bs : List ℕ) (fits : Bool) (a number : ℕ) → fits ≡ false → (x : Found) → x ≡ found_of (record_in bs).state → (record_in bs).ok ≡ true → (k : ℕ) → k ≡ (size_number x.part.blocks a or_else number) → k ≡ beside_refusal (record_in bs) fits a number
 found_so bs fits a number f x ex e k ek =
     ek ∙ ap (λ (g : Found). size_number g.part.blocks a or_else number) ex ∙ sym (held_so (record_in bs) fits a number f e)
+
+-- 1 or what comes after it, as a test joins them
+joined_as : (s number : ℕ) (t : Bool) → eqb s 0 ≡ t → (unless (eqb s 0) s or_else number) ≡ (s or_else number)
+unfolding unless ◌or_else◌
+joined_as s number true e =
+    let z : s ≡ 0 = eqb-true s 0 e in
+    rw (e, z) refl
+joined_as s number false e = rw e refl
+
+pub joined : (n k s number : ℕ) → s ≡ n → k ≡ (unless (eqb s 0) s or_else number) → k ≡ (n or_else number)
+joined n k s number es ek = ek ∙ joined_as s number (eqb s 0) refl ∙ ap (λ (m : ℕ). m or_else number) es
 
 -- the bytes of a part that is as it was
 pub same_bytes : (bs xs rs : List ℕ) → bs ≡ board_bytes (record_in bs) (board_of (record_in bs).state xs rs) bs

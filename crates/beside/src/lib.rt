@@ -23,3 +23,18 @@ pub fn check(bytes: &[u8], fits: bool, array: usize, refusal: Refusal) -> Result
     refusals::check_size(part.blocks, array)?;
     Err(refusal)
 }
+
+// The same as a number: 1, or a number that comes after it, which may be any; else 0.
+pub fn refusal(bytes: &[u8], fits: bool, array: usize, number: u8) -> u8
+    ensures { result ≡ beside_refusal (record_in bytes.now) fits array number }
+{
+    if fits {
+        return 0;
+    }
+    let Some(held) = record_bytes::reading::read(bytes) else {
+        return 0;
+    };
+    let part = held.part;
+    let size = refusals::number_of(refusals::check_size(part.blocks, array));
+    words::number_or(size == 0, size, number)
+}

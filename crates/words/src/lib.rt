@@ -2,8 +2,8 @@
 // a decision is straight-line code: `&&` and `||` branch, and each branch is a case to prove.
 #![tactic(auto)]
 
-ghost use Rattle.std.specs.Prelude.{◌≡◌};
-ghost use Rattle.words.specs.Logic.{◌and◌, ◌or◌, bit};
+ghost use Rattle.std.specs.Prelude.{◌≡◌, min};
+ghost use Rattle.words.specs.Logic.{◌and◌, ◌or◌, bit, unless, ◌or_else◌};
 
 // Both of two tests. Both are evaluated.
 pub fn both(a: bool, b: bool) -> bool
@@ -24,4 +24,22 @@ pub fn bit_of(test: bool) -> u8
     ensures { result ≡ bit test }
 {
     if test { 1 } else { 0 }
+}
+
+// The number where the test fails, else the rest: the number of the tests after it, 0 for none. It takes any byte, where
+// `refusals::ensure` takes one of the specification's refusals.
+pub fn number_or(ok: bool, number: u8, rest: u8) -> u8
+    ensures { result ≡ (unless ok number or_else rest) }
+{
+    if ok {
+        return rest;
+    }
+    if number == 0 { rest } else { number }
+}
+
+// The lesser of two numbers, as the library's `min` gives it.
+pub fn lesser(a: usize, b: usize) -> usize
+    ensures { result ≡ min a b }
+{
+    if a < b { a } else { b }
 }
