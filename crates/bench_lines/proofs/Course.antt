@@ -88,6 +88,15 @@ index_found b xs i e = found_as _ _ i e ∙ index_is b xs
 pub index_none : (b : ℕ) (xs : List ℕ) → position (λ (x : ℕ). eqb x b) xs ≡ None → length xs ≤ index_of b xs
 index_none b xs e = rw (← index_is b xs) (ltb-false _ _ (none_as _ _ e))
 
+-- a line ends within the input
+after_within : (t : Bool) (n m : ℕ) → n ≤ m → index_after t n ≤ suc m
+after_within true n m h = omega arith
+after_within false n m h = omega arith
+
+pub index_within : (b : ℕ) (xs : List ℕ) → index_of b xs ≤ length xs
+index_within b [] = omega arith
+index_within b (x ∷ xs) = after_within (eqb x b) (index_of b xs) (length xs) (index_within b xs)
+
 -- the first line, and the lines after it
 next_as : (xs : List ℕ) (x : ℕ) (b : Bool) → eqb x LF ≡ b
     → cond b ([] ∷ lines_of xs) (before x (lines_of xs)) ≡ take (index_after b (index_of LF xs)) (x ∷ xs) ∷ lines_of (drop (suc (index_after b (index_of LF xs))) (x ∷ xs))

@@ -1,6 +1,6 @@
 -- What a line says.
-use Prim.Native.Nat.{ℕ, ◌*◌, ◌-◌, ◌%◌, ◌≤◌, ◌<◌}
-use mathlib.Core.Path.{◌≡◌, refl}
+use Prim.Native.Nat.{ℕ, ◌*◌, ◌-◌, ◌%◌, ◌≤◌, ◌<◌, min}
+use mathlib.Core.Path.{◌≡◌, refl, ◌∙◌}
 use mathlib.Core.Bool.{Bool, true, false, cond}
 use mathlib.Core.List.{List}
 use native.Mathlib.Omega.{arith}
@@ -10,12 +10,17 @@ use borrow.Author.Tests.{leb-true, eqb-true}
 use Rattle.types.specs.declared.Line.{Line}
 use Rattle.types.specs.declared.Line.TheVariants.{Transaction, Ticks, Neither}
 use Rattle.words.specs.Logic.{◌and◌}
+use Rattle.words.proofs.Lists.{drop_min}
 use Rattle.words.proofs.Tests.{and_l, and_r, and_false}
 use Rattle.paper.specs.Bench.{letter_t, letter_l, letter_k, begins, numeral_from, pairs_ok, digits_ok, line_of}
 
--- what follows the first two characters, if they are there
+-- what follows the first two characters, if they are there, whether or not they are
+pub rest_from : (l : List ℕ) (s : ℕ) → s ≡ min 2 (length l) → take (length l - s) (drop s l) ≡ drop 2 l
+rest_from l s h = take_all (length l - s) (drop s l) (simp length-drop (omega arith)) ∙ rw h (drop_min 2 l)
+
+-- and where they are
 pub rest_is : (l : List ℕ) → 2 ≤ length l → take (length l - 2) (drop 2 l) ≡ drop 2 l
-rest_is l h = take_all (length l - 2) (drop 2 l) (simp length-drop (omega arith))
+rest_is l h = rest_from l 2 (omega arith)
 
 -- a line of fewer than two characters begins with no letter and space
 pub begins_short : (letter : ℕ) (l : List ℕ) → length l < 2 → begins letter l ≡ false

@@ -67,14 +67,19 @@ pub fn bytes_of(text: &[u8], bytes: &mut [u8])
     }
 }
 
-// Whether all characters are hex digits.
+// Whether all characters are hex digits. It looks at each of them, with no early exit, so that the compiler can take many at
+// once: a line may have 128.
 fn all_hex(text: &[u8]) -> bool
     ensures { result ≡ list_all is_hex text.now }
 {
-    text.iter().all(|x| is_hex(*x))
+    let mut all = true;
+    for x in text {
+        all = words::both(all, is_hex(*x));
+    }
+    all
 }
 
-// And whether all are decimal ones.
+// And whether all are decimal ones, of which a line has a few.
 fn all_digits(text: &[u8]) -> bool
     ensures { result ≡ list_all is_ascii_digit text.now }
 {
