@@ -3,8 +3,8 @@
 # the code, which refuses nothing.
 #
 # A function is refused by itself where a fact of its contract fails: what it leaves when it returns (`returns`,
-# `returns-then-a` and so on), or after a turn of a loop (`loop-i-preserved`), in its own proof, or in the one that is tried for
-# it where it has none. That an error before it stopped a fact ("was not admitted"), or that the proof is unfit for the code
+# `returns-then-a` and so on), or after a turn of a loop (`loop-i-preserved`, or `loop-i-preserved-then-a` where the turn
+# ends by `continue`), in its own proof, or in the one that is tried for it where it has none. That an error before it stopped a fact ("was not admitted"), or that the proof is unfit for the code
 # ("has no ..", "is not in scope"), is none of these, and neither is that it calls what is not proved. The prover names facts
 # after the source: an edit that changes a condition's text, and not only what it says, makes the proof unfit. A line that
 # begins with a blank goes on with the one before it.
@@ -12,7 +12,7 @@
 #   ./proofs/both/Answers.antt:6:20: error: `returns-then-a`: ..
 #   ./proofs/Bits.antt:6:20: error: `put_at`: ..
 #   fn words::both: no proof: expected answers in ./proofs/both/Answers.antt; `search` did not prove `returns-then-a`, `returns-else-a`
-BEGIN { OFS = "\t"; of_fact = "^(returns(-.+)?|loop-(.+-)?preserved(-[0-9]+)?)$" }
+BEGIN { OFS = "\t"; of_fact = "^(returns(-.+)?|loop-(.+-)?preserved(-.+)?)$" }
 function judge(said,    place, fact, is_unfit, part, count, k) {
     if (said ~ /^(\.\/)?proofs\/[^:]*\.antt:[0-9]+:[0-9]+: error: `[^`]*`: / && said !~ / was not admitted/) {
         is_unfit = said ~ /has no (`|field )|is not in scope|is no name/
