@@ -4,10 +4,11 @@
 #
 # A function is refused by itself where a fact of its contract fails: what it leaves when it returns (`returns`,
 # `returns-then-a` and so on), or after a turn of a loop (`loop-i-preserved`, or `loop-i-preserved-then-a` where the turn
-# ends by `continue`), in its own proof, or in the one that is tried for it where it has none. That an error before it stopped a fact ("was not admitted"), or that the proof is unfit for the code
-# ("has no ..", "is not in scope"), is none of these, and neither is that it calls what is not proved. The prover names facts
-# after the source: an edit that changes a condition's text, and not only what it says, makes the proof unfit. A line that
-# begins with a blank goes on with the one before it.
+# ends by `continue`), in its own proof, or in the one that is tried for it where it has none. That an error before it
+# stopped a fact ("was not admitted"), or that the proof is unfit for the code ("has no ..", "is not in scope"), is none of
+# these, and neither is that it calls what is not proved. The prover names facts after the source: an edit that changes a
+# condition's text, and not only what it says, makes the proof unfit. A line that begins with a blank goes on with the one
+# before it.
 #
 #   ./proofs/both/Answers.antt:6:20: error: `returns-then-a`: ..
 #   ./proofs/Bits.antt:6:20: error: `put_at`: ..
